@@ -1,4 +1,4 @@
--- A run that goes on from where another ended is one run; and two runs to one cycle are equal.
+-- A run that continues from where another ended is one run; and two runs to one cycle are equal.
 use Rattle.std.proofs.Common.{◌≡◌, ◌≢◌, ℕ, zero, suc, ◌+◌, ◌<◌, ◌≤◌, true, false, sym, ◌∙◌, ap, ap₂, subst, arith, ◌⊎◌, inl, inr, List, [], ◌∷◌, ◌++◌, append-nil, append_assoc}
 use Rattle.std.proofs.lemmas.Bool.{cases_lt}
 use Rattle.md_word.specs.declared.event.Entry.{Entry}

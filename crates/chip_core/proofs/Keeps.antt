@@ -122,7 +122,7 @@ module _ {Chip Shared Pins : Type 0} (rules : Rules Chip Shared Pins) (chip_ok :
   stands-leads base base_ok t small s tidy (e ∷ es) z l st =
       stands-leads base base_ok t small (after rules s e) (tidy-after s tidy e (enabled-wider s t cycle_limit small e l.0)) es z l.1 (stands-after base base_ok t small s tidy e l.0 st)
 
-  -- no chip of the core stands before its place in the base
+  -- no chip of the core is before its place in the base
   pub keys-later : (base : Seen Chip Shared) → IsValid rules chip_ok shared_ok base.machine → (t : ℕ) → t ≤ cycle_limit → (s : Seen Chip Shared) → Stands rules base t s → (i : ℕ) → i < rules.count
       → (key_of rules base.machine i).cycle ≤ (key_of rules s.machine i).cycle
   keys-later base base_ok t small s st i h =

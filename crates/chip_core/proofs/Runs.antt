@@ -1,5 +1,5 @@
 -- The stages of a run: how keys rise, what each chip has done, and that a chip whose key lies below
--- the end comes to its move.
+-- the end reaches its move.
 use Rattle.std.proofs.Common.{◌≡◌, ◌≢◌, ℕ, zero, suc, ◌+◌, ◌-◌, ◌/◌, ◌<◌, ◌≤◌, true, false, cond, ◌==◌, refl, sym, ◌∙◌, ap, subst, arith, ◌⊎◌, inl, inr, List, [], ◌∷◌, ◌++◌, length, append-nil, length-append, All, nat_lt}
 use Rattle.std.proofs.lemmas.Bool.Decides.{nat_tests}
 use Rattle.std.proofs.lemmas.List.Elements.{filter-append, All-nil, All-cons, All-head, All-tail}
@@ -291,7 +291,7 @@ module _ {Chip Shared Pins : Type 0} (rules : Rules Chip Shared Pins) (chip_ok :
           let e = ap (λ (w : Key). cond (nat_lt w.cycle t) ((t - w.cycle) / rules.gap k + 1) 0) p.1 in
           omega arith
 
-  -- a chip whose key lies below the end comes to its next move
+  -- a chip whose key lies below the end reaches its next move
   pub record NextMove (i n : ℕ) : Type 0 where
     pub stage : ℕ
     pub below : AllBelow rules base t (suc stage)

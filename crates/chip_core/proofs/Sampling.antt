@@ -22,7 +22,7 @@ module _ {Chip Shared Pins : Type 0} (rules : Rules Chip Shared Pins) where
   own-sample : (s : Seen Chip Shared) (i : ℕ) → is_sample rules s.machine i ≡ true → own_event rules s i ≡ Sample i
   own-sample s i is = ap (λ b. cond b (Sample i) (Perform i)) is
 
-  -- a limit is one before a later cycle, and does not lie behind the cycle
+  -- a limit is one before a later cycle, and does not lie after the cycle
   pub limit-wider : (t u : ℕ) → t ≤ u → (bound : ℕ → Key) (n i : ℕ) (end : Key) → IsLimit rules t bound n i end → IsLimit rules u bound n i end
   limit-wider t u le bound n i end limit key below = let found = limit key below in (let low = found.0 in omega (arith, low), found.1)
 

@@ -122,7 +122,7 @@ module _ {Chip Shared Pins : Type 0} (rules : Rules Chip Shared Pins) where
   own-place t room s has i en = place-room rules t room s has (own_event rules s i) en
 
 module _ {Chip Shared Pins : Type 0} (rules : Rules Chip Shared Pins) (chip_ok : Chip → Type 0) (shared_ok : Shared → Type 0) (law : Lawful rules chip_ok shared_ok) where
-  -- a bound that is set to its key was announced, or stood there
+  -- a bound that is set to its key was announced, or was there
   pub announced-reaches : (t : ℕ) (s : Seen Chip Shared) → IsTidy rules chip_ok shared_ok s → (i : ℕ) → i < rules.count → Reaches rules t s (after rules s (Announce i))
   announced-reaches t s tidy i h =
       by_test (key_lt (s.bound i) (key_of rules s.machine i))

@@ -20,11 +20,11 @@ module _ {Chip Shared : Type 0} (shared : Way Shared) (chip : Way Chip) where
   abbrev pub of_parts : Shared × (List Chip × List Key) → CoreValue Chip Shared
   of_parts p = record { shared = p.0; chips = p.1.0; bounds = p.1.1; journal = []; room = 0 }
 
-  -- the numbers that tell a core but for its journal
+  -- the numbers that spell a core but for its journal
   unfoldable pub code_of : CoreValue Chip Shared → List ℕ
   code_of v = core_way.write (v.shared, (v.chips, v.bounds)) []
 
-  -- the core that numbers tell
+  -- the core that numbers spell
   unfoldable pub core_of : List ℕ → CoreValue Chip Shared
   core_of l = of_parts (core_way.read l).0
 

@@ -60,7 +60,7 @@ module _ {Chip Shared Pins : Type 0} (rules : Rules Chip Shared Pins) where
     pub shared : shared_ok v.shared
     pub chip : (i : ℕ) → i < rules.count → chip_ok (chip_in v.chips i)
 
--- a core with an empty journal is told by its list of numbers
+-- a core with an empty journal is determined by its list of numbers
 pub record IsCoded {Chip Shared Pins : Type 0} (rules : Rules Chip Shared Pins) (chip_ok : Chip → Type 0) (shared_ok : Shared → Type 0)
     (code : CoreValue Chip Shared → List ℕ) (core : List ℕ → CoreValue Chip Shared) : Type 0 where
   pub back : (v : CoreValue Chip Shared) → IsCore rules chip_ok shared_ok v → v.journal ≡ [] → core (code v) ≡ record v { room = 0 }

@@ -42,7 +42,7 @@ least-true key n e = least-suc key n ∙ ap (λ b. cond b n (least_below key n))
 pub least-false : (key : ℕ → Key) (n : ℕ) → key_lt (key n) (key (least_below key n)) ≡ false → least_below key (suc n) ≡ least_below key n
 least-false key n e = least-suc key n ∙ ap (λ b. cond b n (least_below key n)) e
 
--- 0 stands where there are no keys, and for the least of one
+-- it is 0 where there are no keys, and for the least of one
 pub least-zero : (key : ℕ → Key) → least_below key 0 ≡ 0
 unfolding least_below
 least-zero key = refl
@@ -152,7 +152,7 @@ module _ {Chip Shared Pins : Type 0} (rules : Rules Chip Shared Pins) (base : Ma
   unfolding journal
   journal-zero = refl
 
-  -- one move more gives its entries behind the others
+  -- one move more gives its entries after the others
   pub journal-suc : (n : ℕ) → journal rules base (suc n) ≡ journal rules base n ++ entries rules (run rules base n) (mover rules (run rules base n))
   unfolding journal
   journal-suc n = refl

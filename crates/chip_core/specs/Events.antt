@@ -67,7 +67,7 @@ module _ {Chip Shared Pins : Type 0} (rules : Rules Chip Shared Pins) where
   abbrev pub own_event : Seen Chip Shared → ℕ → Event
   own_event s i = cond (is_sample rules s.machine i) (Sample i) (Perform i)
 
-  -- the core after the access that chip i waits at, if it waits at one, and the announcement behind it
+  -- the core after the access that chip i waits at, if it waits at one, and the announcement after it
   abbrev pub past_access : Seen Chip Shared → ℕ → Seen Chip Shared
   past_access s i = cond (is_sample rules s.machine i) s (after (after s (Perform i)) (Announce i))
 

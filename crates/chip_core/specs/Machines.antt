@@ -71,11 +71,11 @@ module _ {Chip Shared Pins : Type 0} (rules : Rules Chip Shared Pins) where
   abbrev pub move_key : Machine Chip Shared → ℕ → Key
   move_key m n = key_of (run m n) (mover (run m n))
 
-  -- the first n moves stand at cycles below t
+  -- the first n moves are at cycles below t
   pub record AllBelow (m : Machine Chip Shared) (t n : ℕ) : Type 0 where
     pub each : (k : ℕ) → k < n → (move_key m k).cycle < t
 
-  -- some chip's next event stands at a cycle below t
+  -- some chip's next event is at a cycle below t
   abbrev pub IsShort : Machine Chip Shared → ℕ → Type 0
   IsShort m t = (i : ℕ) × (i < rules.count) × ((key_of m i).cycle < t)
 

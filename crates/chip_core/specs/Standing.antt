@@ -16,7 +16,7 @@ module _ {Chip Shared Pins : Type 0} (rules : Rules Chip Shared Pins) where
     pub cycle : bound.cycle ≡ (move_key rules m moves).cycle + rules.gap i
     pub number : bound.chip ≡ i
 
-  -- the chip's next key, or the key that stood there before it was announced
+  -- the chip's next key, or the key that was there before it was announced
   abbrev pub IsBound : Machine Chip Shared → (ℕ → Key) → ℕ → ℕ → Key → Key → Type 0
   IsBound m opening i n next bound = (bound ≡ next) ⊎ ((n ≡ 0) × (bound ≡ opening i)) ⊎ IsLeft m i n bound
 

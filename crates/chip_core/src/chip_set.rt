@@ -21,8 +21,8 @@ pub trait ChipSet: Send + Sync {
     /// The input pins of one chip.
     type Pins: Send + Drop;
 
-    /// Where a chip lays errands: work that it asks for ahead of its events, and goes without where nobody does
-    /// it. What contracts see hangs on none.
+    /// Where a chip queues speculative jobs: work that it asks for ahead of its events, and goes without where nobody does
+    /// it. What contracts see depends on none.
     type Errands: Send + Sync + Drop;
 
     /// What the calls compute.
@@ -34,7 +34,7 @@ pub trait ChipSet: Send + Sync {
     /// The shared states that can occur.
     ghost shared_ok: { Self.Shared → Type 0 };
 
-    /// How numbers tell a core whose journal is empty, and how they are read back.
+    /// How numbers spell a core whose journal is empty, and how they are read back.
     ghost code_of: { CoreValue Self.Chip Self.Shared → List ℕ };
 
     ghost core_of: { List ℕ → CoreValue Self.Chip Self.Shared };
@@ -87,7 +87,7 @@ pub trait ChipSet: Send + Sync {
         requires cycle { (rules.next chip.old).key.cycle < cycle_limit }
         ensures { chip.new ≡ rules.sample chip.old pins.now };
 
-    /// The sample that is due and, if the chip knows what they come to, samples of the same pins after
+    /// The sample that is due and, if the chip knows what they result in, samples of the same pins after
     /// it, each before the key `end`; answers how many that were.
     fn sample_ahead(chip: &mut Self::Chip, pins: &Self::Pins, end: &Key) -> u64
         requires sample { SamplesBelow rules end.now chip.old }
@@ -104,22 +104,22 @@ pub trait ChipSet: Send + Sync {
         ensures { result ≡ rules.writes writer chip };
 
     /// Whether the private work after the chip's next event is worth being handed to another thread, where
-    /// there is one: how several workers share their work hangs on it, and nothing else.
+    /// there is one: how several workers share their work depends on it, and nothing else.
     fn is_dear(_chip: &Self::Chip) -> bool {
         true
     }
 
-    /// The place where these chips lay their errands, if any of them does.
+    /// The place where these chips queue their jobs; none where no chip does.
     fn errands(_chips: &[Self::Chip]) -> Option<Self::Errands> {
         None
     }
 
-    /// Whether an errand lies there that nobody has begun. It is asked again and again, so it must be cheap.
+    /// Whether a job is queued there that nobody has begun. It is asked again and again, so it must be cheap.
     fn has_errand(_errands: &Self::Errands) -> bool {
         false
     }
 
-    /// Runs an errand, if one lies there that nobody has begun.
+    /// Runs a job, if one is queued there that nobody has begun.
     fn run_errand<R: Wait>(_rt: &R, _errands: &Self::Errands) {}
 
     /// The least number of cycles between two events of the chip: 1 to 2^50.

@@ -24,7 +24,7 @@ pub fn room<C: ChipSet>(core: &Core<C>, t: u64)
     core.known();
 }
 
-/// A run that goes on from where another ended is one run, with the one journal followed by the
+/// A run that continues from where another ended is one run, with the one journal followed by the
 /// other.
 pub fn joined<C: ChipSet>()
     ensures { (m w z : Machine C.Chip C.Shared) (s t : ℕ) (first second : List Entry) → s ≤ t
@@ -40,7 +40,7 @@ pub fn one_run<C: ChipSet>()
 {}
 
 /// What every stage of a run below `t` is: valid, as the machine of each core is, and moved by the
-/// chip of least key. A chip's count of moves tells the chip.
+/// chip of least key. A chip's count of moves determines the chip.
 pub fn stages<C: ChipSet>()
     ensures core { (v : CoreValue C.Chip C.Shared) → IsCore C.rules C.chip_ok C.shared_ok v
         → IsValid C.rules C.chip_ok C.shared_ok (machine_of C.rules v) }

@@ -16,7 +16,7 @@ pub(crate) struct Found {
     pub(crate) least: Next,
 }
 
-/// Tells that these are chips that can occur.
+/// These are chips that can occur.
 pub(crate) fn know_chips<C: ChipSet>(chips: &[C::Chip])
     ensures { All C.chip_ok chips.now }
 {
@@ -98,7 +98,8 @@ fn looks_at<C: ChipSet>(next: &Next, i: u8, number: u8) -> bool
     true
 }
 
-/// The first number at whose bound the event looks, and whose bound its key is not below.
+/// The first number at whose bound the event looks, and whose bound its key is not below; none where the
+/// key is below all these bounds.
 pub fn find_other<C: ChipSet>(next: &Next, bounds: &[Key], number: u8) -> Option<u8>
     requires few { length bounds.now ≤ 5 }
     ensures { MatchOption result (IsFirst C.rules next.now bounds.now number) (λ other. FindsOther C.rules next.now bounds.now number other) }

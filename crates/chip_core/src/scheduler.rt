@@ -19,7 +19,7 @@ mod steps;
 /// Chips that share a state, each at its next event, with a bound per chip and the journal of
 /// their accesses.
 ///
-/// A chip's bound is a key that its next event does not lie below: while it stands, the others
+/// A chip's bound is a key that its next event does not lie below: while it holds, the others
 /// know that nothing of this chip comes before it.
 #[derive(Drop)]
 pub struct Core<C: ChipSet> {
@@ -201,7 +201,7 @@ impl<C: ChipSet> Core<C> {
         look::<C>(&self.chips, &self.bounds)
     }
 
-    /// Tells what holds of every core.
+    /// What holds of every core.
     pub(crate) fn known(&self)
         ensures { IsCore C.rules C.chip_ok C.shared_ok self.now }
     {

@@ -1,4 +1,4 @@
--- A section first books the samples that the chip made under its lease, and announces its next event.
+-- A section first counts the samples that the chip made under its lease, and announces its next event.
 use Rattle.std.proofs.Common.{◌≡◌, ◌≢◌, ℕ, zero, suc, ◌+◌, ◌-◌, ◌<◌, ◌≤◌, true, false, refl, sym, ◌∙◌, ap, subst, arith, ◌⊎◌, inl, inr, List, ◌++◌, length, append-nil, length-set, slice_set}
 use Rattle.std.proofs.lemmas.Bool.{cases_lt}
 use Rattle.std.proofs.lemmas.Bool.Decides.{nat_tests}
@@ -37,7 +37,7 @@ module _ {Chip Shared Pins : Type 0} (rules : Rules Chip Shared Pins) (chip_ok :
   abbrev m : Machine Chip Shared
   m = lk.machine
 
-  -- where the booked moves lead
+  -- where the counted moves lead
   before : OnPath rules b t i (count_of counts i) (m.chip i)
   before = lk.stands.path i inside
 

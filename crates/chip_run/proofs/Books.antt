@@ -37,7 +37,7 @@ module _ {Chip Shared Pins : Type 0} (rules : Rules Chip Shared Pins) where
         (is.counts ∙ ap (λ (h : HeldValue Chip Pins). slice_set l.counts i h.amount) same)
 
 module _ {Chip Pins : Type 0} where
-  -- one place more is booked
+  -- one place more is counted
   pub book-more : (hs : Places Chip Pins) (n : ℕ) (counts counts2 : List ℕ) → n < length counts → counts2 ≡ booked_at (place hs n) n counts → ((i : ℕ) → i < n → IfSome (place hs i) (λ h. h.amount ≡ count_of counts i))
       → (i : ℕ) → i < suc n → IfSome (place hs i) (λ h. h.amount ≡ count_of counts2 i)
   book-more hs n counts counts2 inside is before i low = subst (λ cs. IfSome (place hs i) (λ h. h.amount ≡ count_of cs i)) (sym is) (go (same_or i n) (place hs n) refl)
@@ -56,7 +56,7 @@ module _ {Chip Pins : Type 0} where
   at-booked hs0 hs e counts counts2 same booked i =
       subst (λ xs. IfSome (place xs i) (λ h. h.amount ≡ count_of counts2 i)) (sym e) (subst (λ cs. IfSome (place hs i) (λ h. h.amount ≡ count_of cs i)) same (booked i))
 
-  -- all are booked where those below the count of the places are
+  -- all are counted where those below the count of the places are
   pub booked-all : (n : ℕ) (hs : Places Chip Pins) (counts : List ℕ) → length hs ≤ n → ((i : ℕ) → i < n → IfSome (place hs i) (λ h. h.amount ≡ count_of counts i)) → AreBooked counts hs
   booked-all n hs counts len each i = go (cases_lt i n)
     where

@@ -75,7 +75,7 @@ module _ {Chip Shared Pins : Type 0} (rules : Rules Chip Shared Pins) (chip_ok :
     abbrev m : Machine Chip Shared
     m = lk.machine
 
-    -- the held chip is the one that the booked count leads to
+    -- the held chip is the one that the counted count leads to
     pub same_chip : m.chip i ≡ h.chip
     same_chip =
         let a = lk.stands.path i low in
@@ -197,7 +197,7 @@ module _ {Chip Shared Pins : Type 0} (rules : Rules Chip Shared Pins) (chip_ok :
                   (subst (λ (n : ℕ → ℕ). StandsFor rules (machine_of rules base) (seen rules base).bound t (move rules m i) (after rules s (Sample i)).bound p.journal n) (sym counts-next) stands-sample);
             })
 
-        -- the samples of a lease, one behind the other
+        -- the samples of a lease, one after the other
         module _ (end : Key) (until : IsLeaseEnd rules (record p { bounds = raised rules i h.chip p.bounds }) i end) where
           outer : (j : ℕ) → j ≢ i → bound_in (raised rules i h.chip p.bounds) j ≡ s.bound j
           outer j ne =
@@ -300,7 +300,7 @@ module _ {Chip Shared Pins : Type 0} (rules : Rules Chip Shared Pins) (chip_ok :
         below = ap (λ (b : Key). key_lt b (rules.next h.chip).key) is ∙ rank-key_lt (bound_in p.bounds other) (rules.next h.chip).key (omega arith) (omega arith) (omega arith);
       }
 
-  -- the same, where the chip has samples that are not booked yet, and the code has its number beside it
+  -- the same, where the chip has samples that are not counted yet, and the code has its number beside it
   module _ (base : CoreValue Chip Shared) (t : ℕ) (p : PartsValue Shared) (i : ℕ) (h : HeldValue Chip Pins) (hd : IsHeld rules chip_ok shared_ok base t h) (free : h.due ≡ Nothing) (number : h.number ≡ i)
       (paid ahead : ℕ) (all : h.amount ≡ paid + ahead) (on : IsAhead rules chip_ok shared_ok base t h.number h.due paid ahead) where
     inside-count : i < rules.count

@@ -73,7 +73,7 @@ module _ {Chip Shared Pins : Type 0} (rules : Rules Chip Shared Pins) where
       sym (get_or-append_seam now c [] rules.blank) ∙ ap (λ n. slice_index_or (now ++ c ∷ []) n rules.blank) place ∙ ap (λ (xs : List Chip). slice_index_or xs k rules.blank) (sym e)
       ∙ r.are k h
 
-  -- and stands at the start of its path
+  -- and is at the start of its path
   path-first : (base : CoreValue Chip Shared) (t k : ℕ) (chips now : List Chip) (c : Chip) → chips ≡ now ++ c ∷ [] → Remains rules base (k + 1) chips → k < length chips → OnPath rules (machine_of rules base) t k 0 c
   path-first base t k chips now c e r h = record {
     moves = 0;

@@ -19,7 +19,7 @@ module _ {Chip Shared Pins : Type 0} (rules : Rules Chip Shared Pins) (chip_ok :
     lease = tt;
   }
 
-  -- no sample is booked late beside an access
+  -- no sample is counted late beside an access
   pub fresh-advanced : (i : ℕ) (due : Due Pins) (booked ahead : ℕ) → IsAhead rules chip_ok shared_ok base t i due booked ahead → IsAhead rules chip_ok shared_ok base t i Nothing booked ahead
   fresh-advanced i due booked ahead on = record { samples = on.samples; fresh = tt }
 
@@ -30,7 +30,7 @@ module _ {Chip Shared Pins : Type 0} (rules : Rules Chip Shared Pins) (chip_ok :
     lease : IsLease rules chip_ok shared_ok base t h.number h.amount pins end h.chip
     lease = subst (λ (w : Due Pins). IsLeased rules chip_ok shared_ok base t h.number h.amount w h.chip) due hd.lease
 
-    -- a sample was booked with the lease alone
+    -- a sample was counted with the lease alone
     pub run-fresh : (booked ahead : ℕ) → IsAhead rules chip_ok shared_ok base t h.number h.due booked ahead → ahead ≡ 0
     run-fresh booked ahead on = subst (λ (w : Due Pins). IsFresh w ahead) due on.fresh
 
@@ -53,7 +53,7 @@ module _ {Chip Shared Pins : Type 0} (rules : Rules Chip Shared Pins) (chip_ok :
         fresh = tt;
       }
 
-  -- the answer of a run, of which one sample is booked
+  -- the answer of a run, of which one sample is counted
   pub run-rest : (r : ℕ) (end : Key) (pins : Pins) (c d : Chip) → RunsTo rules r end pins c d → r ≡ suc (r - 1)
   run-rest r end pins c d ran = let some = ran.led.some in omega arith
 

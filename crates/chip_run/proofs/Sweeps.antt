@@ -60,7 +60,7 @@ got-same cs ds n long e = go (cases_lt n (length cs))
 got-bound : (cs ds : List Key) (n : ℕ) → slice_get ds n ≡ slice_get cs n → bound_in ds n ≡ bound_in cs n
 got-bound cs ds n e = sym (unwrap_or-slice_get ds n no_key) ∙ ap (λ (o : Option Key). unwrap_or o no_key) e ∙ unwrap_or-slice_get cs n no_key
 
--- what was told of the bounds once the chips below a number had their sections
+-- what was reported of the bounds once the chips below a number had their sections
 pub record Told (n : ℕ) (first : Bool) (bs : List Key) (told : Bool) (cs : List Key) : Type 0 where
   pub count : length cs ≡ length bs
   pub later : (j : ℕ) → n ≤ j → bound_in cs j ≡ bound_in bs j

@@ -17,7 +17,7 @@ use Rattle.chip_run.proofs.Keeping.{held-performed-at, held-sampled-at, kept-per
 use Rattle.chip_run.proofs.Settling.{ahead-run, held-advanced, held-run, ran-rest}
 
 module _ {Chip Shared Pins : Type 0} (rules : Rules Chip Shared Pins) (chip_ok : Chip → Type 0) (shared_ok : Shared → Type 0) where
-  -- after it the parts are locked ones, with what was booked
+  -- after it the parts are locked ones, with what was counted
   pub locked-next : (base : CoreValue Chip Shared) (t i : ℕ) (p : PartsValue Shared) (paid : ℕ) (q : PartsValue Shared) (later : ℕ) → IsLockedAt rules chip_ok shared_ok base t p i paid
       → KeepsLocked rules chip_ok shared_ok base t i p paid q later → IsLockedAt rules chip_ok shared_ok base t q i later
   locked-next base t i p paid q later at keeps = record {
@@ -39,12 +39,12 @@ module _ {Chip Shared Pins : Type 0} (rules : Rules Chip Shared Pins) (chip_ok :
   locked-same base t i p paid counts inside booked lk =
       subst (λ cs. IsLocked rules chip_ok shared_ok base t p cs) (sym (ap (slice_set counts i) (sym booked) ∙ set-get_or counts i 0)) lk
 
-  -- a lease, whose pins were read behind it
+  -- a lease, whose pins were read after it
   pub sampled-by : (base : CoreValue Chip Shared) (t : ℕ) (p : PartsValue Shared) (i : ℕ) (c : Chip) (end : Key) (q : PartsValue Shared) (pins : Pins) → HasLease rules p i c (Some end) q → pins ≡ rules.pins q.shared i
       → IsStep rules p i c (Sampled pins end) q c
   sampled-by base t p i c end q pins has read = (has.0, has.1, read ∙ ap (λ (x : PartsValue Shared). rules.pins x.shared i) has.2, has.2, refl, has.3)
 
-  -- of a chip of which no work is due, all moves are booked
+  -- of a chip of which no work is due, all moves are counted
   pub ahead-none : (base : CoreValue Chip Shared) (t i : ℕ) (due : Due Pins) → due ≡ Nothing → (booked : ℕ) → IsAhead rules chip_ok shared_ok base t i due booked 0
   ahead-none base t i due free booked = record {
     samples = λ j x low. absurd (omega arith);

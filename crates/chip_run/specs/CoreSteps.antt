@@ -16,7 +16,7 @@ module _ {Chip Shared Pins : Type 0} (rules : Rules Chip Shared Pins) where
     pub enabled : IsEnabled rules s t e → z ≡ after rules s e
     pub refused : (IsEnabled rules s t e → ⊥) → z ≡ s
 
-  -- the core that the locked parts make with the held chip, the work of its last booked event done, and
+  -- the core that the locked parts make with the held chip, the work of its last counted event done, and
   -- other chips
   abbrev pub core_with : (ℕ → Chip) → ℕ → PartsValue Shared → HeldValue Chip Pins → Seen Chip Shared
   core_with others i p h = seen_at (record { shared = p.shared; chip = put others i (settled rules h.due h.chip) }) p

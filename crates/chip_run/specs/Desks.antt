@@ -11,7 +11,7 @@ use Rattle.chip_run.specs.declared.leading.Turned.TheVariants as Turns
 use Rattle.chip_run.specs.declared.held.Due.TheVariants.{Nothing}
 
 module _ {Chip Pins : Type 0} where
-  -- of the chip in a place, if one is there, work may be due where it is dear
+  -- of the chip in a place, if one is there, work may be due where it is worth offloading
   abbrev pub IsTurnedPlace : Turned → Option (HeldValue Chip Pins) → Type 0
   IsTurnedPlace Turns.Dear o = Unit {0}
   IsTurnedPlace Turns.Taken o = IfSome o (λ h. h.due ≡ Nothing)
@@ -23,13 +23,13 @@ module _ {Chip Pins : Type 0} where
   IsTurned k Turns.Taken hs = AllFree hs
   IsTurned k Turns.Away hs = AllFree hs
 
-  -- the held chips, of which private work may be due where it is dear
+  -- the held chips, of which private work may be due where it is worth offloading
   abbrev pub IsLed : Led → Places Chip Pins → Type 0
   IsLed (Leds.Dear k) hs = FreeBut k hs
   IsLed (Leds.Away k) hs = AllFree hs
   IsLed Leds.Ended hs = AllFree hs
 
-  -- the held chips with the one that was found on the desk, of which work is due
+  -- the held chips with the one that was found in the work queue, of which work is due
   abbrev pub IsFoundDue : Found → Places Chip Pins → Type 0
   IsFoundDue (Founds.Chip k) hs = FreeBut k hs
   IsFoundDue Founds.Nothing hs = AllFree hs

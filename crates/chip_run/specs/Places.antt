@@ -11,11 +11,11 @@ abbrev pub Places : Type 0 → Type 0 → Type 0
 Places Chip Pins = List (Option (HeldValue Chip Pins))
 
 module _ {Chip Pins : Type 0} where
-  -- a chip that stands in the place has the place's number
+  -- a chip that is in the place has the place's number
   abbrev pub HasNumber : ℕ → Option (HeldValue Chip Pins) → Type 0
   HasNumber i o = IfSome o (λ h. h.number ≡ i)
 
-  -- what stands in the place of this number
+  -- what is in the place of this number
   abbrev pub place : Places Chip Pins → ℕ → Option (HeldValue Chip Pins)
   place hs i = slice_index_or hs i None
 

@@ -16,7 +16,7 @@ use Rattle.chip_run.specs.declared.turn.Turn.TheVariants.{Moved, Blocked, Finish
 
 module _ {Chip Shared Pins : Type 0} (rules : Rules Chip Shared Pins) where
   -- how a section finds a held chip: at its number, with a bound not above its key, and with no more
-  -- moves booked than it has made
+  -- moves counted than it has made
   pub record IsFound (i : ℕ) (p : PartsValue Shared) (h : HeldValue Chip Pins) (total : ℕ) : Type 0 where
     pub inside : i < rules.count
     pub free : h.due ≡ Nothing
@@ -59,7 +59,7 @@ module _ {Chip Shared Pins : Type 0} (rules : Rules Chip Shared Pins) where
   IsTurn i p h (Blocked other bound) q k = IsBlocked p i h.chip other bound × Announces i p h q k
   IsTurn i p h Finished q k = (p.end ≤ (rules.next h.chip).key.cycle) × Announces i p h q k
 
-  -- a section on the held chip of this number, which changes no other and books no other's moves
+  -- a section on the held chip of this number, which changes no other and counts no other's moves
   pub record IsSection (i : ℕ) (l : LockedValue Shared) (hs : Places Chip Pins) (answer : Turn) (l2 : LockedValue Shared) (hs2 : Places Chip Pins) : Type 0 where
     pub before : HeldValue Chip Pins
     pub after : HeldValue Chip Pins
@@ -89,7 +89,7 @@ pub record IsLockedAt {Chip Shared Pins : Type 0} (rules : Rules Chip Shared Pin
   pub booked : count_of counts i ≡ total
   pub locked : IsLocked rules chip_ok shared_ok base t p counts
 
--- locked parts stay so, whatever is booked of other chips, where so many moves of this one were booked before
+-- locked parts stay so, whatever is counted of other chips, where so many moves of this one were counted before
 -- and so many after
 abbrev pub KeepsLocked : {Chip Shared Pins : Type 0} → Rules Chip Shared Pins → (Chip → Type 0) → (Shared → Type 0) → CoreValue Chip Shared → ℕ → ℕ → PartsValue Shared → ℕ → PartsValue Shared → ℕ → Type 0
 KeepsLocked rules chip_ok shared_ok base t i p paid q later =

@@ -1,7 +1,7 @@
 use std::marker::PhantomData;
 use std::sync::ledger::{Blank, Ledger};
 
-/// A ledger for each chip number, with no move booked in it, cut into one part.
+/// A ledger for each chip number, in which no move is counted, cut into one part.
 #[derive(Drop)]
 pub struct Blanks<L0: Ledger, L1: Ledger, L2: Ledger, L3: Ledger, L4: Ledger> {
     pub l0: Blank,

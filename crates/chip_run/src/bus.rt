@@ -13,7 +13,7 @@ use std::sync::ledger::Ledger;
 use std::sync::{Condvar, Mutex, Wait};
 
 /// The bus lock of a run: what the chips share behind one lock, and where workers wait for it to
-/// change. With it the place where the chips lay their errands, if any does.
+/// change. With it the queue of the chips' speculative jobs, if any chip has some.
 #[derive(Drop)]
 pub struct Bus<C: ChipSet, N: Named, L0: Ledger, L1: Ledger, L2: Ledger, L3: Ledger, L4: Ledger> {
     lock: Mutex<Locked<C, N, L0, L1, L2, L3, L4>>,
@@ -48,7 +48,7 @@ impl<C: ChipSet, N: Named, L0: Ledger, L1: Ledger, L2: Ledger, L3: Ledger, L4: L
         }
     }
 
-    /// The place where the chips lay their errands, if any of them does.
+    /// The queue of the chips' speculative jobs; none where no chip has any.
     fn errands(&self) -> &Option<C::Errands> {
         &self.errands
     }
@@ -57,7 +57,7 @@ impl<C: ChipSet, N: Named, L0: Ledger, L1: Ledger, L2: Ledger, L3: Ledger, L4: L
     /// and the least of those that are not finished waits for a chip of another worker.
     ///
     /// The bounds are read and the wait begins under the same lock, and each change of a bound is
-    /// told to all who wait: so no change is missed.
+    /// signalled to all who wait: so no change is missed.
     fn round<R: Wait>(&self, rt: &R, helds: &mut Helds<C, N, L0, L1, L2, L3, L4>) -> Swept
         requires free { AllFree helds.old }
         requires whole { (L0.parts ≡ 1) × (L1.parts ≡ 1) × (L2.parts ≡ 1) × (L3.parts ≡ 1) × (L4.parts ≡ 1) }
@@ -113,8 +113,8 @@ impl<C: ChipSet, N: Named, L0: Ledger, L1: Ledger, L2: Ledger, L3: Ledger, L4: L
         unreachable!()
     }
 
-    /// Takes the turns of the held chips under one lock, as far as `lead` does. `tells`: whether workers may wait
-    /// for a bound to change.
+    /// Takes the turns of the held chips under one lock, as far as `lead` does. `tells`: whether it notifies
+    /// workers that may wait for a bound to change.
     fn turns<R: Wait>(
         &self,
         rt: &R,
@@ -133,8 +133,8 @@ impl<C: ChipSet, N: Named, L0: Ledger, L1: Ledger, L2: Ledger, L3: Ledger, L4: L
         led
     }
 
-    /// Takes the turns of all chips, of which others come to the desk, until all are held and finished. Private
-    /// work that is dear goes to the desk.
+    /// Takes the turns of all chips, of which others come to the work queue, until all are held and finished. Private
+    /// work that is worth offloading goes to the work queue.
     fn take_turns<R: Wait, G: Gate>(
         &self,
         rt: &R,
@@ -147,7 +147,7 @@ impl<C: ChipSet, N: Named, L0: Ledger, L1: Ledger, L2: Ledger, L3: Ledger, L4: L
         ensures free { AllFree helds.new }
         ensures held { (i : ℕ) → i < C.rules.count → IsSome (place helds.new i) }
     {
-        // A worker waits for a bound in the first turn of its chip alone, which it then lays on the desk.
+        // A worker waits for a bound in the first turn of its chip alone, which it then lays in the work queue.
         let mut met = false;
         for _ in rt.forever() {
             if !met && helds.has_all() {
@@ -167,7 +167,7 @@ impl<C: ChipSet, N: Named, L0: Ledger, L1: Ledger, L2: Ledger, L3: Ledger, L4: L
         unreachable!()
     }
 
-    /// The same, and then tells the helpers on the desk that the run has ended, and sees them off.
+    /// The same, and then signals to the helpers in the work queue that the run has ended, and sees them off.
     pub(crate) fn take_all_turns<R: Wait, G: Gate>(
         &self,
         rt: &R,
@@ -187,7 +187,7 @@ impl<C: ChipSet, N: Named, L0: Ledger, L1: Ledger, L2: Ledger, L3: Ledger, L4: L
     }
 
     /// Does the work of a helper: makes the next event of its chip with its private work, unless the leader has
-    /// come to that chip before, then helps, and runs errands where there is nothing to help with.
+    /// reached that chip before, then helps, and runs jobs where there is nothing to help with.
     pub(crate) fn help<R: Wait, G: Gate>(
         &self,
         rt: &R,

@@ -16,12 +16,13 @@ mod laid;
 /// How many helpers stay at least where they find no work: two can draw both parts of a picture side by side.
 const STAYING: u64 = 2;
 
-/// Where the worker that takes the turns of all chips, the leader, lays chips whose private work is dear, and
-/// from where helpers take them and lay them back once that work is done.
+/// The work queue. The worker that takes the turns of all chips, the leader, queues here the chips whose private
+/// work is worth offloading. Helpers take them, and queue them again once that work is done.
 ///
-/// The leader sleeps nowhere: it does work that nobody has begun itself. A helper that finds none runs an errand
-/// where one lies, but an errand wakes nobody. As long as more work may come, two of the helpers stay, or as many
-/// as there are chips whose work is dear: they look for work for a while, and then sleep. The others leave.
+/// The leader sleeps nowhere: it does work that nobody has begun itself. A helper that finds none runs a
+/// speculative job, if one is queued, but a job wakes nobody. As long as more work may come, two of the helpers
+/// stay, or as many as there are chips whose work is worth offloading. They look for work for a while, and then
+/// sleep. The others leave.
 #[derive(Drop)]
 pub(crate) struct Desk<
     C: ChipSet,
@@ -34,7 +35,7 @@ pub(crate) struct Desk<
 > {
     lock: Mutex<Laid<C, N, L0, L1, L2, L3, L4>>,
     work: Condvar,
-    /// How often something was laid here, wrapping.
+    /// How often something was queued here, wrapping.
     changes: AtomicU64,
     /// How many helpers look for work without sleeping, as a count that wraps.
     watches: AtomicU64,
@@ -42,7 +43,7 @@ pub(crate) struct Desk<
     staying: u64,
     /// Whether the run has ended.
     ended: AtomicBool,
-    /// How many helpers are done with this desk.
+    /// How many helpers are done with this queue.
     left: AtomicU64,
 }
 
@@ -55,7 +56,7 @@ impl<C: ChipSet, N: Named, L0: Ledger, L1: Ledger, L2: Ledger, L3: Ledger, L4: L
     L3,
     L4,
 > {
-    /// An empty desk, for helpers of so many chips whose work is dear.
+    /// An empty queue, for helpers of so many chips whose work is worth offloading.
     pub(crate) fn new(dear: u8) -> Self {
         Desk {
             lock: Mutex::new(Laid::new()),
@@ -68,7 +69,7 @@ impl<C: ChipSet, N: Named, L0: Ledger, L1: Ledger, L2: Ledger, L3: Ledger, L4: L
         }
     }
 
-    /// Lays down a chip of which work is due, and wakes a helper where none looks for work.
+    /// Queues a chip of which work is due, and wakes a helper where none looks for work.
     pub(crate) fn lay_due<R: Wait>(
         &self,
         rt: &R,
@@ -86,7 +87,7 @@ impl<C: ChipSet, N: Named, L0: Ledger, L1: Ledger, L2: Ledger, L3: Ledger, L4: L
         }
     }
 
-    /// Lays down a chip of which work is due, under the lock, and tells nobody.
+    /// Queues a chip of which work is due, under the lock, and wakes nobody.
     fn put_due<R: Wait>(&self, rt: &R, helds: &mut Helds<C, N, L0, L1, L2, L3, L4>, chip: u8)
         requires { FreeBut chip helds.old }
         ensures { AllFree helds.new }
@@ -96,7 +97,7 @@ impl<C: ChipSet, N: Named, L0: Ledger, L1: Ledger, L2: Ledger, L3: Ledger, L4: L
         laid.lay_due(helds, chip);
     }
 
-    /// Lays down a chip of which none is due.
+    /// Queues a chip of which none is due.
     pub(crate) fn lay_done<R: Wait>(
         &self,
         rt: &R,
@@ -110,7 +111,7 @@ impl<C: ChipSet, N: Named, L0: Ledger, L1: Ledger, L2: Ledger, L3: Ledger, L4: L
         self.changes.fetch_add(1, Ordering::SeqCst);
     }
 
-    /// Lays down a chip of which none is due, under the lock, and tells nobody.
+    /// Queues a chip of which none is due, under the lock, and wakes nobody.
     fn put_done<R: Wait>(&self, rt: &R, helds: &mut Helds<C, N, L0, L1, L2, L3, L4>, chip: u8)
         requires { AllFree helds.old }
         ensures { AllFree helds.new }
@@ -186,25 +187,25 @@ impl<C: ChipSet, N: Named, L0: Ledger, L1: Ledger, L2: Ledger, L3: Ledger, L4: L
         laid.take_due(helds, chip)
     }
 
-    /// Tells all helpers that no more work comes, where the work of no held chip is dear.
+    /// Signals all helpers that no more work comes, where the work of no held chip is worth offloading.
     pub(crate) fn close_without<R: Wait>(&self, rt: &R, helds: &Helds<C, N, L0, L1, L2, L3, L4>) {
         if helds.dear() == 0 {
             self.close(rt);
         }
     }
 
-    /// Tells all helpers that the run has ended.
+    /// Signals all helpers that the run has ended.
     pub(crate) fn end<R: Wait>(&self, rt: &R) {
         self.ended.store(true, Ordering::SeqCst);
         self.close(rt);
     }
 
-    /// A helper is done with this desk.
+    /// A helper is done with this queue.
     pub(crate) fn leave(&self) {
         self.left.fetch_add(1, Ordering::SeqCst);
     }
 
-    /// Tells all helpers that no more work comes.
+    /// Signals all helpers that no more work comes.
     fn close<R: Wait>(&self, rt: &R) {
         let mut guard = self.lock.lock(rt);
         let laid = &mut *guard;

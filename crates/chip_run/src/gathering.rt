@@ -10,7 +10,7 @@ use crate::{Bus, Due, Held, Helds, Locked, Named, Parts};
 use chip_core::{ChipSet, Core};
 use std::sync::ledger::{Book, Ledger};
 
-/// Puts the chip of this number behind those of lower numbers.
+/// Puts the chip of this number after those of lower numbers.
 fn put_chip<C: ChipSet, N: Named, L: Ledger>(
     chips: &mut Vec<C::Chip>,
     book: &Book<L>,
@@ -46,7 +46,7 @@ fn put_chip<C: ChipSet, N: Named, L: Ledger>(
     }
 }
 
-/// Books all moves of the held chip of this number, if it is held, which is finished: a section on it.
+/// Counts all moves of the held chip of this number, if it is held, which is finished: a section on it.
 fn book_one<C: ChipSet, N: Named, L0: Ledger, L1: Ledger, L2: Ledger, L3: Ledger, L4: Ledger>(
     locked: &mut Locked<C, N, L0, L1, L2, L3, L4>,
     helds: &mut Helds<C, N, L0, L1, L2, L3, L4>,
@@ -66,7 +66,7 @@ fn book_one<C: ChipSet, N: Named, L0: Ledger, L1: Ledger, L2: Ledger, L3: Ledger
     }
 }
 
-/// Books all moves of the held chips, which are finished.
+/// Counts all moves of the held chips, which are finished.
 fn book_all<C: ChipSet, N: Named, L0: Ledger, L1: Ledger, L2: Ledger, L3: Ledger, L4: Ledger>(
     locked: &mut Locked<C, N, L0, L1, L2, L3, L4>,
     helds: &mut Helds<C, N, L0, L1, L2, L3, L4>,

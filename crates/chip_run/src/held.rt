@@ -20,7 +20,7 @@ pub enum Due<P> {
 }
 
 /// A chip that a worker holds, with the whole share of its ledger, whose amount is the number of the
-/// chip's booked moves since the run began, the number of samples that it made beyond these under its
+/// chip's counted moves since the run began, the number of samples that it made beyond these under its
 /// lease, and the number of passes made for it.
 #[derive(Drop)]
 pub struct Held<C: ChipSet, N: Named, L: Ledger> {
@@ -54,8 +54,8 @@ impl<C: ChipSet, N: Named, L: Ledger> Model for Held<C, N, L> {
 }
 
 impl<C: ChipSet, N: Named, L: Ledger> Held<C, N, L> {
-    /// Does the private work that is due, outside the lock. A chip that samples goes on with the pins that
-    /// were read, up to the end of its lease; its next section books these samples.
+    /// Does the private work that is due, outside the lock. A chip that samples continues with the pins that
+    /// were read, up to the end of its lease; its next section counts these samples.
     pub(crate) fn settle(&mut self)
         ensures { Settles C.rules self.old.due self.old self.new }
     {

@@ -13,7 +13,7 @@ use std::sync::ledger::Ledger;
 
 /// The chips of one run that one worker holds, at most one per number.
 ///
-/// A chip whose work is done stands where as many moves of its own as its share counts lead in the
+/// A chip whose work is done is where as many moves of its own as its share counts lead in the
 /// base's run.
 #[derive(Drop)]
 pub struct Helds<C: ChipSet, N: Named, L0: Ledger, L1: Ledger, L2: Ledger, L3: Ledger, L4: Ledger> {
@@ -95,7 +95,7 @@ impl<C: ChipSet, N: Named, L0: Ledger, L1: Ledger, L2: Ledger, L3: Ledger, L4: L
         self.missing().is_none()
     }
 
-    /// Of how many held chips the next private work is dear.
+    /// Of how many held chips the next private work is worth offloading.
     pub(crate) fn dear(&self) -> u8
         ensures { result ≤ 5 }
     {
@@ -131,7 +131,7 @@ impl<C: ChipSet, N: Named, L0: Ledger, L1: Ledger, L2: Ledger, L3: Ledger, L4: L
         self.move_to(other, chip);
     }
 
-    /// Tells where the held chips are.
+    /// Where the held chips are.
     pub(crate) fn known(&self)
         ensures { AreOnPaths C.rules (C.core_of N.base) N.end self.now }
     {

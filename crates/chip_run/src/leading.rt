@@ -14,7 +14,7 @@ use std::sync::ledger::{Book, Ledger};
 /// Why the turns of the held chips stop.
 #[derive(Clone, Copy)]
 pub(crate) enum Led {
-    /// The chip of this number made its event, but for its private work, which is dear.
+    /// The chip of this number made its event, but for its private work, which is worth offloading.
     Dear(u8),
     /// The chip of this number, that of least bound, is not held.
     Away(u8),
@@ -27,7 +27,7 @@ pub(crate) enum Led {
 pub(crate) enum Turned {
     /// It was taken.
     Taken,
-    /// It was taken, but for the private work, which is dear.
+    /// It was taken, but for the private work, which is worth offloading.
     Dear,
     /// The chip is not held.
     Away,
@@ -87,7 +87,7 @@ fn turn_on<C: ChipSet, N: Named, L0: Ledger, L1: Ledger, L2: Ledger, L3: Ledger,
 }
 
 /// Takes the turns of the held chips, always that of least bound, until one has made its event whose private
-/// work is dear, or a chip that is not held has the least bound, or no bound lies below the run's end.
+/// work is worth offloading, or a chip that is not held has the least bound, or no bound lies below the run's end.
 pub(crate) fn lead<
     C: ChipSet,
     N: Named,

@@ -8,7 +8,7 @@ use md_word::Key;
 use std::marker::{Model, PhantomData};
 use std::sync::ledger::{Book, Ledger};
 
-/// The value behind the bus lock: what the chips share, and a book for each chip of the moves that
+/// The value behind the bus lock: what the chips share, and an event count for each chip of the moves that
 /// it made.
 #[derive(Drop)]
 pub struct Locked<
@@ -75,7 +75,7 @@ impl<C: ChipSet, N: Named, L0: Ledger, L1: Ledger, L2: Ledger, L3: Ledger, L4: L
         }
     }
 
-    /// The bound of the chip of this number, if there is such a chip.
+    /// The bound of the chip of this number; none exactly where the set has no such chip.
     pub fn bound(&self, chip: u8) -> Option<Key>
         ensures { result ≡ slice_get self.now.parts.bounds chip }
     {

@@ -7,7 +7,7 @@ use crate::{Due, Held, Helds, Locked, Named, Parts, Turn};
 use chip_core::ChipSet;
 use std::sync::ledger::{Book, Ledger};
 
-/// A section on a held chip: its ledger books the samples that it made under its lease, and then the
+/// A section on a held chip: its ledger counts the samples that it made under its lease, and then the
 /// locked part of its turn.
 pub(crate) fn step_held<C: ChipSet, N: Named, L: Ledger>(
     parts: &mut Parts<C>,

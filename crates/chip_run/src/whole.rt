@@ -65,7 +65,7 @@ fn sample_held<C: ChipSet, N: Named, L: Ledger>(
     true
 }
 
-/// Announces a held chip, whose ledger books the samples that it made under its lease.
+/// Announces a held chip, whose ledger counts the samples that it made under its lease.
 #[inline(always)]
 fn announce_held<C: ChipSet, N: Named, L: Ledger>(
     parts: &mut Parts<C>,
@@ -108,7 +108,7 @@ pub(crate) fn turn_held<C: ChipSet, N: Named, L: Ledger>(
     ensures free { held.new.due ≡ Due.Nothing }
 {
     access_held(parts, book, held, number);
-    // to look for a lease has announced the chip; after samples it is announced anew
+    // to look for a lease has announced the chip; after samples it is announced again
     if sample_held(parts, book, held, number) {
         announce_held(parts, book, held, number);
     }

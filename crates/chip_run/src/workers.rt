@@ -130,7 +130,7 @@ fn others(workers: u32) -> u8
     (workers - 1) as u8
 }
 
-/// Lays the chips of the helpers below this number on the desk.
+/// Lays the chips of the helpers below this number in the work queue.
 fn lay_all<
     C: ChipSet,
     N: Named,
@@ -156,11 +156,11 @@ fn lay_all<
 
 /// Runs all chips to the run's end with so many workers, of which the caller is the last, the leader.
 ///
-/// Each other one is a thread of its own that begins with the chip of its number, which lies on the desk until
-/// then, as the caller does with the rest. A chip that comes to be the next before its thread has begun is taken
-/// from the desk, so that nobody waits for a thread to start; so is that of a thread that the system refuses. Once
-/// a thread has made its chip's next event, the leader takes that chip's turns too, and the thread helps it with
-/// private work that is dear, and runs the errands that chips lay.
+/// Each other one is a thread of its own that begins with the chip of its number, which lies in the work queue
+/// until then, as the caller does with the rest. A chip that becomes the next before its thread has begun is
+/// taken from the work queue, so that nobody waits for a thread to start. So is that of a thread that the system
+/// refuses. Once a thread has made its chip's next event, the leader takes that chip's turns too. The thread then
+/// helps it with private work that is worth offloading, and runs the speculative jobs that chips queue.
 pub fn work<
     C: ChipSet,
     N: Named,

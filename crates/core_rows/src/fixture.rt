@@ -47,7 +47,7 @@ fn act<C: ChipSet>(core: &mut Core<C>, event: Event) -> bool
     true
 }
 
-/// A number, and what stands behind it.
+/// A number, and what comes after it.
 fn front_of(text: &str) -> Result<(u64, &str), RowError> {
     let (front, rest) = text.split_once(' ').unwrap_or((text, ""));
     Ok((number(front)?, rest))

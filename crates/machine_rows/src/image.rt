@@ -3,7 +3,7 @@ use row_lines::{RowError, bytes, hexadecimal};
 use std::alloc::{AllocError, Global};
 use std::sync::Arc;
 
-/// Puts bytes at a place of an image of 512 bytes.
+/// Writes bytes at an offset of an image of 512 bytes.
 pub(crate) fn put(image: &mut Vec<u8>, place: usize, piece: &[u8]) -> Result<(), RowError> {
     let mut at = place;
     for byte in piece {
@@ -16,7 +16,7 @@ pub(crate) fn put(image: &mut Vec<u8>, place: usize, piece: &[u8]) -> Result<(),
     Ok(())
 }
 
-/// Puts bytes at a place that a text tells, `PLACE BYTES`, both in hexadecimal; answers the place.
+/// Writes bytes at the offset that a text says, `OFFSET BYTES`, both in hexadecimal; answers the offset.
 pub(crate) fn put_text(alloc: Global, image: &mut Vec<u8>, text: &str) -> Result<usize, RowError> {
     let (place, piece) = text.split_once(' ').ok_or(RowError::NoSuchLine)?;
     let place = usize::try_from(hexadecimal(place)?).map_err(|_| RowError::NoSuchLine)?;
@@ -24,7 +24,7 @@ pub(crate) fn put_text(alloc: Global, image: &mut Vec<u8>, text: &str) -> Result
     Ok(place)
 }
 
-/// An image of 512 bytes that is all zero but for the stack pointer FFF000h and the start in its vectors, the mark, and
+/// An image of 512 bytes that is all zero but for the stack pointer FFF000h and the start in its vectors, the magic, and
 /// a program at its start.
 pub(crate) fn image_of(alloc: Global, text: &str) -> Result<Vec<u8>, RowError> {
     let mut image = vec![in alloc; 0; 512]?;

@@ -27,7 +27,7 @@ pub(crate) fn obey<R: Threads + Wait + Sync>(
     }
 }
 
-/// Begins the five small chips: at power-on, or behind cycle 40,000.
+/// Begins the five small chips: at power-on, or after cycle 40,000.
 fn begin_five<R: Threads + Wait + Sync>(
     rt: &R,
     alloc: Global,
@@ -41,7 +41,7 @@ fn begin_five<R: Threads + Wait + Sync>(
     }
 }
 
-/// Begins the five small chips behind cycle 40,000, by so many workers.
+/// Begins the five small chips after cycle 40,000, by so many workers.
 fn run_five<R: Threads + Wait + Sync>(
     rt: &R,
     alloc: Global,

@@ -23,12 +23,12 @@ pub length-demo_cart : (number : ℕ) → length (demo_cart number) ≡ 1048576
 unfolding demo_cart stream
 length-demo_cart number = length-append head _ ∙ (rw (length-head, length-words 261120 (generator number)) refl)
 
--- the console's mark stands at 100h
+-- the console's magic is at 100h
 has_mark-demo_cart : (number : ℕ) → has_mark (demo_cart number) ≡ true
 unfolding demo_cart head program vectors
 has_mark-demo_cart number = refl
 
--- bytes with a length and a mark are accepted
+-- bytes with a length and a magic are accepted
 fault_of-marked : (bytes : List ℕ) → length bytes ≡ 1048576 → has_mark bytes ≡ true → fault_of bytes ≡ None
 fault_of-marked bytes size marked = rw (size, marked) refl
 

@@ -6,12 +6,12 @@ use Rattle.rand_pcg.specs.Lcg.{Lcg}
 use Rattle.rand_pcg.specs.Pcg.{pcg32}
 use Rattle.md_demo.specs.Demo.{long}
 
--- the first word, and those behind it
+-- the first word, and those after it
 words-cons : (n : ℕ) (g : Lcg) → flat_map long (first_words pcg32 (suc n) g) ≡ long (pcg32 g).0 ++ flat_map long (first_words pcg32 n (pcg32 g).1)
 unfolding first_words
 words-cons n g = refl
 
--- a word is put behind bytes, and later the others
+-- a word is put after bytes, and later the others
 pub words_more : (bytes : List ℕ) (left : ℕ) (g : Lcg) → 0 < left
     → (bytes ++ long (pcg32 g).0) ++ flat_map long (first_words pcg32 (left - 1) (pcg32 g).1) ≡ bytes ++ flat_map long (first_words pcg32 left g)
 words_more bytes zero g some = absurd (omega arith)

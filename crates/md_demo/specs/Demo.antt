@@ -14,7 +14,7 @@ word = to_be_bytes w16
 abbrev pub long : ℕ → List ℕ
 long = to_be_bytes w32
 
--- bytes, and behind them zeros up to a length
+-- bytes, and after them zeros up to a length
 abbrev pub filled_to : ℕ → List ℕ → List ℕ
 filled_to size bytes = bytes ++ replicate (size - length bytes) 0
 
@@ -36,7 +36,7 @@ program =
     -- move.b (a2),$c00011; cmpa.l #$e0000,a2; bcs back; lea $1000,a2; bra back
     ∷ 0x13d2 ∷ 0x00c0 ∷ 0x0011 ∷ 0xb5fc ∷ 0x000e ∷ 0x0000 ∷ 0x65d2 ∷ 0x45f9 ∷ 0x0000 ∷ 0x1000 ∷ 0x60ca ∷ []
 
--- what stands below 1000h: the vectors at 0, the console's mark at 100h, the program at 200h and the
+-- what is below 1000h: the vectors at 0, the console's magic at 100h, the program at 200h and the
 -- handler, an `rte`, at 280h; all else is 00
 unfoldable pub head : List ℕ
 head =
@@ -47,7 +47,7 @@ head =
 abbrev pub generator : ℕ → Lcg
 generator number = started 64 multiplier_64 number (increment_of 64 0)
 
--- what stands from 1000h on: the generator's first 261,120 words
+-- what comes from 1000h on: the generator's first 261,120 words
 unfoldable pub stream : ℕ → List ℕ
 stream number = flat_map long (first_words pcg32 261120 (generator number))
 

@@ -18,7 +18,7 @@ const DATA: usize = 0x1000;
 const WORDS: u32 = 261_120;
 
 /// The demonstration cartridge of a number. Any number has one, and each is an accepted cartridge of
-/// even length. It fails for want of memory alone.
+/// even length. It fails only when memory is out.
 #[tactic(auto, unfolding(crate::specs::Demo::demo_cart, crate::specs::Demo::stream))]
 pub fn demo_cart(alloc: Global, number: u64) -> Result<Vec<u8>, NoMemory>
     ensures bytes { IfOk result (λ bytes. bytes.items ≡ meaning.demo_cart number) }
@@ -32,7 +32,7 @@ pub fn demo_cart(alloc: Global, number: u64) -> Result<Vec<u8>, NoMemory>
     Ok(bytes)
 }
 
-/// Appends to no bytes what stands below 1000h.
+/// Appends to no bytes what is below 1000h.
 #[tactic(auto, unfolding(crate::specs::Demo::head, crate::specs::Demo::program))]
 fn push_head(bytes: &mut Vec<u8>) -> Result<(), NoMemory>
     requires { bytes.old.items ≡ [] }

@@ -1,5 +1,5 @@
-/// The program, which stands at 200h. It fills video memory and the colours with what stands behind
-/// 1000h, writes a byte of that to the PSG, and goes on so to E0000h and then from 1000h again.
+/// The program, which is at 200h. It fills video memory and the colours with what comes after
+/// 1000h, writes a byte of that to the PSG, and continues in this way to E0000h and then from 1000h again.
 pub(crate) const PROGRAM: [u16; 42] = [
     0x46fc, 0x2700, // move #$2700,sr
     0x41f9, 0x00c0, 0x0004, // lea $c00004,a0: the control port

@@ -11,7 +11,7 @@ unfoldable pub wav_format : Bool → List ℕ
 wav_format pal =
     little_bytes 4 16 ++ little_bytes 2 1 ++ little_bytes 2 2 ++ little_bytes 4 (sound_rate pal) ++ little_bytes 4 (4 * sound_rate pal) ++ little_bytes 2 4 ++ little_bytes 2 16
 
--- the head of a file of so many pairs of 4 bytes, of a region
+-- the header of a file of so many pairs of 4 bytes, of a region
 unfoldable pub wav_head : ℕ → Bool → List ℕ
 wav_head pairs pal =
     codes "RIFF" ++ little_bytes 4 (36 + 4 * pairs) ++ codes "WAVEfmt " ++ wav_format pal ++ codes "data" ++ little_bytes 4 (4 * pairs)

@@ -4,9 +4,9 @@ ghost use Rattle.md_files.specs.Ppm.{ppm_head};
 
 use crate::put::put;
 
-/// Appends the 15 bytes of the head of a picture of 320 by 224 dots, or of 320 by 240 on PAL.
+/// Appends the 15 bytes of the header of a picture of 320 by 224 dots, or of 320 by 240 on PAL.
 ///
-/// The picture is a raw Netpbm PPM whose colours go from 0 to 255. There is room for the head.
+/// The picture is a raw Netpbm PPM whose colours go from 0 to 255. There is room for the header.
 #[tactic(auto, unfolding(crate::specs::Ppm::ppm_head))]
 pub fn ppm_head(pal: bool, into: &mut Vec<u8>)
     requires { vec_len into.old + 15 ≤ vec_capacity into.old }
@@ -21,7 +21,7 @@ pub fn ppm_head(pal: bool, into: &mut Vec<u8>)
     }
 }
 
-/// Appends the 215,040 bytes of a picture behind its head, or the 230,400 of one for PAL: red, green and
+/// Appends the 215,040 bytes of a picture after its header, or the 230,400 of one for PAL: red, green and
 /// blue of each dot, row by row from the top, each row from the left. There is room for them, and no
 /// memory is taken.
 pub fn put_frame(rgb: &[u8], into: &mut Vec<u8>)

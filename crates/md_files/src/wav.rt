@@ -6,10 +6,10 @@ use crate::put::put;
 use byteorder::{ByteOrder, LittleEndian};
 use md_word::region::sound_rate;
 
-/// Appends the 44 bytes of the head of a sound file of so many stereo pairs.
+/// Appends the 44 bytes of the header of a sound file of so many stereo pairs.
 ///
 /// The file is a RIFF WAVE of 16-bit samples on two channels at 53,267 pairs a second, on PAL
-/// 52,781. There is room for the head, and `pairs` is below 2^30 − 9, so that the sizes fit their fields.
+/// 52,781. There is room for the header, and `pairs` is below 2^30 − 9, so that the sizes fit their fields.
 #[tactic(auto, unfolding(crate::specs::Wav::wav_head))]
 pub fn wav_head(pairs: u32, pal: bool, into: &mut Vec<u8>)
     requires pairs { pairs < 2 ^ 30 - 9 }

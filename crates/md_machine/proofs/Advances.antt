@@ -36,7 +36,7 @@ performed-told (Draw b) s valid ok c is = cc
 performed-told (Fm b) s valid ok c is = cc
 performed-told (Psg b) s valid ok c is = cc
 
--- a Z80 that handed something over stands at the same access
+-- a Z80 that handed something over is at the same access
 handed-same : (state : State80) → (sub_next_of (handed state) ≡ sub_next_of state) × ((handed state).next ≡ (sub_next_of state).key.cycle)
 unfolding sub_next_of handed
 handed-same state = (refl, refl)

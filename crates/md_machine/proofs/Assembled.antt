@@ -24,7 +24,7 @@ key-itself k = grind (arith, nat_tests)
 not-below : (at : ℕ) → at ≤ first_batch at
 not-below at = omega arith
 
--- no next event of the parts stands below their cycle
+-- no next event of the parts is below their cycle
 pub record AreLater (parts : Assembly) : Type 0 where
   pub main : parts.at ≤ (next_of parts.main.state).key.cycle
   pub sub : parts.at ≤ (sub_next_of parts.sub.state).key.cycle

@@ -139,7 +139,7 @@ counted p start z end entries sound is run =
     ap (λ (s : Media). length (p.of s)) run.rendered_to ∙ made.count
     ∙ ap (λ k. 16 * k) (all_made (batches_below start.at) end made.batches late made.last)
 
--- the next batch behind a run is the first from its end on
+-- the next batch after a run is the first from its end on
 next_first : (at end batches : ℕ) → at ≤ end → end ≤ clock.batch * (batches_below at + batches + 1)
     → (batches ≡ 0) ⊎ (clock.batch * (batches_below at + batches) < end) → clock.batch * (batches_below at + batches + 1) ≡ first_batch end
 next_first at end batches later late (inl nothing) = omega (arith, later, late, nothing)

@@ -1,4 +1,4 @@
--- How many frames a run makes: one for each start of the line behind the picture.
+-- How many frames a run makes: one for each start of the line after the picture.
 use Rattle.std.proofs.Common.{◌≡◌, ◌⊎◌, ℕ, zero, suc, ◌+◌, ◌-◌, ◌*◌, ◌/◌, ◌%◌, ◌<◌, ◌≤◌, ◌==◌, cond, Bool, true, false, List, [], length, length-append, Some, None, refl, sym, ap, ◌∙◌, subst, arith, lit<, inl, inr}
 use Rattle.std.proofs.lemmas.Bool.{eq-eqb, eqb-true, true≢false}
 use Rattle.md_word.specs.Clock as clock
@@ -70,7 +70,7 @@ longer : (m : Console) (n : ℕ) → length (media_after m (suc n)).frames ≡ l
 unfolding media_after
 longer m n = length-append (media_after m n).frames (rendered (ran m n) (mover (ran m n))).frames
 
--- with what comes to it
+-- with what is added to it
 counted_on : (first old new lines fresh next : ℕ) → new ≡ old + fresh → first + old ≡ lines → lines + fresh ≡ next → first + new ≡ next
 counted_on first old new lines fresh next more count one = omega (arith, more, count, one)
 
@@ -151,7 +151,7 @@ counts-frames start z end entries output is run =
     what_came (finishes pal (lines_below start.at)) (length (media_after start.console run.moves).frames) (finishes pal made.lines) made.count in
     ap (λ (m : Media). length m.frames) run.rendered_to ∙ few ∙ counted pal start.at end made.lines (subst (λ (n : ℕ). end ≤ n) at late) made.later made.last
 
--- the next line behind a run is the first from its end on
+-- the next line after a run is the first from its end on
 next_first : (at end lines : ℕ) → at ≤ end → end ≤ clock.line * lines → (lines ≡ lines_below at) ⊎ (clock.line * (lines - 1) < end) → clock.line * lines ≡ first_line end
 next_first at end lines later late (inl first) = omega (arith, later, late, first)
 next_first at end lines later late (inr last) = omega (arith, later, late, last)

@@ -30,7 +30,7 @@ use Rattle.md_machine.proofs.Samples.{other_by}
 abbrev drawing_of : Machine Chip Board → Drawing
 drawing_of m = (draw_of (m.chip 2)).chip
 
--- a frame was finished at a line behind a cycle, and before the next line
+-- a frame was finished at a line after a cycle, and before the next line
 record Finished (pal : Bool) (from next : ℕ) : Type 0 where
   at : ℕ
   behind : from ≤ at
@@ -38,7 +38,7 @@ record Finished (pal : Bool) (from next : ℕ) : Type 0 where
   line : line_of at pal ≡ rows pal
   whole : at % clock.line ≡ 0
 
--- no frame is kept but one that was finished behind a cycle
+-- no frame is kept but one that was finished after a cycle
 abbrev Once : Bool → ℕ → ℕ → Option (List ℕ) → Type 0
 Once pal from next frame = (frames_of frame ≡ []) ⊎ Finished pal from next
 
@@ -51,7 +51,7 @@ none-before : (pal : Bool) (from next : ℕ) (frame : Option (List ℕ)) → Onc
 none-before pal from next frame (inl none) line whole near = none
 none-before pal from next frame (inr f) line whole near = absurd (none-follows pal from next f line whole near)
 
--- the frame behind a line, by whether that is the first behind the picture
+-- the frame after a line, by whether that is the first after the picture
 framed_by : (b : Bool) (old : Option (List ℕ)) (picture : List ℕ) (frames : List (List ℕ)) → frames_of old ≡ frames → (b ≡ true → frames_of old ≡ [])
     → frames_of (cond b (Some picture) old) ≡ frames ++ frames_of (cond b (Some picture) None)
 framed_by true old picture frames same none = ap (λ (l : List (List ℕ)). l ++ (picture ∷ [])) (sym (none refl) ∙ same)

@@ -7,7 +7,7 @@ use Rattle.bus_shared.specs.Board.{Board, IsBoard}
 use Rattle.md_machine.specs.Rules.{IsChip, five}
 use Rattle.md_machine.specs.declared.chips.Chip.{Chip}
 
--- what stands at a place of its chips is the chip of that number
+-- what is at a place of its chips is the chip of that number
 pub read-chip : (v : CoreValue Chip Board) (chips : List Chip) (i : ℕ) (x : Chip) → IsCore five IsChip IsBoard v → chips ≡ v.chips → i < 5
     → x ≡ slice_index_or chips i x → x ≡ chip_in five v.chips i
 read-chip v chips i x core same within read =

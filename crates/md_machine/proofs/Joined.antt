@@ -1,4 +1,4 @@
--- Two runs, the one behind the other, are one.
+-- Two runs, the one after the other, are one.
 use Rattle.std.proofs.Common.{◌≡◌, ℕ, zero, suc, ◌+◌, ◌-◌, ◌<◌, ◌≤◌, ◌⊎◌, inl, inr, List, ◌++◌, sym, ap, ◌∙◌, subst, append-nil, append_assoc, arith, add-suc, add-zero}
 use Rattle.std.proofs.lemmas.Bool.{cases_lt}
 use Rattle.md_word.specs.declared.event.Entry.{Entry}
@@ -19,7 +19,7 @@ journal-add m a (suc b) =
     ∙ ap (λ z. (journal m a ++ journal (ran m a) b) ++ told z (mover z)) (ran-add m a b)
     ∙ append_assoc (journal m a) (journal (ran m a) b) (told (ran (ran m a) b) (mover (ran (ran m a) b)))
 
--- samples behind one another
+-- consecutive samples
 joined-none : (s : Media) → joined s no_media ≡ s
 joined-none s = λ i. record { frames = append-nil s.frames i; sides = append-nil s.sides i; levels = append-nil s.levels i }
 

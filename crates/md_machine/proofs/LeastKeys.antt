@@ -32,7 +32,7 @@ small : (m : Console) (i : ℕ) → i < 5 → (key_in m i).chip < 8
 unfolding key_in next_of sub_next_of
 small m = five-each (λ i. (key_in m i).chip < 8) (lit< tt) (lit< tt) (lit< tt) (lit< tt) (lit< tt)
 
--- no event of the five stands before that of the chip that moves
+-- no event of the five is before that of the chip that moves
 pub least-cycle : (m : Console) (i : ℕ) → i < 5 → (key_in m (mover m)).cycle ≤ (key_in m i).cycle
 unfolding mover
 least-cycle m i below =

@@ -1,4 +1,4 @@
--- Some event is enabled in a core of the five chips until none stands below the cycle.
+-- Some event is enabled in a core of the five chips until none is below the cycle.
 use Rattle.std.proofs.Common.{◌≡◌, ◌⊎◌, inl, inr, ℕ, ◌<◌, ◌≤◌, false, refl, sym, arith, nat_lt, Option, Some, None}
 use Rattle.std.proofs.lemmas.Bool.Decides.{nat_tests}
 use Rattle.md_word.specs.Keys.{key_lt}
@@ -50,7 +50,7 @@ module _ (z : Seen Chip Board) (tidy : IsTidy five IsChip IsBoard z) (t : ℕ) w
       (λ sample. (Sample first, (first-in, sample, low, λ j inside other looked. below j inside other)))
       (λ access. (Perform first, (first-in, access, low, below)))
 
-  -- none stands below the cycle, or one is enabled
+  -- none is below the cycle, or one is enabled
   pub run-goes-on : IsQuiet five z.machine t ⊎ ((event : Event) × IsEnabled five z t event)
   run-goes-on =
       by_test (nat_lt (key_of five z.machine first).cycle t)

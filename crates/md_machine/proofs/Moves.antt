@@ -112,7 +112,7 @@ unfolding console_of moved sub_moved put
 sub_move true m v kind is = rw (move-sample m 1 (ap (λ (c : Chip). (next c).sample) is ∙ kind)) (rw is (rw kind refl))
 sub_move false m v kind is = rw (move-access m 1 (ap (λ (c : Chip). (next c).sample) is ∙ kind)) (rw is (rw kind refl))
 
--- the event of a line: what is not told of the view is not seen
+-- the event of a line: what is not observable of the view is not seen
 draw_move : (m : Machine Chip Board) (v : DrawValue) → m.chip 2 ≡ Draw v → console_of (move five m 2) ≡ moved (console_of m) 2
 unfolding console_of moved line_moved put
 draw_move m v is =

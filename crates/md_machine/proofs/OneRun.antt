@@ -6,7 +6,7 @@ use Rattle.md_machine.specs.Console.{AllBelow, Console, IsRunTo, journal, key_in
 use Rattle.md_machine.specs.Media.{Media}
 use Rattle.md_machine.specs.Movers.{mover-lt}
 
--- behind a run's last move no other stands below its end
+-- after a run's last move no other is below its end
 no-more : (m w : Console) (end n : ℕ) (entries : List Entry) (output : Media) → AllBelow m end n → (one : IsRunTo m end w entries output) → n ≤ one.moves
 no-more m w end n entries output below one = elim (cases_lt one.moves n) [
   | inl more ↦ absurd (

@@ -1,4 +1,4 @@
--- The pads show the recording's words of the frame of which the line behind the picture began last.
+-- The pads show the recording's words of the frame of which the line after the picture began last.
 use Rattle.std.proofs.Common.{◌≡◌, ℕ, zero, suc, ◌+◌, ◌-◌, ◌*◌, ◌/◌, ◌%◌, ◌<◌, ◌≤◌, ◌==◌, cond, Bool, true, false, List, refl, sym, ap, ◌∙◌, arith, if◌then◌else◌, ◌⊎◌, inl, inr, eqb-true, le-leb}
 use Rattle.std.proofs.lemmas.Bool.{cases_lt, eqb-false, lt-leb}
 use Rattle.md_pads.specs.Recording.{Frame, pads_of, Recorded}
@@ -69,7 +69,7 @@ shown_low pal recording n h = rw (le-leb n (rows pal) h) refl
 shown_high : (pal : Bool) (recording : Recorded) (n f : ℕ) → rows pal < n → (n - (rows pal + 1)) / lines pal ≡ f → pads_shown pal recording n ≡ pads_of recording f
 shown_high pal recording n f h e = rw (lt-leb n (rows pal) h) (ap (pads_of recording) e)
 
--- the line behind the picture is as many lines on as the picture has rows
+-- the line after the picture is as many lines on as the picture has rows
 behind-rows : (pal : Bool) (k : ℕ) → line * k % frame_cycles pal ≡ finished_at pal → line * k % frame_cycles pal ≡ line * rows pal
 behind-rows pal k e = e ∙ finished-rows pal
 
@@ -84,7 +84,7 @@ at_its_pads pal recording k e =
 early_or_late : (pal : Bool) (k : ℕ) → (k + 1 ≤ rows pal) ⊎ (rows pal ≤ k)
 early_or_late pal k = elim (cases_lt k (rows pal)) [ inl early ↦ inl (omega (arith, early)) | inr late ↦ inr late ]
 
--- the first line behind the picture is one at which the pads change
+-- the first line after the picture is one at which the pads change
 past-rows : (pal : Bool) (k : ℕ) → rows pal ≤ k → ¬ (line * k % frame_cycles pal ≡ finished_at pal) → rows pal + 1 ≤ k
 past-rows true k late e = omega (arith, late, e)
 past-rows false k late e = omega (arith, late, e)

@@ -1,4 +1,4 @@
--- No event of a run stands before the first one.
+-- No event of a run is before the first one.
 use Rattle.std.proofs.Common.{◌≡◌, ℕ, ◌+◌, ◌*◌, ◌<◌, ◌≤◌, sym, ap, ◌∙◌, subst, arith}
 use Rattle.md_word.specs.Clock.{cycle_limit}
 use Rattle.md_word.specs.declared.key.Key.{Key}

@@ -33,7 +33,7 @@ pub record Part (A : Type 0) : Type 0 where
   pub grows : (m : Machine Chip Board) → IsValid five IsChip IsBoard m → (i : ℕ) → i < 5 → (i ≡ number → length (of (kept_in m)) ≤ 1056) → of (kept_in (move five m i)) ≡ of (kept_in m) ++ of (rendered (console_of m) i)
   pub long : (z : Console) (i : ℕ) → i < 5 → length (of (rendered z i)) ≡ 16 * cond (i == number) 1 0
 
--- with room a batch goes behind what is kept
+-- with room a batch goes after what is kept
 kept-all : {A : Type 0} (old batch : List A) → length old ≤ 1056 → kept old batch ≡ old ++ batch
 kept-all old batch room = ap (λ (b : Bool). cond b (old ++ batch) old) (le-leb (length old) 1056 room)
 

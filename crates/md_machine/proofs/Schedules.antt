@@ -49,7 +49,7 @@ pub record CoreLaws : Type 0 where
   pub few : (s z : Seen Chip Board) (t from : ℕ) (list : List Event) → t ≤ cycle_limit → IsTidy five IsChip IsBoard s
       → machines.IsQuiet five s.machine from → Leads five t s list z → length list ≤ events_within five (t - from)
 
--- a core at the beginning of a segment: it keeps nothing, and no event stands below the cycle
+-- a core at the beginning of a segment: it keeps nothing, and no event is below the cycle
 record IsFresh (at : ℕ) (s : Seen Chip Board) : Type 0 where
   tidy : IsTidy five IsChip IsBoard s
   quiet : machines.IsQuiet five s.machine at

@@ -132,7 +132,7 @@ pub few_entries : (m : Machine Chip Board) (from to : ℕ) {w : Machine Chip Boa
     → length entered ≤ most_entries pal
 few_entries m from to runs within all pal near = omega (arith, within, all, ap length runs.journal, within-few pal (to - from) (omega (arith, near)))
 
--- moves that stand below a cycle in the record stand there in the chips
+-- moves that are below a cycle in the record are there in the chips
 below_or_is : (k n : ℕ) → k < suc n → (k < n) ⊎ (k ≡ n)
 below_or_is k n below = grind arith
 

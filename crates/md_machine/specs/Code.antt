@@ -58,7 +58,7 @@ is_word Sample = false
 is_word Access = false
 is_word Word = true
 
--- the two flags tell the stage
+-- the two flags give the stage
 pub stage_same : (stage : Stage) → stage_of (is_access stage) (is_word stage) ≡ stage
 stage_same Sample = refl
 stage_same Access = refl
@@ -82,7 +82,7 @@ stage80_flags stages80.Access = (true, false)
 stage80_flags stages80.Yield = (true, true)
 stage80_flags stages80.Take = (false, true)
 
--- the two flags tell the stage
+-- the two flags give the stage
 pub stage80_same : (stage : Stage80) → stage80_of (stage80_flags stage).0 (stage80_flags stage).1 ≡ stage
 stage80_same stages80.Sample = refl
 stage80_same stages80.Access = refl
@@ -105,7 +105,7 @@ mode_flags Mode0 = (false, false)
 mode_flags Mode1 = (true, false)
 mode_flags Mode2 = (true, true)
 
--- the two flags tell the mode
+-- the two flags give the mode
 pub mode_same : (mode : InterruptMode) → mode_of (mode_flags mode).0 (mode_flags mode).1 ≡ mode
 mode_same Mode0 = refl
 mode_same Mode1 = refl
@@ -237,29 +237,29 @@ state80_way =
     })
     (λ s. refl)
 
--- what the Z80 is told as a sum
+-- what is reported to the Z80 as a sum
 abbrev pub told_sum : AnswerValue80 → ℕ ⊎ (Option Store)
 told_sum (Byte value) = inl value
 told_sum Nothing = inr None
 told_sum (Returned store) = inr (Some store)
 
--- nothing is told, or RAM and bank register that come back
+-- nothing is reported, or RAM and bank register that return
 abbrev pub told_back : Option Store → AnswerValue80
 told_back None = Nothing
 told_back (Some store) = Returned store
 
--- what the Z80 is told, from its sum
+-- what is reported to the Z80, from its sum
 abbrev pub told_of : ℕ ⊎ (Option Store) → AnswerValue80
 told_of (inl value) = Byte value
 told_of (inr store) = told_back store
 
--- what the Z80 is told by its sum
+-- what is reported to the Z80 by its sum
 pub told_same : (t : AnswerValue80) → told_of (told_sum t) ≡ t
 told_same (Byte value) = refl
 told_same Nothing = refl
 told_same (Returned store) = refl
 
--- the way of what the Z80 is told
+-- the way of what is reported to the Z80
 abbrev pub told_way : Way AnswerValue80
 told_way = by_way (either number (maybe store_way)) told_sum told_of told_same
 

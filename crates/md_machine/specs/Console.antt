@@ -1,5 +1,5 @@
 -- The machine as one record, and what a move of each chip changes. Each memory that may be written
--- stands once; the cartridge stands with each of the two processors.
+-- is kept once; each of the two processors has the cartridge.
 use Rattle.std.specs.Prelude.{◌≡◌, ℕ, Bool, zero, suc, ◌+◌, ◌-◌, ◌*◌, ◌/◌, ◌<◌, ◌≤◌, ◌==◌, ◌&&◌, cond, true, List, [], ◌∷◌, ◌++◌, length, Option, None}
 use Rattle.md_word.specs.Clock as clock
 use Rattle.md_word.specs.declared.event.Entry.{Entry}
@@ -85,7 +85,7 @@ key_in m i =
     (cond (i == 2) (record { cycle = m.line; chip = 2 })
     (cond (i == 3) (record { cycle = m.fm_cycle; chip = 3 }) (record { cycle = m.psg_cycle; chip = 4 }))))
 
--- the 68000: a sample begins an instruction, and an access goes on with its answer
+-- the 68000: a sample begins an instruction, and an access continues with its answer
 unfoldable pub main_moved : Console → Console
 main_moved m =
     cond (next_of m.main).sample
@@ -95,11 +95,11 @@ main_moved m =
       shared = main_board m.shared (next_of m.main).key (request_of m.cart m.main);
     })
 
--- what an access of the Z80 comes to on the board
+-- what an access of the Z80 results in on the board
 abbrev pub sub_accessed : Console → SubOutcome
 sub_accessed m = sub_access m.shared (sub_next_of m.sub.state).key (asked_of m.sub.cart m.sub.state)
 
--- the Z80: a sample looks at its pins, and an access goes on with what it is told
+-- the Z80: a sample looks at its pins, and an access continues with what is reported to it
 unfoldable pub sub_moved : Console → Console
 sub_moved m =
     cond (sub_next_of m.sub.state).sample
@@ -113,7 +113,7 @@ sub_moved m =
 abbrev pub drawing_in : Console → Drawing
 drawing_in m = record { next = m.line; note = m.note; has_view = true; picture = m.picture; frame = None; pal = m.pal }
 
--- what it is behind the event of its next line: that is drawn from the VDP as the event leaves it
+-- what it is after the event of its next line: that is drawn from the VDP as the event leaves it
 abbrev pub line_done : Console → Drawing
 line_done m = drawn_from (view_of m.pal (line_board m.shared m.line m.note).vdp) (drawing_in m)
 
@@ -195,11 +195,11 @@ unfoldable pub media_after : Console → ℕ → Media
 media_after m zero = no_media
 media_after m (suc n) = joined (media_after m n) (rendered (ran m n) (mover (ran m n)))
 
--- the first n moves stand below the cycle
+-- the first n moves are below the cycle
 abbrev pub AllBelow : Console → ℕ → ℕ → Type 0
 AllBelow m end n = (k : ℕ) → k < n → (key_in (ran m k) (mover (ran m k))).cycle < end
 
--- no next event stands below the cycle
+-- no next event is below the cycle
 abbrev pub IsQuiet : ℕ → Console → Type 0
 IsQuiet end m = (i : ℕ) → i < 5 → end ≤ (key_in m i).cycle
 

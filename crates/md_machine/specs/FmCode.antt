@@ -53,7 +53,7 @@ write_by false second key register value = record { key = key; port = 0; registe
 write_by true false key register value = record { key = key; port = 1; register = register; value = value; port_in_range = lit≤ tt }
 write_by true true key register value = record { key = key; port = 2; register = register; value = value; port_in_range = lit≤ tt }
 
--- the two flags tell the port
+-- the two flags give the port
 pub write_at : (port : ℕ) (within : port ≤ 2) (key : Key) (register value : ℕ)
     → write_by (port_flags port).0 (port_flags port).1 key register value
     ≡ record { key = key; port = port; register = register; value = value; port_in_range = within }

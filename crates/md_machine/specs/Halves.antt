@@ -5,7 +5,7 @@ use Rattle.md_machine.specs.declared.chips.Chip.{Chip}
 use Rattle.md_machine.specs.declared.chips.Chip.TheVariants.{Main, Sub, Draw, Fm, Psg}
 
 -- each field of a chip stays, but for what its request hands over: the Z80's RAM and bank register, and the view of
--- the drawing half. What it was answered stands beside it
+-- the drawing half. What it was answered is beside it
 abbrev pub LeavesChip : Chip → Chip → Type 0
 LeavesChip (Main old) (Main new) = new.chip ≡ old.chip
 LeavesChip (Sub old) (Sub new) = new.chip ≡ record old.chip { state = handed old.chip.state }

@@ -51,7 +51,7 @@ use Rattle.md_machine.specs.Rules.{IsChip, advance, draw_advance, draw_perform, 
 use Rattle.md_machine.specs.declared.chips.Chip.{Chip}
 use Rattle.md_machine.specs.declared.chips.Chip.TheVariants.{Main, Sub, Draw, Fm, Psg}
 
--- the board's transfers are those that the 68000 can be told
+-- the board's transfers are those that can be reported to the 68000
 started : (t : Option Transfer) → IfSome t IsTransfer → IfSome t IsStarted
 started None h = tt
 started (Some t) h = record { some = h.some; most = h.most; even = h.even; on_bus = h.on_bus; cost = h.cost }

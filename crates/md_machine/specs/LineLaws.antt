@@ -24,12 +24,12 @@ use Rattle.md_machine.specs.Lines.{drawn_from, told_view, untold}
 pub drawing-wherever : (b : Bool) (d : Drawing) → IsDrawing d → IsDrawing (record d { has_view = b })
 drawing-wherever b d h = record { picture = h.picture; frame = h.frame; at_line = h.at_line; undrawn = h.undrawn }
 
--- what holds of the drawing half holds behind the event of a line
+-- what holds of the drawing half holds after the event of a line
 pub drawing-ok : (view : LineView) (d : Drawing) → IsDrawing d → IsDrawing (drawn_from view d)
 unfolding drawn_from
 drawing-ok view d h = drawing_drawn view (sprites_on (line_of d.next d.pal) view) (note_on (line_of d.next d.pal) view) d h
 
--- what stands under a function stands there where it is
+-- there is a value under a function where there is one
 some-told : {A B : Type 0} (f : A → B) (o : Option A) → is_some (option_map f o) ≡ is_some o
 some-told f None = refl
 some-told f (Some x) = refl
@@ -60,7 +60,7 @@ line-same view s t note d same =
     record d { next = d.next + line; note = note; picture = picture; frame = finished d.pal number picture d.frame })
     same
 
--- behind the picture it is no matter from what a line is drawn
+-- after the picture it is no matter from what a line is drawn
 unseen-view : (v w : LineView) (s t : List Dot) (note : SpriteNote) (d : Drawing) → nat_lt (line_of d.next d.pal) (rows d.pal) ≡ false → line_drawn v s note d ≡ line_drawn w t note d
 unfolding line_drawn picture_after drawn
 unseen-view v w s t note d behind = rw behind refl
@@ -77,13 +77,13 @@ unfolding drawn_from
 line-made view s note d noted dots =
     rw noted (line-same view s (sprites_on (line_of d.next d.pal) view) (note_on (line_of d.next d.pal) view) d (row_drawn view s (line_of d.next d.pal) dots))
 
--- the display has no line behind the picture
+-- the display has no line after the picture
 height-within : (pal tall : Bool) → height (pal && tall) ≤ rows pal
 height-within true true = omega arith
 height-within true false = omega arith
 height-within false tall = omega arith
 
--- what is not told of a view is not seen
+-- what is not observable of a view is not seen
 pub told-drawn : (view : LineView) (d : Drawing) → view.pal ≡ d.pal → drawn_from (told_view d.next view) d ≡ drawn_from view d
 unfolding drawn_from told_view
 told-drawn view d same =
@@ -102,7 +102,7 @@ told-drawn view d same =
           ∙ unseen-view none view (sprites_on y none) (sprites_on y view) (note_on y view) d behind))
     ]
 
--- what the board fills is told
+-- what the board fills is observable
 pub told_filled : (pal : Bool) (cycle : ℕ) (vdp : Vdp) (view : LineView) → view.pal ≡ pal → told_view cycle (line_view cycle vdp view) ≡ told_view cycle (view_of pal vdp)
 unfolding told_view line_view
 told_filled pal cycle vdp view same = elim (cases_Bool (nat_lt (line_of cycle view.pal) (rows view.pal))) [
@@ -118,7 +118,7 @@ filled_region cycle vdp view = elim (cases_Bool (nat_lt (line_of cycle view.pal)
   | inr behind ↦ rw behind refl
 ]
 
--- a line that is drawn from a view which was lent, and comes back with it
+-- a line that is drawn from a view which was lent, and returns with it
 pub lent_drawn : (view : LineView) (s : List Dot) (note : SpriteNote) (d : Drawing) → view.pal ≡ d.pal → note ≡ note_on (line_of d.next d.pal) view
     → (line_of d.next d.pal < display_height view → (x : ℕ) → x < picture_width → dot_at s x ≡ sprite_dot view (line_of d.next d.pal) x)
     → answered view s note d ≡ record (drawn_from (told_view d.next view) d) { has_view = true }

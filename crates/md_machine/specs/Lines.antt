@@ -11,15 +11,15 @@ use Rattle.vdp_chip.specs.Drawing.{Drawing, line_drawn}
 unfoldable pub drawn_from : LineView → Drawing → Drawing
 drawn_from view d = let y = line_of d.next d.pal in line_drawn view (sprites_on y view) (note_on y view) d
 
--- a view for a picture of a region, of which nothing else is told
+-- a view for a picture of a region, of which nothing else is observable
 abbrev pub untold : Bool → LineView
 untold pal = record { registers = []; vram = []; cram = []; vsram = []; pal = pal; tall = false }
 
--- what is told of the view that the board fills at a cycle: behind the picture it fills none
+-- what is observable of the view that the board fills at a cycle: after the picture it fills none
 unfoldable pub told_view : ℕ → LineView → LineView
 told_view cycle view = if nat_lt (line_of cycle view.pal) (rows view.pal) then view else untold view.pal
 
--- a drawing half of which nothing is told
+-- a drawing half of which nothing is observable
 abbrev pub no_drawing : Drawing
 no_drawing = record { next = 0; note = record { overflow = false; collision = false }; has_view = true; picture = []; frame = None; pal = false }
 

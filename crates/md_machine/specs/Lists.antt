@@ -19,8 +19,8 @@ use Rattle.md_machine.specs.Refinement.{console_of}
 use Rattle.md_machine.specs.Rules.{five}
 use Rattle.md_machine.specs.declared.chips.Chip.{Chip}
 
--- a list of enabled events below a cycle: it is no longer than what can stand there; it gets stuck nowhere,
--- since some event is enabled until none stands below the cycle; and then it has led to the machine of the
+-- a list of enabled events below a cycle: it is no longer than what can be there; it gets stuck nowhere,
+-- since some event is enabled until none is below the cycle; and then it has led to the machine of the
 -- run, with its journal
 pub record EndsAsRun (start : Console) (from to : ℕ) (list : List Event) (z : Seen Chip Board) : Type 0 where
   pub few : length list ≤ events_within five (to - from)
@@ -34,7 +34,7 @@ EachEndsAsRun start from core =
 
 -- ---- segment after segment: the chips keep a frame, and the samples of a frame
 
--- where a run stands between two segments: the cycle, the core, and what was drained up to there
+-- where a run is between two segments: the cycle, the core, and what was drained up to there
 pub record Between : Type 0 where
   pub at : ℕ
   pub core : Seen Chip Board
@@ -51,7 +51,7 @@ pub record Segment : Type 0 where
   pub events : List Event
   pub core : Seen Chip Board
 
--- it has the cycles of a frame at most, each event is enabled at its turn, and none stands below its end
+-- it has the cycles of a frame at most, each event is enabled at its turn, and none is below its end
 -- any more
 pub record IsSegment (before : Between) (segment : Segment) : Type 0 where
   pub later : before.at ≤ segment.to
@@ -64,7 +64,7 @@ pub record IsSegment (before : Between) (segment : Segment) : Type 0 where
 abbrev pub drained : Seen Chip Board → Seen Chip Board
 drained z = record { machine = record { shared = z.machine.shared; chip = λ i. emptied (z.machine.chip i) }; bound = z.bound; journal = [] }
 
--- behind a segment, when what its core keeps is drained
+-- after a segment, when what its core keeps is drained
 abbrev pub behind : Between → Segment → Between
 behind before segment = record {
   at = segment.to;
@@ -78,7 +78,7 @@ abbrev pub AreSegments : Between → List Segment → Between → Type 0
 AreSegments before [] after = after ≡ before
 AreSegments before (segment ∷ later) after = IsSegment before segment × AreSegments (behind before segment) later after
 
--- what was drained up to there is what the run makes, and the core has come to its machine; from there on
+-- what was drained up to there is what the run makes, and the core has reached its machine; from there on
 -- every list ends as the run again
 pub record GoesAsRun (start : Console) (there : Between) : Type 0 where
   pub made : IsRunTo start there.at (console_of there.core.machine) there.entries there.media

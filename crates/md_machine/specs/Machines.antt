@@ -27,7 +27,7 @@ pub record MachineValue : Type 0 where
 abbrev pub core_in : Board → List Chip → List Key → List Entry → ℕ → CoreValue Chip Board
 core_in board chips bounds entries room = record { shared = board; chips = chips; bounds = bounds; journal = entries; room = room }
 
--- the core that a machine has; an empty one stands for it while it runs
+-- the core that a machine has; an empty one stands in for it while it runs
 abbrev pub core_held : Option (CoreValue Chip Board) → CoreValue Chip Board
 core_held core = unwrap_or core (core_in (power_on no_frames false) [] [] [] 0)
 
@@ -45,7 +45,7 @@ machine_at at core = record {
 }
 
 -- what holds of each machine: it is of one region, and has room for the entries of a segment, and no
--- event stands below its cycle
+-- event is below its cycle
 pub record IsMachine (at : ℕ) (core : Option (CoreValue Chip Board)) : Type 0 where
   pub has_core : IsSome core
   pub valid : IsCore five IsChip IsBoard (core_held core)

@@ -12,7 +12,7 @@ pub record Media : Type 0 where
 abbrev pub no_media : Media
 no_media = record { frames = []; sides = []; levels = [] }
 
--- those of one run, and behind them those of another
+-- those of one run, and after them those of another
 abbrev pub joined : Media → Media → Media
 joined first second = record {
   frames = first.frames ++ second.frames;

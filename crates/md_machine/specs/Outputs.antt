@@ -28,7 +28,7 @@ mixed_bytes (level ∷ levels) sides = sample_bytes (first_sums sides) level ++ 
 unfoldable pub sound_bytes : Media → List ℕ
 sound_bytes media = mixed_bytes media.levels media.sides
 
--- the bytes of a frame of a region with its head
+-- the bytes of a frame of a region with its header
 abbrev pub frame_length : Bool → ℕ
 frame_length pal = 15 + picture_length pal
 
@@ -37,11 +37,11 @@ pub a_length : (n : ℕ) (pal : Bool) → n ≡ picture_length pal → (n ≡ pi
 a_length n true e = inr e
 a_length n false e = inl e
 
--- a frame with its head
+-- a frame with its header
 abbrev pub frame_bytes : Bool → List ℕ → List ℕ
 frame_bytes pal picture = ppm_head pal ++ picture
 
--- the frames, one behind the other
+-- the frames, one after the other
 unfoldable pub frames_bytes : Bool → List (List ℕ) → List ℕ
 frames_bytes pal frames = flat_map (frame_bytes pal) frames
 

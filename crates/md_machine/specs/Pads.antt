@@ -9,7 +9,7 @@ use Rattle.md_machine.specs.Console.{Console}
 abbrev pub lines_begun : Console → ℕ
 lines_begun z = z.line / line
 
--- the words of the pads after so many lines have begun: none is pressed before the line behind the
+-- the words of the pads after so many lines have begun: none is pressed before the line after the
 -- picture of the first frame; from then on they are the recording's words of the frame of which that
 -- line began last
 abbrev pub pads_shown : Bool → Recorded → ℕ → Frame

@@ -20,7 +20,7 @@ pub record MainValue : Type 0 where
 abbrev pub IsMain : MainValue → Type 0
 IsMain c = IsChip68 c.chip
 
--- the Z80, and what it was told between the two halves of an access
+-- the Z80, and what was reported to it between the two halves of an access
 pub record SubValue : Type 0 where
   pub chip : Chip80Value
   pub answer : Option AnswerValue80

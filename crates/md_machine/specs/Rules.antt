@@ -53,7 +53,7 @@ main_perform c b =
       entry = main_told b key request;
     }
 
--- what the Z80 was told; where nothing is kept, nothing
+-- what was reported to the Z80; where nothing is kept, nothing
 abbrev pub told_in : Option AnswerValue80 → AnswerValue80
 told_in None = Nothing
 told_in (Some answer) = answer
@@ -73,7 +73,7 @@ sub_perform c b =
 abbrev pub sub_advance : SubValue → SubValue
 sub_advance c = record { chip = record c.chip { state = events80.answered c.chip.cart c.chip.state (told_in c.answer) }; answer = None }
 
--- the Z80 goes on from a sample
+-- the Z80 continues from a sample
 abbrev pub sub_sample : SubValue → Pins80 → SubValue
 sub_sample c pins = record c { chip = record c.chip { state = events80.begun c.chip.cart c.chip.state pins } }
 
@@ -112,7 +112,7 @@ first_of cycle = 16 * (cycle / clock.batch - 1)
 abbrev pub kept : {A : Type 0} → List A → List A → List A
 kept old batch = if nat_le (length old) 1056 then old ++ batch else old
 
--- the FM synthesis takes the writes below its cycle, and tells how many
+-- the FM synthesis takes the writes below its cycle, and reports how many
 abbrev pub fm_perform : FmValue → Board → Accessed FmValue Board
 fm_perform c b =
     let taken = fm_ports.taken_below c.cycle b.fm.writes in
@@ -132,7 +132,7 @@ fm_advance c =
       samples = kept c.samples (fm_batches.samples (first_of c.cycle) c.synth c.taken);
     }
 
--- the PSG takes the writes below its cycle, and tells how many
+-- the PSG takes the writes below its cycle, and reports how many
 abbrev pub psg_perform : PsgValue → Board → Accessed PsgValue Board
 psg_perform c b =
     record {

@@ -32,7 +32,7 @@ impl Machine {
         self.clear_journal();
     }
 
-    /// Appends the frame that was finished since the machine was last drained, with its head, if one was.
+    /// Appends the frame that was finished since the machine was last drained, with its header, if one was.
     pub fn drain_frames(&mut self, into: &mut Vec<u8>)
         requires { vec_len into.old + frame_length self.old.console.pal * length self.old.media.frames ≤ vec_capacity into.old }
         ensures bytes { into.new.items ≡ into.old.items ++ frames_bytes self.old.console.pal self.old.media.frames }
@@ -59,7 +59,7 @@ impl Machine {
         self.empty_psg();
     }
 
-    /// Lets all go that was made since the machine was last drained: the journal's entries, the frame and the
+    /// Drops all that was made since the machine was last drained: the journal's entries, the frame and the
     /// samples.
     pub fn discard(&mut self)
         ensures { self.new ≡ record self.old { entries = []; media = no_media } }
@@ -70,7 +70,7 @@ impl Machine {
         self.empty_psg();
     }
 
-    /// Lets the journal's entries go.
+    /// Drops the journal's entries.
     fn clear_journal(&mut self)
         ensures { self.new ≡ record self.old { entries = [] } }
     {
@@ -79,7 +79,7 @@ impl Machine {
         }
     }
 
-    /// Lets the frame or the samples go that the chip of a number keeps.
+    /// Drops the frame or the samples that the chip of a number keeps.
     fn empty(&mut self, number: usize)
         requires { number < 5 }
         ensures { (core : CoreValue Chip Board) × (machine_at self.old.at core ≡ self.old) × IsCore five IsChip IsBoard core
@@ -90,21 +90,21 @@ impl Machine {
         }
     }
 
-    /// Lets the frame go.
+    /// Drops the frame.
     fn empty_draw(&mut self)
         ensures { self.new ≡ record self.old { media = record self.old.media { frames = [] } } }
     {
         self.empty(2);
     }
 
-    /// Lets the FM synthesis' samples go.
+    /// Drops the FM synthesis' samples.
     fn empty_fm(&mut self)
         ensures { self.new ≡ record self.old { media = record self.old.media { sides = [] } } }
     {
         self.empty(3);
     }
 
-    /// Lets the PSG's samples go.
+    /// Drops the PSG's samples.
     fn empty_psg(&mut self)
         ensures { self.new ≡ record self.old { media = record self.old.media { levels = [] } } }
     {
@@ -124,7 +124,7 @@ fn put_entries(entries: &[Entry], into: &mut Vec<u8>)
     }
 }
 
-/// Appends a frame of a region with its head, where there is one.
+/// Appends a frame of a region with its header, where there is one.
 #[tactic(auto, using(crate::specs::Outputs::a_length), unfolding(crate::specs::Outputs::frames_bytes))]
 fn put_frames(frame: Option<&[u8]>, pal: bool, into: &mut Vec<u8>)
     requires size { IfSome (option_copied frame) (λ picture. length picture ≡ picture_length pal) }
@@ -210,7 +210,7 @@ fn levels_in(chip: &Chip) -> &[i32]
     }
 }
 
-/// Lets the frame or the samples go that the chip of a number keeps.
+/// Drops the frame or the samples that the chip of a number keeps.
 fn empty_chip(core: &mut Core<MdChips>, number: usize)
     requires { number < 5 }
     ensures value { core.new ≡ with_emptied core.old number }
@@ -221,7 +221,7 @@ fn empty_chip(core: &mut Core<MdChips>, number: usize)
     core.chips();
 }
 
-/// Lets the frame or the samples go that a chip keeps.
+/// Drops the frame or the samples that a chip keeps.
 fn empty(chip: &mut Chip)
     ensures { chip.new ≡ drained.emptied chip.old }
 {

@@ -53,7 +53,8 @@ fn first_bounds(alloc: Global) -> Result<Vec<Key>, NoMemory>
 }
 
 /// The core of the five chips at power-on, of a region, with this cartridge and this recording of the
-/// pads: each bound is its chip's key, and the journal has room for so many entries.
+/// pads: each bound is its chip's key, and the journal has room for so many entries. It fails
+/// only when memory is out.
 pub fn first_core(
     alloc: Global,
     cart: Arc<Cart>,

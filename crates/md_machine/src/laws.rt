@@ -25,12 +25,12 @@ use crate::set::MdChips;
 use chip_core::laws;
 use rom_header::Cart;
 
-/// No next event of the five chips stands before that of the chip that moves.
+/// No next event of the five chips is before that of the chip that moves.
 pub fn mover_is_first()
     ensures { (m : Console) (i : ℕ) → i < 5 → (key_in m (mover m)).cycle ≤ (key_in m i).cycle }
 {}
 
-/// The first moves of a machine, and behind them moves of the machine to which they lead, are together
+/// The first moves of a machine, and after them moves of the machine to which they lead, are together
 /// its moves: they lead to the same machine, with the entries, the frames and the samples of the first
 /// followed by those of the later.
 pub fn moves_added()
@@ -45,7 +45,7 @@ pub fn few_entries()
     ensures { (m : Console) (moves : ℕ) → length (journal m moves) ≤ moves }
 {}
 
-/// A run that goes on from where another ended is one run, with the entries, frames and samples of the
+/// A run that continues from where another ended is one run, with the entries, frames and samples of the
 /// one followed by those of the other.
 pub fn joined()
     ensures { (m w z : Console) (s t : ℕ) (entries later_entries : List Entry) (output later_output : Media) → s ≤ t
@@ -82,7 +82,7 @@ pub fn samples_counted()
 {}
 
 /// A run from a start to a cycle makes a frame for each cycle 766,080 + 896,040 n, or on PAL
-/// 820,800 + 1,070,460 n, at which the line behind the picture of frame n begins, that lies between the
+/// 820,800 + 1,070,460 n, at which the line after the picture of frame n begins, that lies between the
 /// two and below the end.
 pub fn frames_counted()
     ensures { (start : Start) (z : Console) (end : ℕ) (entries : List Entry) (output : Media) → IsStart start
@@ -112,14 +112,14 @@ pub fn few_in_list()
     ensures { (span : ℕ) → events_within five span ≤ 2 * (span / clock.main_gap + span / clock.sub_gap + span / clock.line + 2 * (span / clock.batch) + 10) }
 {}
 
-/// From power-on, after any number of events, the pads show no button before the line behind the picture
+/// From power-on, after any number of events, the pads show no button before the line after the picture
 /// of the first frame has begun, line 224 or on PAL 240, and from then on the recording's words of the
 /// frame of which that line began last.
 pub fn pads_are_recorded()
     ensures { (cart : List ℕ) (recording : Recorded) (pal : Bool) (moves : ℕ) → ShowsPads pal recording (ran (power_on cart recording pal) moves) }
 {}
 
-/// From power-on, after events below a cycle of at most 2^50, the Z80's RAM and bank register have one
+/// From power-on, after events below a cycle of at most the cycle limit, the Z80's RAM and bank register have one
 /// owner: the Z80 or the bus.
 pub fn one_owner(cart: &Cart)
     ensures { (recording : Recorded) (pal : Bool) (end n : ℕ) → end ≤ clock.cycle_limit → AllBelow (power_on cart.now recording pal) end n
@@ -151,7 +151,7 @@ pub fn parts_start_valid(cart: &Cart)
     cart.bytes();
 }
 
-/// They stay so after any events below a cycle of at most 2^50.
+/// They stay so after any events below a cycle of at most the cycle limit.
 pub fn parts_stay_valid()
     ensures { (m : Console) (end n : ℕ) → end ≤ clock.cycle_limit → HasValidParts m → AllBelow m end n → HasValidParts (ran m n) }
 {
@@ -163,7 +163,7 @@ pub fn region_stays()
     ensures { (m : Console) (moves : ℕ) → ((ran m moves).pal ≡ m.pal) × ((ran m moves).shared.vdp.pal ≡ m.shared.vdp.pal) }
 {}
 
-/// Where no event stood before a cycle, none does after any events below a cycle of at most 2^50.
+/// Where no event was before a cycle, none does after any events below a cycle of at most the cycle limit.
 pub fn quiet_stays()
     ensures { (m : Console) (at end n : ℕ) → end ≤ clock.cycle_limit → HasValidParts m → IsQuiet at m → AllBelow m end n → IsQuiet at (ran m n) }
 {

@@ -158,7 +158,7 @@ impl Machine {
     /// Each other worker is a thread of its own with the chip of its number. The caller serves the
     /// other chips, and with them the chip of each thread that the system refuses to start. A worker
     /// passes the gate before it looks for the turn of a chip. Lines of the picture may be drawn ahead of
-    /// their events; one whose VDP is another by then is drawn anew.
+    /// their events; one whose VDP is another by then is drawn again.
     pub fn segment<R: Threads + Wait + Sync, G: Gate>(
         &mut self,
         rt: &R,
@@ -186,7 +186,7 @@ impl Machine {
         }
     }
 
-    /// Exchanges the recording of the pads. The buttons that are pressed stay until the next line behind the
+    /// Exchanges the recording of the pads. The buttons that are pressed stay until the next line after the
     /// picture.
     pub fn set_recording(&mut self, recording: Arc<Recording>)
         ensures { self.new ≡ record self.old { console = record self.old.console { shared = record self.old.console.shared { recording = arc_value recording } } } }

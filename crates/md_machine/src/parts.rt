@@ -35,7 +35,8 @@ use z80_chip::Chip80;
 impl Machine {
     /// The machine at power-on, of a region, with this cartridge and this recording of the pads. All
     /// memory that it ever needs is taken here, but that in which lines are drawn ahead: the first segment of
-    /// several workers asks for it before its first event, and the machine goes without where there is none.
+    /// several workers asks for it before its first event, and the machine goes without where there is none. It
+    /// fails only when memory is out.
     pub fn power_on(
         alloc: Global,
         cart: Arc<Cart>,
@@ -56,7 +57,7 @@ impl Machine {
     /// The machine at a cycle that these parts make: chips without an answer that waits, the drawing
     /// half with its view, and the board of its region. Its batches of samples come next at the first multiple of
     /// 16,128 from `at` on, at 16,128 where `at` is 0. It holds no output: a finished frame is dropped,
-    /// whose picture stays. Memory is taken as at power-on.
+    /// whose picture stays. Memory is taken as at power-on, and it fails only when memory is out.
     pub fn from_parts(
         alloc: Global,
         at: u64,
@@ -131,7 +132,7 @@ struct SoundChips {
     psg: PsgChip,
 }
 
-/// The chips that make samples, of these parts; their next batch stands at a cycle.
+/// The chips that make samples, of these parts; their next batch is at a cycle.
 fn sound_chips(
     alloc: Global,
     fm: FmSynth,

@@ -103,7 +103,7 @@ impl ChipSet for MdChips {
         }
     }
 
-    /// The 68000 and the Z80 go on to their next access.
+    /// The 68000 and the Z80 continue to their next access.
     #[tactic(auto, unfolding(m68k_chip::specs::States::next_of, z80_chip::specs::States::next_of))]
     fn sample_ahead(chip: &mut Chip, pins: &Pins, end: &Key) -> u64 {
         match chip {

@@ -69,7 +69,8 @@ impl Machine {
         self.main_chip().cart()
     }
 
-    /// Where the next event is a sample of the 68000 that begins an instruction, its address; else none.
+    /// The address of the instruction that the next event begins; none where that event is no sample of the 68000,
+    /// or begins no instruction.
     pub fn begins(&self) -> Option<u32>
         ensures { result ≡ begins_in self.now.console }
     {

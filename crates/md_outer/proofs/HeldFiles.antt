@@ -78,7 +78,7 @@ pub begun_files-push : (names bytes : List (List ℕ)) (name b : List ℕ) → n
     → begun_files (names ++ name ∷ []) (bytes ++ b ∷ []) ≡ with_file (begun_files names bytes) name b
 begun_files-push names bytes name b new same = fun_ext (λ other. begun_files-push_at names bytes name b other new same)
 
--- the same, where the files stand in buffers
+-- the same, where the files are in buffers
 pub held-write : (names : List (List ℕ)) (buffers : List Buffer) (number : ℕ) (buffer : Buffer) (name b : List ℕ) → AreApart names → length buffers ≡ length names → slice_get names number ≡ Some name
     → buffer.bytes.items ≡ b → begun_files names (bytes_in (set buffers number buffer)) ≡ with_file (begun_files names (bytes_in buffers)) name b
 held-write names buffers number buffer name b apart same at is =
@@ -123,7 +123,7 @@ over-with_file front back name b = fun_ext (over-with_file_at front back name b)
 pub bytes_of-over : (front back : Files) (name b : List ℕ) → front name ≡ Some b → bytes_of (over front back) name ≡ b
 bytes_of-over front back name b held = rw held refl
 
--- behind all others, a begun file that is emptied or written
+-- after all others, a begun file that is emptied or written
 pub over-write : (names : List (List ℕ)) (buffers : List Buffer) (number : ℕ) (buffer : Buffer) (name b : List ℕ) (back : Files) → AreApart names → length buffers ≡ length names → slice_get names number ≡ Some name
     → buffer.bytes.items ≡ b → over (begun_files names (bytes_in (set buffers number buffer))) back ≡ with_file (over (begun_files names (bytes_in buffers)) back) name b
 over-write names buffers number buffer name b back apart same at is =

@@ -11,11 +11,11 @@ use Rattle.std.proofs.lemmas.Option.{slice_get-get_or, slice_get_cases}
 use Rattle.std.proofs.lemmas.Slice.Eq.{bytes_eq-Decides}
 use Rattle.md_outer.specs.Numbers.{number_of, AreApart}
 
--- what stands in the list keeps its place
+-- what is in the list keeps its place
 pub position-push-Some : {X : Type 0} (p : X → Bool) (xs : List X) (y : X) (k : ℕ) → position p xs ≡ Some k → position p (xs ++ y ∷ []) ≡ Some k
 position-push-Some p xs y k e = rw (position_or_len_push p xs y, length-append xs (y ∷ [])) (grind (arith, nat_tests))
 
--- what is new stands at the end
+-- what is new is at the end
 pub position-push-None : {X : Type 0} (p : X → Bool) (xs : List X) (y : X) → position p xs ≡ None → position p (xs ++ y ∷ []) ≡ cond (p y) (Some (length xs)) None
 position-push-None p xs y e =
     let within = prefix_len-le-length (λ x. not (p x)) xs in
@@ -71,7 +71,7 @@ within_of_some names number some = elim ((slice_get_cases names number).1) [
   | inr past ↦ (let none = past.1 in cc)
 ]
 
--- a number's name stands at it
+-- a number's name is at it
 pub name_at_number : (names : List (List ℕ)) (name : List ℕ) (number : ℕ) → number_of names name ≡ Some number → slice_get names number ≡ Some name
 name_at_number names name number e =
     let (within, same, _) = position-Some (λ held. bytes_eq held name) names number [] e in

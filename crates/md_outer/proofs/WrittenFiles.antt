@@ -37,7 +37,7 @@ with_file-other files output bytes name differ =
     let other : bytes_eq output name ≡ false = false_from_ne_true (bytes_eq output name) (λ same. differ ((bytes_eq-Decides output name).0 same)) in
     rw other refl
 
--- a piece behind the bytes of a file
+-- a piece after the bytes of a file
 pub file-longer : (base files new : Files) (name begun piece : List ℕ) → files ≡ with_file base name begun → new ≡ with_file files name (bytes_of files name ++ piece)
     → new ≡ with_file base name (begun ++ piece)
 file-longer base files new name begun piece is appended =

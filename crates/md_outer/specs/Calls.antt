@@ -15,6 +15,6 @@ calls_of calls = record { bad = calls.bad.items; made = calls.made }
 abbrev pub IsBad : CallPlan → Type 0
 IsBad plan = Contains plan.bad plan.made
 
--- the plan behind one more call; the count stops at its end
+-- the plan after one more call; the count stops at its end
 abbrev pub one_more : CallPlan → CallPlan
 one_more plan = record plan { made = min (plan.made + 1) (2 ^ 64 - 1) }

@@ -1,4 +1,4 @@
--- A depot in memory: what it tells, and its plan.
+-- A depot in memory: what is observable of it, and its plan.
 use Rattle.std.specs.Prelude.{◌≡◌, ℕ, List, Some, IsSome, slice_get}
 use Rattle.md_outer.specs.Begun.{begun_names, files_of}
 use Rattle.md_outer.specs.Calls.{CallPlan, calls_of}

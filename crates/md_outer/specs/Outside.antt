@@ -2,7 +2,7 @@
 use Rattle.std.specs.Prelude.{◌≡◌, ℕ, ◌+◌, ◌-◌, ◌^◌, ◌≤◌, min, List, [], ◌++◌, Option, Some, unwrap_or, IsSome, Result, OnOk, OnErr, if◌then◌else◌}
 use Rattle.std.specs.Str.{bytes_eq}
 
--- a count of faults rose; one that stands at its end counts as risen
+-- a count of faults rose; one that is at its end counts as risen
 abbrev pub Rose : ℕ → ℕ → Type 0
 Rose before now = min (before + 1) (2 ^ 64 - 1) ≤ now
 
@@ -35,13 +35,13 @@ pub record GoesOn (old new : DepotState) : Type 0 where
   pub reads : old.read_faults ≤ new.read_faults
   pub writes : old.write_faults ≤ new.write_faults
 
--- a sink: all bytes that were put, and its count of faults
+-- a sink: all bytes that were written, and its count of faults
 pub record SinkState : Type 0 where
   pub bytes : List ℕ
   pub faults : ℕ
 
--- What a sink does with a text. It is put whole at Ok; at an error the count rose, and a front part
--- was put. Of the bytes it speaks where the sink tells them.
+-- What a sink does with a text. It is written whole at Ok; at an error the count rose, and a prefix
+-- was written. It speaks of the bytes where they are observable.
 pub record PutsText {E : Type 0} (told : Type 0) (text : List ℕ) (old new : SinkState) (result : Result (Unit {0}) E) : Type 0 where
   pub later : old.faults ≤ new.faults
   pub whole : OnOk result (told → new.bytes ≡ old.bytes ++ text)

@@ -3,7 +3,7 @@ use Rattle.std.specs.Prelude.{◌≡◌, ℕ, ◌+◌, ◌-◌, ◌^◌, ◌<◌
 use Rattle.std.specs.Io.KnownBytes.{Appends, Consumes, IsAtEnd}
 use Rattle.md_outer.specs.Outside.{IsPrefix}
 
--- a front part of the piece stands behind what was written before
+-- a prefix of the piece comes after what was written before
 abbrev pub AppendsPart : List ℕ → Option (List ℕ) → Option (List ℕ) → Type 0
 AppendsPart piece old new = (part : List ℕ) × IsPrefix part piece × Appends old new part
 
@@ -15,7 +15,7 @@ Counts before more after = (min (before + more) (2 ^ 64 - 1) ≤ after) × (afte
 abbrev pub TakesAtMost : ℕ → Option (List ℕ) → Option (List ℕ) → ℕ → ℕ → Type 0
 TakesAtMost most old new before after = (taken : List ℕ) × Consumes old new taken × (length taken ≤ most) × Counts before (length taken) after
 
--- a read's bytes stand behind those that were there, and were counted; where it gave none, the end is reached
+-- a read's bytes come after those that were there, and were counted; where it gave none, the end is reached
 pub record AddsPart (most : ℕ) (more : Bool) (old new : Option (List ℕ)) (before after : List ℕ) (count counted : ℕ) : Type 0 where
   pub part : List ℕ
   pub taken : Consumes old new part

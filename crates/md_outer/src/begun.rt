@@ -94,7 +94,7 @@ impl Begun {
         Ok(number)
     }
 
-    /// Adds the piece at a file's end where it fits, and else nothing. Tells whether it was added.
+    /// Adds the piece at a file's end where it fits, and else nothing. Answers whether it was added.
     pub(crate) fn append(&mut self, number: u32, piece: &[u8]) -> bool
         requires { IsSome (slice_get (begun_names self.old) number) }
         ensures fits { OnTrue result ((name : List ℕ) (back : Files) → slice_get (begun_names self.old) number ≡ Some name

@@ -31,7 +31,7 @@ impl Buffer {
         self.bytes.clear();
     }
 
-    /// Adds the piece where it fits, and else nothing. Tells whether it was added.
+    /// Adds the piece where it fits, and else nothing. Answers whether it was added.
     pub(crate) fn append(&mut self, piece: &[u8]) -> bool
         ensures fits { OnTrue result (length self.old.bytes.items + length piece.now ≤ self.old.room) }
         ensures too_long { OnFalse result (self.old.room < length self.old.bytes.items + length piece.now) }

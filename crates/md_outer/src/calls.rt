@@ -16,7 +16,7 @@ impl Calls {
         Calls { bad, made: 0 }
     }
 
-    /// Counts a call, and tells whether it is to fail.
+    /// Counts a call, and answers whether it is to fail.
     pub(crate) fn next_fails(&mut self) -> bool
         ensures fails { IsTrue result ↔ IsBad (calls_of self.old) }
         ensures counted { calls_of self.new ≡ one_more (calls_of self.old) }

@@ -46,7 +46,7 @@ impl From<NoMemory> for Begin {
 /// It counts its faults of reading and of writing. A count never falls, and stops at 2^64 - 1,
 /// where it counts as risen.
 pub trait Depot {
-    /// Whether what the files hold is told to contracts. The names of begun numbers are told in
+    /// Whether contracts observe what the files hold. They observe the names of begun numbers in
     /// each case.
     ghost told: { Type 0 };
 
@@ -87,7 +87,7 @@ pub trait Depot {
     /// Adds the piece at the end of a begun file, by the number that `begin` of this depot
     /// answered. It takes no memory.
     ///
-    /// At `Failed` the count of write faults rose, and a front part of the piece was added, which
+    /// At `Failed` the count of write faults rose, and a prefix of the piece was added, which
     /// may be empty.
     fn append(&mut self, file: u32, piece: &[u8]) -> Result<(), Failed>
         requires { IsSome ((state self.old).begun file) }

@@ -9,7 +9,7 @@ use std::alloc::Global;
 use std::fs;
 use std::rt::Files;
 
-/// The files of the system as a depot. It tells no contents. A begun file stays open as long as the
+/// The files of the system as a depot. Contracts observe no contents. A begun file stays open as long as the
 /// depot.
 #[derive(Drop)]
 pub struct FileDepot<R: Files + Drop> {

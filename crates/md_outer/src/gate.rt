@@ -9,7 +9,7 @@ pub trait Gate: Sync {
     fn pass(&self, chip: u8, turn: u64);
 }
 
-/// The gate that always stands open: `pass` returns at once.
+/// The gate that is always open: `pass` returns at once.
 #[derive(Clone, Copy)]
 pub struct FreeGate;
 

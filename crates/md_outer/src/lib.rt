@@ -24,5 +24,5 @@ pub use mem_depot::MemDepot;
 pub use mem_sink::MemSink;
 pub use out_sink::OutSink;
 pub use sink::{Failed, Sink};
-/// Memory that was asked for is not there: the one error for want of memory.
+/// Memory that was asked for is not there: the one error when memory is out.
 pub use std::alloc::AllocError as NoMemory;

@@ -5,7 +5,7 @@ use crate::listed::listed;
 use crate::{Begin, Depot, Failed, Fetch, NoMemory};
 use std::alloc::Global;
 
-/// A depot in memory, which tells what its files hold and fails where it is told to.
+/// A depot in memory, whose contents contracts observe, and which fails where its plan says so.
 ///
 /// It holds the files that it was given and at most eight begun ones. A file that is begun again
 /// keeps its number.

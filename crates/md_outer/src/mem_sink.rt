@@ -4,7 +4,7 @@ use crate::fault::count_fault;
 use crate::{Failed, NoMemory, Sink};
 use std::alloc::Global;
 
-/// A sink in memory, which tells what was put and fails where it is told to.
+/// A sink in memory, whose bytes contracts observe, and which fails where its plan says so.
 #[derive(Drop)]
 pub struct MemSink {
     buffer: Buffer,
@@ -17,7 +17,7 @@ impl MemSink {
     ghost use Rattle.md_outer.specs.MemSink.{sink_state_of, sink_plan_of};
 
     /// An empty sink for at most `room` bytes, whose memory is taken now. `bad` has the numbers of
-    /// the puts that fail, counted from 0.
+    /// the writes that fail, counted from 0.
     pub fn new(alloc: Global, room: u64, bad: Vec<u64>) -> Result<MemSink, NoMemory>
         ensures empty { IfOk result (λ sink. sink_state_of sink ≡ record { bytes = []; faults = 0 }) }
         ensures plan { IfOk result (λ sink. sink_plan_of sink ≡ record { room = room; calls = record { bad = bad.items; made = 0 } }) }
@@ -30,7 +30,7 @@ impl MemSink {
         })
     }
 
-    /// All that was put.
+    /// All that was written.
     pub fn bytes(&self) -> &[u8]
         ensures { result.now ≡ (sink_state_of self.now).bytes }
     {
@@ -48,7 +48,7 @@ impl Sink for MemSink {
 
     ghost state = { sink_state_of };
 
-    /// Fails exactly where the plan has it or the room would be passed, and puts nothing then.
+    /// Fails exactly where the plan has it or the room would be passed, and writes nothing then.
     fn put(&mut self, piece: &[u8]) -> Result<(), Failed>
         ensures text { PutsText (Unit {0}) piece.now (sink_state_of self.old) (sink_state_of self.new) result }
         ensures fails { IsErr result ↔ (IsBad (sink_plan_of self.old).calls

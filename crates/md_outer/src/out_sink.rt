@@ -3,7 +3,7 @@ use crate::transfer::write_whole;
 use crate::{Failed, Sink};
 use std::io;
 
-/// Standard output as a sink. It tells no contents.
+/// Standard output as a sink. Contracts observe no contents.
 #[derive(Drop)]
 pub struct OutSink<R: Print + Drop> {
     rt: R,

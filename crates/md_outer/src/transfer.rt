@@ -10,7 +10,7 @@ use std::io::{Read, Write};
 /// How many bytes a read asks for at most.
 const PART: usize = 4096;
 
-/// Writes the whole piece. A write that fails, or takes nothing, ends it with a front part written.
+/// Writes the whole piece. A write that fails, or takes nothing, ends it with a prefix written.
 pub(crate) fn write_whole<W: Write>(to: &mut W, piece: &[u8]) -> Result<(), Failed>
     ensures whole { OnOk result (Appends (W.contents to.old) (W.contents to.new) piece.now) }
     ensures part { OnErr result (AppendsPart piece.now (W.contents to.old) (W.contents to.new)) }
@@ -48,7 +48,7 @@ pub(crate) fn read_to_limit<F: Read>(
     Err(Fetch::TooLong)
 }
 
-/// Adds what one read gives, at most `most` bytes, and counts them. Tells whether it gave any.
+/// Adds what one read gives, at most `most` bytes, and counts them. Answers whether it gave any.
 fn read_part<F: Read>(
     from: &mut F,
     most: usize,

@@ -14,7 +14,7 @@ use Rattle.md_pads.specs.declared.version.Version.{Version}
 use Rattle.md_pads.proofs.Frames.{length-frames, upper-first, upper-second, words-some, frames_there}
 use Rattle.md_pads.proofs.Versions.{is_lead}
 
--- where the count stands
+-- where the count is
 abbrev pub start : Version → ℕ
 start version = length (lead version)
 
@@ -242,7 +242,7 @@ keeps_from version xs b opened =
 pub begins-part : (version : Version) (xs ys : List ℕ) → BeginsIn version (xs ++ ys) → BeginsIn version xs
 begins-part version xs ys (frames, rest, spelled) = (frames, ys ++ rest, record { recording = spelled.recording; all = sym (append_assoc xs ys rest) ∙ spelled.all })
 
--- the byte that a recording may go on with: the lead's, and then 0
+-- the byte that a recording may continue with: the lead's, and then 0
 next : Version → List ℕ → ℕ
 next version xs = get_or (lead version) (length xs) 0
 

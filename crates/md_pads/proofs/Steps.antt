@@ -1,4 +1,4 @@
--- One step of the walk over bytes: whether a recording of a version goes on with the byte at a place.
+-- One step of the walk over bytes: whether a recording of a version continues with the byte at a place.
 use Rattle.std.proofs.Common.{◌≡◌, ℕ, ◌+◌, ◌-◌, ◌/◌, ◌<◌, ◌≤◌, ◌↔◌, true, eqb, leb, List, [], ◌∷◌, ◌++◌, length, get_or, take, drop, sym, ap, subst, ◌∙◌, inl, inr, arith}
 use Rattle.std.proofs.lemmas.Bool.{cases_lt, eqb-true, eq-eqb, leb-true, le-leb}
 use Rattle.std.proofs.lemmas.List.{take_more, take-take, take-append-drop, length-take, get_or-take, get_or_past}

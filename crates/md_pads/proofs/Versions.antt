@@ -17,7 +17,7 @@ pub lead-long : (version : Version) → 8 < length (lead version) → 9 < length
 lead-long First long = absurd (omega arith)
 lead-long (Second pad1 pad2) long = omega arith
 
--- bytes that stand one by one where others do
+-- bytes that are at each place where others are
 same_bytes : (xs ys : List ℕ) (i : ℕ) → ((j : ℕ) → j < length ys → get_or xs (i + j) 0 ≡ get_or ys j 0) → HasBytesAt xs i ys
 same_bytes xs [] i same = tt
 same_bytes xs (y ∷ ys) i same =

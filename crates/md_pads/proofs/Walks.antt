@@ -1,4 +1,4 @@
--- The walk over the versions: where bytes spell a recording of none of them, they go wrong at the end of
+-- The walk over the versions: where bytes spell a recording of none of them, they are invalid at the end of
 -- the longest prefix that a recording of some version begins with.
 use Rattle.std.proofs.Common.{◌≡◌, ℕ, ◌+◌, ◌<◌, ◌≤◌, List, [], length, get_or, take, max, refl, subst, sym, inl, inr, arith}
 use Rattle.std.specs.Cmp.{nat_cmp_is}
@@ -69,7 +69,7 @@ walked-more bytes count place prefix walked here none =
       ];
     }
 
--- each version was come to
+-- each version was reached
 found-in : (bytes : List ℕ) (place : ℕ) → Walked bytes 5 place → (version : Version) → ¬ IsSpelledIn version bytes
 found-in bytes place walked version spelled =
     let l = version_listed version in

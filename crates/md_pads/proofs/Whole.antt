@@ -27,7 +27,7 @@ frames_in-is version bytes frames spelled =
 pub spelled_in : (version : Version) (bytes : List ℕ) → IsSpelledIn version bytes → Spells bytes (of version (frames_in (drop (start version + 4) bytes)))
 spelled_in version bytes (frames, spelled) = subst (λ (fs : List Frame). Spells bytes (of version fs)) (frames_in-is version bytes frames spelled) spelled
 
--- what was read from the bytes behind the head is what they spell
+-- what was read from the bytes after the header is what they spell
 pub read_spelled : (version : Version) (bytes body : List ℕ) (frames : List Frame) → IsSpelledIn version bytes → body ≡ drop (start version + 4) bytes → frames ≡ frames_in body → Spells bytes (of version frames)
 read_spelled version bytes body frames spelled behind read =
     subst (λ (fs : List Frame). Spells bytes (of version fs)) (ap frames_in (sym behind) ∙ sym read) (spelled_in version bytes spelled)

@@ -37,17 +37,17 @@ memory = 80000
 abbrev pub in_force : ℕ → Port → ℕ
 in_force cycle port = if nat_lt cycle (port.fall + memory) then port.count else 0
 
--- the port behind a write at a cycle, by whether TH was 1 before it: a fall of TH is counted, and the
+-- the port after a write at a cycle, by whether TH was 1 before it: a fall of TH is counted, and the
 -- fifth is the first again
 abbrev pub counted : ℕ → Bool → Port → Port
 counted cycle was_high port =
     if was_high && not (is_th_high port) then record port { count = 1 + in_force cycle port % 4; fall = cycle } else port
 
--- the port behind a write of its value
+-- the port after a write of its value
 abbrev pub value_written : ℕ → ℕ → Port → Port
 value_written cycle value port = counted cycle (is_th_high port) (record port { value = value })
 
--- the port behind a write of its control
+-- the port after a write of its control
 abbrev pub control_written : ℕ → ℕ → Port → Port
 control_written cycle value port = counted cycle (is_th_high port) (record port { control = value })
 

@@ -1,5 +1,5 @@
--- What the steps of the reader say of bytes, which may be those of one version. What a recording is stands
--- in `Recording`.
+-- What the steps of the reader say of bytes, which may be those of one version. `Recording` says what
+-- a recording is.
 use Rattle.std.specs.Prelude.{◌≡◌, ℕ, ◌+◌, ◌*◌, ◌%◌, ◌<◌, ◌≤◌, true, false, List, [], ◌∷◌, ◌++◌, length, take, slice_index}
 use Rattle.std.specs.Int.{w16, w32, from_be_bytes}
 use Rattle.md_pads.specs.Recording.{Frame, Spells, six, words}
@@ -24,7 +24,7 @@ pub record IsLongestIn (version : Version) (bytes : List ℕ) (place : ℕ) : Ty
   pub begins : BeginsIn version (take place bytes)
   pub longest : (n : ℕ) → n ≤ length bytes → BeginsIn version (take n bytes) → n ≤ place
 
--- the count behind so many bytes, or the least that begins with those that are there
+-- the count after so many bytes, or the least that begins with those that are there
 abbrev pub least_count : ℕ → List ℕ → ℕ
 least_count start bytes =
     from_be_bytes w32 (slice_index bytes start ∷ slice_index bytes (start + 1) ∷ slice_index bytes (start + 2) ∷ slice_index bytes (start + 3) ∷ [])
@@ -33,7 +33,7 @@ least_count start bytes =
 abbrev pub whole_len : ℕ → List ℕ → ℕ
 whole_len start bytes = start + 4 + 4 * least_count start bytes
 
--- so many bytes behind the count a byte may stand: the upper one of a word has bits of buttons alone
+-- so many bytes after the count a byte may be there: the upper one of a word has bits of buttons alone
 abbrev pub HasByte : Version → ℕ → ℕ → Type 0
 HasByte version offset byte =
     (offset % 4 ≡ 0 → 256 * byte < words (six version 1)) × (offset % 4 ≡ 2 → 256 * byte < words (six version 2))

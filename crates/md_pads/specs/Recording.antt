@@ -49,7 +49,7 @@ pub record IsRecording (recorded : Recorded) : Type 0 where
 abbrev pub frame_bytes : Frame → List ℕ
 frame_bytes frame = to_be_bytes w16 frame.0 ++ to_be_bytes w16 frame.1
 
--- what a recording's bytes begin with: the mark of its version and, in the second, a word of flags, of
+-- what a recording's bytes begin with: the magic of its version and, in the second, a word of flags, of
 -- which bit 0 is that of pad 1 and bit 1 that of pad 2
 abbrev pub lead : Version → List ℕ
 lead First = codes "MDREC001"
@@ -78,7 +78,7 @@ pub record IsLongestPrefix (bytes : List ℕ) (place : ℕ) : Type 0 where
   pub begins : BeginsRecording (take place bytes)
   pub longest : (n : ℕ) → n ≤ length bytes → BeginsRecording (take n bytes) → n ≤ place
 
--- the bytes spell no recording, and go wrong at this place
+-- the bytes spell no recording, and are invalid from this offset on
 pub record GoesWrongAt (bytes : List ℕ) (place : ℕ) : Type 0 where
   pub none : ¬ IsSpelled bytes
   pub longest : IsLongestPrefix bytes place

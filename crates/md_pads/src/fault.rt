@@ -8,10 +8,11 @@ use std::alloc::AllocError;
 pub enum RecFault {
     /// They spell no recording.
     Form {
-        /// How many of the bytes some recording begins with. So it is where the first wrong byte stands,
-        /// or where the bytes end too early.
+        /// The offset of the first invalid byte, or of the end of bytes that end too early: how many
+        /// of the bytes some recording begins with.
         place: u64,
     },
+    /// They spell a recording, and memory is out.
     NoMemory,
 }
 

@@ -1,4 +1,4 @@
-//! What the table of a port comes to.
+//! What the table of a port results in.
 ghost use Rattle.std.specs.Prelude.{◌≡◌, ℕ, false};
 ghost use Rattle.md_pads.specs.Pad.{Port, pad_value};
 

@@ -1,4 +1,4 @@
-//! Control pads: recordings of what was pressed, and the port that a pad hangs on.
+//! Control pads: recordings of what was pressed, and the port to which a pad is connected.
 #![tactic(auto)]
 
 mod buttons;

@@ -146,7 +146,7 @@ impl PadPort {
         }
     }
 
-    /// Counts a fall of TH behind a write at a cycle, by whether TH was 1 before it.
+    /// Counts a fall of TH after a write at a cycle, by whether TH was 1 before it.
     fn count_fall(&mut self, cycle: u64, was_high: bool)
         requires { cycle ≤ cycle_limit }
         ensures { self.new ≡ counted cycle was_high self.old }
@@ -182,7 +182,7 @@ fn usual_levels(bit_7: bool, high: bool, pressed: Buttons) -> [bool; 8]
     }
 }
 
-/// Those behind the third fall.
+/// Those after the third fall.
 fn third_levels(bit_7: bool, high: bool, pressed: Buttons) -> [bool; 8]
     ensures { result ≡ bit_7 ∷ third_lines high (word_of pressed) }
 {
@@ -202,7 +202,7 @@ fn third_levels(bit_7: bool, high: bool, pressed: Buttons) -> [bool; 8]
     }
 }
 
-/// Those behind the fourth fall.
+/// Those after the fourth fall.
 fn fourth_levels(bit_7: bool, high: bool, pressed: Buttons) -> [bool; 8]
     ensures { result ≡ bit_7 ∷ fourth_lines high (word_of pressed) }
 {

@@ -29,7 +29,7 @@ const VERSIONS: [Version; 5] = [
     },
 ];
 
-/// Where the count stands: how many bytes are before it.
+/// Where the count is: how many bytes are before it.
 pub(crate) fn start(version: Version) -> usize
     ensures place { result ≡ length (lead version) }
     ensures early { result ≤ 10 }
@@ -43,7 +43,7 @@ fn byte_or_0(bytes: &[u8], place: usize) -> u8
     bytes.get(place).copied().unwrap_or(0)
 }
 
-/// The count behind so many bytes, or the least that begins with those that are there.
+/// The count after so many bytes, or the least that begins with those that are there.
 fn least_count(start: usize, bytes: &[u8]) -> u32
     requires { start ≤ 10 }
     ensures { result ≡ least_count start bytes.now }
@@ -75,7 +75,7 @@ fn is_upper_byte(six: bool, byte: u8) -> bool
     }
 }
 
-/// Whether the words of the frames may have this byte so many bytes behind the count.
+/// Whether the words of the frames may have this byte so many bytes after the count.
 fn is_frame_byte(version: Version, offset: usize, byte: u8) -> bool
     ensures { IsTrue result ↔ HasByte version offset byte }
 {
@@ -86,7 +86,7 @@ fn is_frame_byte(version: Version, offset: usize, byte: u8) -> bool
     }
 }
 
-/// Whether some recording of the version has, after the bytes before this place, the byte that stands
+/// Whether some recording of the version has, after the bytes before this place, the byte that is
 /// there.
 fn goes_on(version: Version, bytes: &[u8], place: usize) -> bool
     requires within { place < length bytes.now }

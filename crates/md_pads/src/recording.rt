@@ -11,7 +11,7 @@ use std::marker::Model;
 /// The greatest number of frames of a recording.
 pub const MOST_FRAMES: u32 = 1_048_576;
 
-/// The length of the count behind a recording's lead, in bytes.
+/// The length of the count after a recording's lead, in bytes.
 pub(crate) const COUNT: usize = 4;
 
 /// What was pressed on two control pads, frame by frame, for at most 1,048,576 frames. Contracts see
@@ -46,6 +46,7 @@ impl Recording {
     }
 
     /// The recording of version 1 of these frames: of two pads with three buttons. The frames are copied.
+    /// It fails only when memory is out.
     pub fn of(alloc: Global, frames: &[(u16, u16)]) -> Result<Recording, NoMemory>
         requires { IsRecording (recording_of frames.now) }
         ensures { IfOk result (λ recording. recording ≡ recording_of frames.now) }
@@ -57,9 +58,10 @@ impl Recording {
     }
 
     /// Reads the bytes of a recording: `MDREC001`, or `MDREC002` and a big-endian word in which bits 0 and
-    /// 1 tell whether pad 1 and pad 2 have six buttons; then a big-endian count of frames in four bytes, and
-    /// for each frame the words of pad 1 and pad 2, big-endian. Memory is asked for once, and only where the
-    /// bytes spell a recording.
+    /// 1 say whether pad 1 and pad 2 have six buttons; then a big-endian count of frames in four bytes, and
+    /// for each frame the words of pad 1 and pad 2, big-endian. It fails where the
+    /// bytes spell no recording, with the offset of the first invalid one. Memory is asked for once, and only
+    /// where they spell a recording: it fails then when memory is out.
     pub fn read(alloc: Global, bytes: &[u8]) -> Result<Recording, RecFault>
         // What is read is spelled so.
         ensures found { IfOk result (λ recording. Spells bytes.now recording) }
@@ -82,7 +84,8 @@ impl Recording {
         Ok(Recording { version, frames })
     }
 
-    /// The one spelling of the recording, which `read` reads as this recording and no other.
+    /// The one spelling of the recording, which `read` reads as this recording and no other. It fails only
+    /// when memory is out.
     pub fn write(&self, alloc: Global) -> Result<Vec<u8>, NoMemory>
         ensures ok { IfOk result (λ bytes. Spells bytes.items self.now) }
         ensures only { IfOk result (λ bytes. (recorded : Recorded) → Spells bytes.items recorded → recorded ≡ self.now) }

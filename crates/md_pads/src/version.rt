@@ -16,7 +16,7 @@ pub enum Version {
 }
 
 impl Version {
-    /// What the file of a recording begins with: a mark of eight bytes and, in the second version, a word of
+    /// What the file of a recording begins with: a magic of eight bytes and, in the second version, a word of
     /// flags, big-endian, in which bit 0 is that of pad 1 and bit 1 that of pad 2.
     pub fn lead(self) -> &'static [u8]
         ensures { result.now ≡ lead self }

@@ -56,7 +56,7 @@ flag = by_way number flag_number flag_of flag_same
 abbrev pub write_both : {A B : Type 0} → Way A → Way B → A × B → List ℕ → List ℕ
 write_both first second p rest = first.write p.0 (second.write p.1 rest)
 
--- both of a pair, one behind the other
+-- both of a pair, one after the other
 abbrev pub read_both : {A B : Type 0} → Way A → Way B → List ℕ → (A × B) × List ℕ
 read_both first second l = (((first.read l).0, (second.read (first.read l).1).0), (second.read (first.read l).1).1)
 
@@ -75,7 +75,7 @@ abbrev pub write_either : {A B : Type 0} → Way A → Way B → A ⊎ B → Lis
 write_either first second (inl a) rest = 0 ∷ first.write a rest
 write_either first second (inr b) rest = 1 ∷ second.write b rest
 
--- the one whose side is told
+-- the one whose side is given
 abbrev pub read_either : {A B : Type 0} → Way A → Way B → List ℕ → (A ⊎ B) × List ℕ
 read_either first second [] = (inl (first.read []).0, (first.read []).1)
 read_either first second (zero ∷ rest) = (inl (first.read rest).0, (first.read rest).1)
@@ -133,7 +133,7 @@ abbrev pub write_all : {A : Type 0} → Way A → List A → List ℕ → List �
 write_all way [] rest = rest
 write_all way (x ∷ xs) rest = way.write x (write_all way xs rest)
 
--- so many values, one behind the other
+-- so many values, one after the other
 abbrev pub read_all : {A : Type 0} → Way A → ℕ → List ℕ → List A × List ℕ
 read_all way zero l = ([], l)
 read_all way (suc n) l = ((way.read l).0 ∷ (read_all way n (way.read l).1).0, (read_all way n (way.read l).1).1)

@@ -16,6 +16,6 @@ pub struct Entry {
     pub kind: u8,
     /// The address, or the number of the line or of the batch.
     pub address: u32,
-    /// The value that was read, written or told.
+    /// The value that was read, written or reported.
     pub value: u16,
 }

@@ -25,7 +25,7 @@ pub struct Transfer {
 /// What a shared access of the 68000 answers.
 #[derive(Clone, Copy, PartialEq, Eq, Debug)]
 pub struct Answer68 {
-    /// The value read; a byte stands in the low half; 0 for a write and an acknowledge.
+    /// The value read; a byte is in the low half; 0 for a write and an acknowledge.
     pub value: u16,
     /// The transfer that a write started.
     pub transfer: Option<Transfer>,

@@ -1,6 +1,6 @@
 /// An addressing mode of the 68000 with its extension words read.
 ///
-/// A number is that of the mode's register, of eight. An index is told by three fields: which
+/// A number is that of the mode's register, of eight. An index is given by three fields: which
 /// register it is (0 to 7 for D0 to D7, 8 to 15 for A0 to A7), whether all 32 bits of it count, and
 /// the displacement byte. Source: M68000 Programmer's Reference Manual, section 2.
 #[derive(Clone, Copy)]

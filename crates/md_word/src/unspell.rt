@@ -1,6 +1,6 @@
 ghost use Rattle.std.specs.Prelude.{◌≡◌};
 
-/// Why memory that was asked for is not there: the one error for want of memory.
+/// Why memory that was asked for is not there: the one error when memory is out.
 pub use std::alloc::AllocError as NoMemory;
 
 /// Why bytes of a saved state are refused as the spelling of a value.

@@ -60,7 +60,7 @@ fn differ(a: &[u8; PAGE], b: &[u8; PAGE]) -> bool
     !is_same
 }
 
-/// Tells for each place whether its page is another one than that of the newest state, and returns at
+/// Notes for each place whether its page is another one than that of the newest state, and returns at
 /// how many places it is.
 fn compare(shelf: &Shelf, per_state: usize, state: &[u8], changed: &mut [bool; MOST]) -> usize
     requires sizes { (per_state ≤ 256) × (per_state ≤ length shelf.now.items) × (length state.now ≡ per_state * 4096) }
@@ -143,7 +143,8 @@ fn put_state(shelf: &mut Shelf, per_state: usize, state: &[u8], changed: &[bool;
 }
 
 impl PageRing {
-    /// A ring over `pages` pages, which takes its memory here, for states of `per_state` pages.
+    /// A ring over `pages` pages, which takes its memory here, for states of `per_state` pages. It fails
+    /// only when memory is out.
     pub fn make(alloc: Global, pages: u32, per_state: u32) -> Result<PageRing, NoMemory>
         requires { (1 ≤ per_state) × (per_state ≤ pages) × (pages ≤ 65536) × (per_state ≤ 256) }
         ensures { IfOk result (λ ring. (ring.pages ≡ pages) × (ring.per_state ≡ per_state) × (ring.states ≡ [])) }

@@ -1,11 +1,11 @@
--- What a cartridge's file has to be. This project's profile; the mark is that of Sega's Genesis
+-- What a cartridge's file has to be. This project's profile; the magic is that of Sega's Genesis
 -- Technical Overview.
 use Rattle.std.specs.Prelude.{◌≡◌, ◌≤◌, ℕ, ◌%◌, ◌==◌, nat_lt, Bool, ◌||◌, if◌then◌else◌, List, [], ◌∷◌, ◌++◌, length, slice_range, codes, Option, Some, None}
 use Rattle.std.specs.Str.{bytes_eq}
 use Rattle.rom_header.specs.declared.cart.CartFault.{CartFault}
 use Rattle.rom_header.specs.declared.cart.CartFault.TheVariants.{Short, Long, NoMark}
 
--- "SEGA" stands at 100h or at 101h
+-- "SEGA" is at 100h or at 101h
 abbrev pub has_mark : List ℕ → Bool
 has_mark bytes = bytes_eq (slice_range bytes 0x100 0x104) (codes "SEGA") || bytes_eq (slice_range bytes 0x101 0x105) (codes "SEGA")
 

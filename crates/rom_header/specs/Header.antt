@@ -1,4 +1,4 @@
--- The header of a cartridge's image, and the lines that tell what it says. The fields stand as in the
+-- The header of a cartridge's image, and the lines that print what it says. The fields are as in the
 -- headers of Sega's cartridges; the lines are this project's profile.
 use Rattle.std.specs.Prelude.{ℕ, ◌-◌, ◌/◌, ◌%◌, ◌==◌, nat_le, Bool, ◌||◌, ◌&&◌, if◌then◌else◌, List, [], ◌∷◌, ◌++◌, length, take, drop, map, sum, slice_range, codes, decimal}
 use Rattle.std.specs.Char.{digit_char}
@@ -32,7 +32,7 @@ unfoldable pub words_of : List ℕ → List ℕ
 words_of (high ∷ low ∷ rest) = from_be_bytes w16 (high ∷ low ∷ []) ∷ words_of rest
 words_of rest = []
 
--- the checksum of what stands behind the header: the sum of the words from 200h to the end
+-- the checksum of what comes after the header: the sum of the words from 200h to the end
 abbrev pub computed_checksum : List ℕ → ℕ
 computed_checksum image = sum (words_of (drop 0x200 image)) % 65536
 
@@ -64,7 +64,7 @@ verdict kept computed = if kept == computed then codes " ok" else codes " differ
 
 -- THE LINES
 
--- a label and what it tells
+-- a label and what follows it
 abbrev pub line : List ℕ → List ℕ → List ℕ
 line label told = label ++ told ++ codes "\n"
 

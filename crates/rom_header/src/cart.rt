@@ -19,8 +19,9 @@ pub enum CartFault {
     Short,
     /// It has more than 4 MiB.
     Long,
-    /// The text `SEGA` stands neither at 100h nor at 101h.
+    /// The text `SEGA` is neither at 100h nor at 101h.
     NoMark,
+    /// A byte is to be added to make the length even, and memory is out.
     NoMemory,
 }
 
@@ -31,7 +32,7 @@ pub struct Cart {
     bytes: Vec<u8>,
 }
 
-/// Whether the mark of the console stands where its boot code looks for it.
+/// Whether the magic of the console is where its boot code looks for it.
 fn has_mark(bytes: &[u8]) -> bool
     requires { 512 ≤ length bytes.now }
     ensures { result ≡ has_mark bytes.now }
@@ -48,8 +49,10 @@ impl Model for Cart {
 }
 
 impl Cart {
-    /// Accepts the bytes of a cartridge's file. They are refused as too short, else as too long,
-    /// else as bearing no mark.
+    /// Accepts the bytes of a cartridge's file.
+    ///
+    /// It fails where they are too short, else where they are too long, else where they have no
+    /// magic, and else where their number is odd and memory for one more byte is out.
     pub fn accept(_alloc: Global, mut bytes: Vec<u8>) -> Result<Cart, CartFault>
         ensures refused { IfSome (fault_of bytes.items) (λ fault. result ≡ Err fault) }
         ensures accepted { IfOk result (λ cart. (fault_of bytes.items ≡ None) × (cart ≡ image bytes.items)) }
@@ -79,11 +82,11 @@ impl Cart {
         self.bytes.as_slice()
     }
 
-    /// The lines that tell what the header says: `domestic: `, `overseas: `, `serial: ` and `region: `,
+    /// The lines that print what the header says: `domestic: `, `overseas: `, `serial: ` and `region: `,
     /// each with its field, then `size: ` with the image's bytes, and `checksum: ` with the word that is
     /// kept at 18Eh, the sum of the words from 200h to the end modulo 65,536, and `ok` where they are the
     /// same, else `differs`. A field is shown without the bytes 00h and 20h at its end, and with a dot for
-    /// each byte outside 20h to 7Eh.
+    /// each byte outside 20h to 7Eh. It fails only when memory is out.
     pub fn info(&self, alloc: Global) -> Result<Vec<u8>, AllocError>
         ensures { IfOk result (λ text. text.items ≡ header.header_lines self.now) }
     {

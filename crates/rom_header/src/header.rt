@@ -7,7 +7,7 @@ ghost use Rattle.rom_header.specs.Header as meaning;
 use itoa::Buffer;
 use std::alloc::{AllocError, Global};
 
-/// The lines that tell what the header of an image says.
+/// The lines that print what the header of an image says.
 #[tactic(auto, unfolding(crate::specs::Header::header_lines))]
 pub(crate) fn header_lines(alloc: Global, image: &[u8]) -> Result<Vec<u8>, AllocError>
     requires { IsImage image.now }
@@ -40,7 +40,7 @@ fn kept_checksum(image: &[u8]) -> u16
     u16::from_be_bytes([image[0x18e], image[0x18f]])
 }
 
-/// The checksum of what stands behind the header.
+/// The checksum of what comes after the header.
 #[tactic(auto, unfolding(crate::specs::Header::words_of))]
 fn computed_checksum(image: &[u8]) -> u16
     requires { IsImage image.now }

@@ -2,11 +2,11 @@ use md_outer::Gate;
 use std::sync::atomic::{AtomicBool, AtomicU64, Ordering};
 use std::thread::yield_now;
 
-// How often one looks for the others before it goes on alone.
+// How often one looks for the others before it continues alone.
 const LOOKS: u32 = 1_000_000;
 
 // A gate at which the first chip of each of so many workers waits, at its first pass of a run, until those of all
-// have come. As none goes on before, each of them passes on another thread.
+// have come. As none continues earlier, each of them passes on another thread.
 #[derive(Drop)]
 pub struct Crowd {
     workers: u64,
@@ -23,7 +23,7 @@ impl Crowd {
         }
     }
 
-    // One comes, and goes on once all have come.
+    // One comes, and continues once all have come.
     fn come(&self) {
         self.came.fetch_add(1, Ordering::SeqCst);
         for _look in 0..LOOKS {

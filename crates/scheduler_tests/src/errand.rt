@@ -2,10 +2,10 @@ use md_outer::Gate;
 use std::sync::atomic::{AtomicBool, AtomicU64, Ordering};
 use std::thread::yield_now;
 
-// How often the one who waits for an errand looks whether it was run before it goes on.
+// How often the one who waits for a job looks whether it was run before it continues.
 const LOOKS: u32 = 1_000_000;
 
-// An errand that counts its runs, and a gate at which the second chip's first turn waits for one.
+// A job that counts its runs, and a gate at which the second chip's first turn waits for one.
 #[derive(Drop)]
 pub struct Errand {
     begun: AtomicBool,

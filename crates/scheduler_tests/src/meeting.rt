@@ -2,7 +2,7 @@ use md_outer::Gate;
 use std::sync::atomic::{AtomicBool, AtomicU64, Ordering};
 use std::thread::yield_now;
 
-// How often one of two looks for the other before it goes on alone.
+// How often one of two looks for the other before it continues alone.
 const LOOKS: u32 = 1_000_000;
 
 // A place where two come again and again, and each time wait for one another.
@@ -22,7 +22,7 @@ impl Meeting {
         }
     }
 
-    // The first or the second comes, and goes on once the other has come as often.
+    // The first or the second comes, and continues once the other has come as often.
     pub fn come(&self, number: u8) {
         if number == 0 {
             self.wait(self.first.fetch_add(1, Ordering::SeqCst), &self.second);

@@ -177,7 +177,7 @@ fn at_start(
     }
 }
 
-// The two at cycle 0, at accesses or at samples, each bound equal to its chip's key, with an errand or none.
+// The two at cycle 0, at accesses or at samples, each bound equal to its chip's key, with a job or none.
 pub fn power_on(
     alloc: Global,
     sample: bool,

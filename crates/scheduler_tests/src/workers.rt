@@ -51,7 +51,7 @@ fn private_work_of_two_workers_overlaps(rt: HostRuntime) -> Result<(), Fail> {
 }
 
 // Each of five private works of each chip waits for the other's: workers that went on one after the other
-// behind their first events would never meet again.
+// after their first events would never meet again.
 #[test]
 fn private_work_of_two_workers_overlaps_to_the_end(rt: HostRuntime) -> Result<(), Fail> {
     let meeting = Arc::new(rt.alloc(), Meeting::new())?;
@@ -61,8 +61,8 @@ fn private_work_of_two_workers_overlaps_to_the_end(rt: HostRuntime) -> Result<()
     Ok(())
 }
 
-// The second chip waits at the gate for the errand: with none who runs it beside the turns, it would go on
-// after a while, and the errand would lie there to the end.
+// The second chip waits at the gate for the job: with none who runs it beside the turns, it would continue
+// after a while, and the job would be queued to the end.
 #[test]
 fn a_helper_runs_an_errand(rt: HostRuntime) -> Result<(), Fail> {
     let meeting = Arc::new(rt.alloc(), Meeting::new())?;

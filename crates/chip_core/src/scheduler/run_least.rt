@@ -13,7 +13,7 @@ use md_word::Key;
 
 /// Brings a core to the machine after all events below cycle `t`: it announces every chip, and then
 /// lets the chip of least bound make its event and announces it again, until no bound lies below.
-/// A chip that samples goes on at once, up to the bounds of the chips that write its pins.
+/// A chip that samples continues at once, up to the bounds of the chips that write its pins.
 ///
 /// The journal has to have a free place for each access below `t`, which [`crate::laws::room`]
 /// shows.

@@ -82,8 +82,8 @@ impl<C: ChipSet, N: Named, L0: Ledger, L1: Ledger, L2: Ledger, L3: Ledger, L4: L
         false
     }
 
-    /// Looks for a while until so many helpers have left. Once the run has ended they do so at once, or behind the
-    /// errand that they are at: to sleep until then, and to be woken, would take longer.
+    /// Looks for a while until so many helpers have left. Once the run has ended they do so at once, or after the
+    /// job that they are at: to sleep until then, and to be woken, would take longer.
     pub(crate) fn see_off(&self, helpers: u8) {
         for _ in 0..GLANCES {
             if self.left.load(Ordering::SeqCst) >= u64::from(helpers) {

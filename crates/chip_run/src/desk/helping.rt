@@ -12,10 +12,10 @@ use std::sync::ledger::Ledger;
 /// How often a helper looks for work before it sleeps.
 const LOOKS: u32 = 20_000;
 
-/// How often it looks for an errand before it ends, where no more work comes.
+/// How often it looks for a job before it ends, where no more work comes.
 const LAST_LOOKS: u32 = 1_000;
 
-/// Whether an errand lies there that nobody has begun.
+/// Whether a job is queued that nobody has begun.
 fn has_errand<C: ChipSet>(errands: &Option<C::Errands>) -> bool {
     match errands {
         Some(errands) => C::has_errand(errands),
@@ -23,7 +23,7 @@ fn has_errand<C: ChipSet>(errands: &Option<C::Errands>) -> bool {
     }
 }
 
-/// Runs an errand, if one lies there that nobody has begun; answers whether one did.
+/// Runs a job, if one is queued that nobody has begun; answers whether one did.
 fn run_errand<C: ChipSet, R: Wait>(rt: &R, errands: &Option<C::Errands>) -> bool {
     let Some(errands) = errands else {
         return false;
@@ -67,7 +67,7 @@ impl<C: ChipSet, N: Named, L0: Ledger, L1: Ledger, L2: Ledger, L3: Ledger, L4: L
         found
     }
 
-    /// Does due private work until no more comes, or enough others wait for it, and runs errands where none is
+    /// Does due private work until no more comes, or enough others wait for it, and runs jobs where none is
     /// due.
     pub(crate) fn help<R: Wait>(&self, rt: &R, errands: &Option<C::Errands>) {
         for _ in rt.forever() {
@@ -90,8 +90,8 @@ impl<C: ChipSet, N: Named, L0: Ledger, L1: Ledger, L2: Ledger, L3: Ledger, L4: L
         unreachable!()
     }
 
-    /// Waits for a change after so many: it looks for a while, and then sleeps, but not while an errand lies
-    /// there. Answers whether it goes on: it does not where enough other helpers look and no change came.
+    /// Waits for a change after so many: it looks for a while, and then sleeps, but not while a job is
+    /// queued. Answers whether it continues: it does not where enough other helpers look and no change came.
     ///
     /// No change is missed: it is counted before the one who makes it looks for a watch, and a helper ends its
     /// watch before it looks at the count for the last time, under the lock under which it is woken.
@@ -118,7 +118,7 @@ impl<C: ChipSet, N: Named, L0: Ledger, L1: Ledger, L2: Ledger, L3: Ledger, L4: L
         }
     }
 
-    /// Looks for a change after so many, or for an errand, until there is one, so often at most.
+    /// Looks for a change after so many, or for a job, until there is one, so often at most.
     fn look(&self, seen: u64, errands: &Option<C::Errands>, times: u32) {
         for _ in 0..times {
             if self.changes.load(Ordering::SeqCst) != seen || has_errand::<C>(errands) {
@@ -128,11 +128,11 @@ impl<C: ChipSet, N: Named, L0: Ledger, L1: Ledger, L2: Ledger, L3: Ledger, L4: L
         }
     }
 
-    /// Looks for an errand for a while, and runs it and those that lie there then, as long as the run has not
+    /// Looks for a job for a while, and runs it and those that are queued then, as long as the run has not
     /// ended: from there the leader waits for the helper.
     ///
-    /// No end is missed: the run is marked as ended before that is counted as a change, and a helper reads the
-    /// count before the mark.
+    /// No end is missed: the run is flagged as ended before that is counted as a change, and a helper reads the
+    /// count before the flag.
     fn linger<R: Wait>(&self, rt: &R, errands: &Option<C::Errands>) {
         let seen = self.changes.load(Ordering::SeqCst);
         if errands.is_none() || self.ended.load(Ordering::SeqCst) {

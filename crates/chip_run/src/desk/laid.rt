@@ -6,7 +6,7 @@ use crate::{Helds, Named};
 use chip_core::ChipSet;
 use std::sync::ledger::Ledger;
 
-/// What a worker finds on the desk.
+/// What a worker finds in the work queue.
 #[derive(Clone, Copy)]
 pub(crate) enum Found {
     /// The chip of this number, of which private work is due.
@@ -16,7 +16,7 @@ pub(crate) enum Found {
     Over,
 }
 
-/// The chips that lie on the desk.
+/// The chips that lie in the work queue.
 #[derive(Drop)]
 pub(crate) struct Laid<
     C: ChipSet,
@@ -58,7 +58,7 @@ impl<C: ChipSet, N: Named, L0: Ledger, L1: Ledger, L2: Ledger, L3: Ledger, L4: L
         }
     }
 
-    /// Lays down a chip of which work is due.
+    /// Queues a chip of which work is due.
     pub(crate) fn lay_due(&mut self, helds: &mut Helds<C, N, L0, L1, L2, L3, L4>, chip: u8)
         requires { FreeBut chip helds.old }
         ensures { AllFree helds.new }
@@ -66,7 +66,7 @@ impl<C: ChipSet, N: Named, L0: Ledger, L1: Ledger, L2: Ledger, L3: Ledger, L4: L
         helds.move_to(&mut self.due, chip);
     }
 
-    /// Lays down a chip of which none is due.
+    /// Queues a chip of which none is due.
     pub(crate) fn lay_done(&mut self, helds: &mut Helds<C, N, L0, L1, L2, L3, L4>, chip: u8)
         requires { AllFree helds.old }
         ensures { AllFree helds.new }

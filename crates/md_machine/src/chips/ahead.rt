@@ -8,28 +8,28 @@ use std::sync::atomic::{AtomicBool, Ordering};
 use vdp_ahead::{Place, Sheet, Tray};
 
 /// The first line that is drawn ahead of its event, where a helper draws some: by then the lines before it give
-/// the helper the time to begin, and to draw those of the first sheet.
+/// the helper the time to begin, and to draw those of the first line buffer.
 const FIRST: u32 = 48;
 
-/// The first line of the second sheet.
+/// The first line of the second line buffer.
 const SECOND: u32 = 128;
 
-/// The line behind the last of any display.
+/// The line after the last of any display.
 const END: u32 = 240;
 
-/// Behind how many pictures lines are drawn ahead anew, where none of them was of use.
+/// After how many pictures lines are drawn ahead again, where none of them was of use.
 const REST: u8 = 8;
 
-/// The lines of a picture that are drawn ahead of their events, on two sheets.
+/// The lines of a picture that are drawn ahead of their events, in two pre-rendered scanline buffers.
 #[derive(Drop)]
 pub(crate) struct Ahead {
-    /// Where sheets go to be drawn, and come back.
+    /// Where line buffers go to be drawn, and return.
     tray: Arc<Tray>,
-    /// A sheet that lies neither there nor on the board.
+    /// A line buffer that lies neither there nor on the board.
     spare: Option<Box<Sheet>>,
-    /// Another one, where both sheets do.
+    /// Another one, where both line buffers do.
     other: Option<Box<Sheet>>,
-    /// Whether the memory of the sheets has been asked for.
+    /// Whether the memory of the line buffers has been asked for.
     prepared: AtomicBool,
     /// Whether lines of this picture are drawn ahead.
     asked: bool,
@@ -55,7 +55,7 @@ impl Ahead {
         })
     }
 
-    /// Where sheets go to be drawn, for one who draws. With the first call both sheets are made, and lie there
+    /// Where line buffers go to be drawn, for one who draws. With the first call both line buffers are made, and lie there
     /// without a line; where there is no memory for one, it is missing from there on.
     pub(crate) fn tray(&self) -> Option<Arc<Tray>> {
         if !self.prepared.swap(true, Ordering::SeqCst) {
@@ -65,26 +65,26 @@ impl Ahead {
         self.tray.clone().ok()
     }
 
-    /// Lays a new sheet without a line in an empty place, if there is memory for one.
+    /// Lays a new line buffer without a line in an empty place, if there is memory for one.
     fn lay_blank(&self, place: &Place) {
         if let Ok(sheet) = Sheet::blank(self.alloc) {
             place.ask(sheet);
         }
     }
 
-    /// Whether anyone has ever looked for a sheet to draw.
+    /// Whether anyone has ever looked for a line buffer to draw.
     #[inline]
     pub(crate) fn is_watched(&self) -> bool {
         self.tray.is_watched()
     }
 
-    /// A line was taken from a sheet.
+    /// A line was taken from a line buffer.
     #[inline]
     pub(crate) fn was_of_use(&mut self) {
         self.used = true;
     }
 
-    /// With the first line of a picture asks for later lines to be drawn ahead; with the others takes a sheet
+    /// With the first line of a picture it asks for later lines to be drawn ahead. With the others it takes a line buffer
     /// back that was drawn, and lays it on the board.
     pub(crate) fn exchange(&mut self, line: u32, pal: bool, shared: &mut Shared)
         ensures { shared.new ≡ shared.old }
@@ -100,7 +100,7 @@ impl Ahead {
         }
     }
 
-    /// Lays a sheet on the board, if there is one, in the place of the one there.
+    /// Lays a line buffer on the board, if there is one, in the place of the one there.
     fn lay(&mut self, sheet: Option<Box<Sheet>>, shared: &mut Shared)
         ensures { shared.new ≡ shared.old }
     {
@@ -112,7 +112,7 @@ impl Ahead {
         }
     }
 
-    /// Asks for the later lines of a picture whose display is on, to be drawn from the VDP as it stands.
+    /// Asks for the later lines of a picture whose display is on, to be drawn from the VDP as it is.
     fn begin(&mut self, pal: bool, shared: &mut Shared)
         ensures { shared.new ≡ shared.old }
     {
@@ -130,7 +130,7 @@ impl Ahead {
         }
     }
 
-    /// Whether lines of a picture are to be drawn ahead: if its display is on, and not for some pictures behind
+    /// Whether lines of a picture are to be drawn ahead: if its display is on, and not for some pictures after
     /// one of which they were drawn in vain.
     fn is_worth_it(&mut self, shown: bool) -> bool {
         if self.asked && !self.used {
@@ -142,7 +142,7 @@ impl Ahead {
         self.asked
     }
 
-    /// A sheet whose lines are not being drawn, if there is one.
+    /// A line buffer whose lines are not being drawn, if there is one.
     fn idle_sheet(&mut self, shared: &mut Shared) -> Option<Box<Sheet>>
         ensures { shared.new ≡ shared.old }
     {
@@ -161,14 +161,14 @@ impl Ahead {
         self.tray.second().take()
     }
 
-    /// Keeps a sheet that could not be laid down, if there is one.
+    /// Keeps a line buffer that could not be queued, if there is one.
     fn keep(&mut self, sheet: Option<Box<Sheet>>) {
         if let Some(sheet) = sheet {
             self.put_by(sheet);
         }
     }
 
-    /// Keeps a sheet that lies neither on the tray nor on the board.
+    /// Keeps a line buffer that lies neither on the double buffer nor on the board.
     fn put_by(&mut self, sheet: Box<Sheet>) {
         if self.spare.is_none() {
             self.spare = Some(sheet);
@@ -178,8 +178,8 @@ impl Ahead {
     }
 }
 
-/// Lays down a sheet for the lines of a picture from one on and below another, to be drawn from the VDP as it
-/// stands. It comes back where the place cannot be had at once.
+/// Queues a line buffer for the lines of a picture from one on and below another, to be drawn from the VDP as it
+/// is. It returns where the place cannot be had at once.
 fn ask(
     mut sheet: Box<Sheet>,
     place: &Place,

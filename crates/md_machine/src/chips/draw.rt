@@ -119,7 +119,7 @@ impl DrawChip {
         }
     }
 
-    /// Where sheets of lines go to be drawn ahead, for one who draws.
+    /// Where line buffers go to be drawn ahead, for one who draws.
     pub(crate) fn tray(&self) -> Option<Arc<Tray>> {
         self.ahead.tray()
     }
@@ -163,7 +163,7 @@ fn lent_view(chip: &mut ChipVdp, view: &mut Option<Box<LineView>>) -> (Box<LineV
     }
 }
 
-/// Draws the next line from the view, which comes back with it.
+/// Draws the next line from the view, which returns with it.
 #[tactic(auto, using(crate::specs::LineLaws::lent_drawn))]
 fn draw_lent(chip: &mut ChipVdp, view: Box<LineView>)
     requires view { chip.old.has_view ≡ false }
@@ -177,7 +177,7 @@ fn draw_lent(chip: &mut ChipVdp, view: Box<LineView>)
     chip.answer_with(view, &dots, note);
 }
 
-/// Draws the next line of a scene, or takes it from a sheet of lines that were drawn ahead; answers whether it
+/// Draws the next line of a scene, or takes it from a line buffer that was drawn ahead; answers whether it
 /// was taken.
 fn draw_line(chip: &mut ChipVdp, sheet: Option<&Sheet>, scene: &Scene) -> bool
     requires view { chip.old.has_view ≡ true }
@@ -195,7 +195,7 @@ fn draw_line(chip: &mut ChipVdp, sheet: Option<&Sheet>, scene: &Scene) -> bool
     false
 }
 
-/// Takes the next line from a sheet, if it was drawn there; answers whether it was.
+/// Takes the next line from a line buffer, if it was drawn there; answers whether it was.
 fn place_ahead(chip: &mut ChipVdp, sheet: &Sheet) -> bool
     requires view { chip.old.has_view ≡ true }
     requires cycle { chip.old.next < cycle_limit }

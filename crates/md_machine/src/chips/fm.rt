@@ -37,7 +37,7 @@ impl Model for FmChip {
 impl FmChip {
     ghost use Rattle.md_machine.specs.Parts.{IsFm};
 
-    /// A synthesis whose next batch stands at a cycle, and which took and kept nothing.
+    /// A synthesis whose next batch is at a cycle, and which took and kept nothing.
     pub(crate) fn new(alloc: Global, synth: FmSynth, cycle: u64) -> Result<FmChip, NoMemory>
         ensures { IfOk result (λ chip. chip ≡ record { synth = synth; cycle = cycle; taken = []; samples = [] }) }
     {
@@ -95,7 +95,7 @@ impl FmChip {
         self.cycle += BATCH;
     }
 
-    /// Whether the chip may be heard as it stands: a batch then takes many times as long as an idle chip's. The
+    /// Whether the chip may be heard as it is: a batch then takes many times as long as an idle chip's. The
     /// writes of the next batch are not looked at, so one in which an idle chip begins to sound is not found.
     pub(crate) fn is_dear(&self) -> bool {
         !self.synth.is_idle()

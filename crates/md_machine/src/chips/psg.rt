@@ -35,7 +35,7 @@ impl Model for PsgChip {
 impl PsgChip {
     ghost use Rattle.md_machine.specs.Parts.{IsPsg};
 
-    /// A synthesis whose next batch stands at a cycle, and which took and kept nothing.
+    /// A synthesis whose next batch is at a cycle, and which took and kept nothing.
     pub(crate) fn new(alloc: Global, synth: PsgSynth, cycle: u64) -> Result<PsgChip, NoMemory>
         ensures { IfOk result (λ chip. chip ≡ record { synth = synth; cycle = cycle; taken = []; samples = [] }) }
     {

@@ -3,11 +3,11 @@ use Rattle.std.proofs.KnownBytes.{Consumes-trans}
 use Rattle.md_outer.specs.Transfer.{Counts}
 use Rattle.md_outer.proofs.transfer.read_to_limit.Goals as goal
 
--- counts behind one another are one
+-- counts in sequence are one
 counts-on : (a n b m c all : ℕ) → Counts a n b → Counts b m c → all ≡ n + m → Counts a all c
 counts-on a n b m c all first second sum = (omega (arith, first, second, sum), omega (arith, first, second, sum))
 
--- what the failed read took stands behind what is held
+-- what the failed read took comes after what is held
 pub returns-in_err-read_part-clause-takes : goal.returns-in_err-read_part-clause-takes
 returns-in_err-read_part-clause-takes g c =
     let (within, held, counts) = c.reading.invariant in
