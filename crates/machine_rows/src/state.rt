@@ -40,7 +40,7 @@ impl State {
         }
     }
 
-    /// Goes on to the next row, with nothing of this one.
+    /// Continues to the next row, with nothing of this one.
     pub(crate) fn clear(&mut self, alloc: Global) {
         self.image = Vec::new(alloc);
         self.pads = Vec::new(alloc);

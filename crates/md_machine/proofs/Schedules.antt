@@ -36,7 +36,7 @@ use Rattle.md_machine.proofs.Moves.{five-each, key-same}
 use Rattle.md_machine.proofs.Segments.{batches-few, core-run, fm_batches-few, segment-run}
 use Rattle.md_machine.proofs.ValidParts.{Stages, console_again, machine_in, valid_in}
 
--- what the laws of the scheduler tell
+-- what the laws of the scheduler say
 pub record CoreLaws : Type 0 where
   pub mover : Movers
   pub valid : Stages
