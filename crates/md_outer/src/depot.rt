@@ -11,13 +11,16 @@ pub enum Fetch {
     Failed,
     /// The file is longer than the limit.
     TooLong,
+    /// Memory is out.
     NoMemory,
 }
 
 /// Why a file is not begun.
 #[derive(Clone, Copy, PartialEq, Eq, Debug)]
 pub enum Begin {
+    /// The file cannot be made.
     Failed,
+    /// Memory is out.
     NoMemory,
 }
 
@@ -55,8 +58,9 @@ pub trait Depot {
 
     /// The bytes of a file, of at most `limit` bytes. It changes no file.
     ///
-    /// A file that is not held is `Failed` and no fault. Each other `Failed` has a fault of
-    /// reading. A longer file is `TooLong`.
+    /// It is `Failed` where no such file is held, which is no fault, or where a read failed, which is a
+    /// fault of reading. It is `TooLong` where the file is longer than the limit, and `NoMemory` when
+    /// memory is out.
     fn fetch(&mut self, alloc: Global, name: &str, limit: u64) -> Result<Vec<u8>, Fetch>
         ensures within { IfOk result (λ bytes. length bytes.items ≤ limit) }
         ensures bytes { IfOk result (λ bytes. told → (state self.old).files name.now ≡ Some bytes.items) }
@@ -72,8 +76,10 @@ pub trait Depot {
         ensures writes { (state self.new).write_faults ≡ (state self.old).write_faults }
         ensures goes_on { GoesOn (state self.old) (state self.new) };
 
-    /// Makes a file empty, and answers its number, by which it is appended to. A `begin` that is
-    /// refused changes no file.
+    /// Makes a file empty, and answers its number, by which it is appended to.
+    ///
+    /// It is `Failed` where the file cannot be made, which is a fault of writing, and `NoMemory` when
+    /// memory is out. Either changes no file.
     fn begin(&mut self, alloc: Global, name: &str) -> Result<u32, Begin>
         ensures begun { IfOk result (λ file. (state self.new).begun file ≡ Some name.now) }
         ensures emptied { OnOk result (told → (state self.new).files ≡ with_file (state self.old).files name.now []) }
@@ -87,8 +93,8 @@ pub trait Depot {
     /// Adds the piece at the end of a begun file, by the number that `begin` of this depot
     /// answered. It takes no memory.
     ///
-    /// At `Failed` the count of write faults rose, and a prefix of the piece was added, which
-    /// may be empty.
+    /// It is `Failed` where the file did not take the whole piece. Then the count of write faults rose,
+    /// and a prefix of the piece was added, which may be empty.
     fn append(&mut self, file: u32, piece: &[u8]) -> Result<(), Failed>
         requires { IsSome ((state self.old).begun file) }
 

@@ -27,7 +27,8 @@ impl MemDepot {
     /// A depot that holds these files, of which the first of a name counts. No file is begun.
     ///
     /// Each begun file can hold `room` bytes. `bad_reads` has the numbers of the fetches that fail,
-    /// counted from 0, and `bad_writes` those of the begins and appends, counted together.
+    /// counted from 0, and `bad_writes` those of the begins and appends, counted together. It fails
+    /// only when memory is out.
     pub fn new(
         alloc: Global,
         files: Vec<(String, Vec<u8>)>,
@@ -56,7 +57,7 @@ impl MemDepot {
         })
     }
 
-    /// What a file holds; nothing exactly where no such file is held.
+    /// What a file holds; none exactly where no such file is held.
     pub fn file(&self, name: &str) -> Option<&[u8]>
         ensures { option_copied result ≡ (depot_state_of self.now).files name.now }
     {

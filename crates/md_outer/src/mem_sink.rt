@@ -17,7 +17,7 @@ impl MemSink {
     ghost use Rattle.md_outer.specs.MemSink.{sink_state_of, sink_plan_of};
 
     /// An empty sink for at most `room` bytes, whose memory is taken now. `bad` has the numbers of
-    /// the writes that fail, counted from 0.
+    /// the writes that fail, counted from 0. It fails only when memory is out.
     pub fn new(alloc: Global, room: u64, bad: Vec<u64>) -> Result<MemSink, NoMemory>
         ensures empty { IfOk result (λ sink. sink_state_of sink ≡ record { bytes = []; faults = 0 }) }
         ensures plan { IfOk result (λ sink. sink_plan_of sink ≡ record { room = room; calls = record { bad = bad.items; made = 0 } }) }

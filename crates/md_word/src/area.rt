@@ -18,7 +18,7 @@ pub enum Area {
 }
 
 impl Area {
-    /// The area of an address on the bus, where it is shared.
+    /// The area of an address on the bus; none where the address is not shared.
     #[tactic(auto, unfolding(crate::specs::Map::area_of))]
     pub fn of(address: u32) -> Option<Area>
         ensures { result ≡ map.area_of address }

@@ -1,4 +1,5 @@
-/// The 68000's condition codes, the low five bits of its status register.
+/// The 68000's condition codes, the low five bits of its status register. Source: M68000 Programmer's Reference
+/// Manual, section 1.1.
 #[derive(Clone, Copy, PartialEq, Eq, Debug)]
 pub struct Flags {
     /// Extend, bit 4.

@@ -1,4 +1,5 @@
-/// A shared access of the 68000. Addresses are below 2^24.
+/// A shared access of the 68000. Addresses are below 2^24, and bytes of words are big-endian. Source: M68000
+/// User's Manual, the bus; Genesis Technical Overview, the memory map.
 #[derive(Clone, Copy, PartialEq, Eq, Debug)]
 pub enum Request68 {
     Read8(u32),
@@ -11,7 +12,8 @@ pub enum Request68 {
     Word(u16),
 }
 
-/// A transfer of words to the VDP, which the 68000 makes after the instruction that started it.
+/// A transfer of words to the VDP, which the 68000 makes after the instruction that started it. Source: Genesis
+/// Technical Overview, DMA.
 #[derive(Clone, Copy, PartialEq, Eq, Debug)]
 pub struct Transfer {
     /// The address of the next word, even and below 2^24.

@@ -1,6 +1,7 @@
 ghost use Rattle.std.specs.Prelude.{IsTrue, ◌==◌, ◌||◌};
 
-/// The interrupt pins of the 68000, as it samples them before an instruction.
+/// The interrupt pins of the 68000, as it samples them before an instruction. Source: M68000 User's Manual, the
+/// signals.
 #[derive(Clone, Copy)]
 pub struct Pins68 {
     /// The interrupt level: 0 none, 4 horizontal, 6 vertical.
@@ -8,7 +9,7 @@ pub struct Pins68 {
     pub ghost known: { IsTrue (level == 0 || level == 4 || level == 6) },
 }
 
-/// The pins of the Z80, as it samples them before an instruction.
+/// The pins of the Z80, as it samples them before an instruction. Source: Zilog UM0080, the pins.
 #[derive(Clone, Copy, PartialEq, Eq, Debug)]
 pub struct Pins80 {
     /// The bus is requested for the 68000.

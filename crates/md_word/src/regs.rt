@@ -8,7 +8,7 @@ pub const TRACE: u16 = 0x8000;
 /// The status register's supervisor bit.
 pub const SUPERVISOR: u16 = 0x2000;
 
-/// The registers of the 68000.
+/// The registers of the 68000. Source: M68000 Programmer's Reference Manual, section 1.1.
 #[derive(Clone, Copy)]
 pub struct Regs {
     /// D0 to D7

@@ -1,4 +1,5 @@
-/// What the time of an instruction depends on beside the operation itself.
+/// What the time of an instruction depends on beside the operation itself. Source: M68000 User's Manual, section
+/// 8.
 #[derive(Clone, Copy, PartialEq, Eq, Debug)]
 pub struct Spent {
     /// A branch was taken, or a condition held.

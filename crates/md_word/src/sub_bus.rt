@@ -10,7 +10,8 @@ pub struct Parcel {
     pub ghost bank_in_range: { bank < 512 },
 }
 
-/// A shared access of the Z80. Addresses are the Z80's.
+/// A shared access of the Z80. Addresses are the Z80's. Source: Genesis Technical Overview, the memory map of the
+/// Z80.
 #[derive(Drop)]
 pub enum Request80 {
     Read(u16),
