@@ -35,7 +35,7 @@ pub fn section<C: ChipSet, N: Named, L0: Ledger, L1: Ledger, L2: Ledger, L3: Led
     section_on(locked, helds, chip)
 }
 
-/// Whenever the lock is free, what lies behind it is, with the chips that the counted counts lead to,
+/// Whenever the lock is free, what lies behind it is, with the chips that the event counts lead to,
 /// a core that stands for the run's base.
 pub fn standing<C: ChipSet, N: Named, L0: Ledger, L1: Ledger, L2: Ledger, L3: Ledger, L4: Ledger>(
     locked: &Locked<C, N, L0, L1, L2, L3, L4>,
