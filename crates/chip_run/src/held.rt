@@ -20,8 +20,8 @@ pub enum Due<P> {
 }
 
 /// A chip that a worker holds, with the whole share of its ledger, whose amount is the number of the
-/// chip's counted moves since the run began, the number of samples that it made beyond these under its
-/// lease, and the number of passes made for it.
+/// chip's counted moves since the run began. With it come the number of samples that it made beyond these
+/// under its lease, and the number of passes made for it.
 #[derive(Drop)]
 pub struct Held<C: ChipSet, N: Named, L: Ledger> {
     pub(crate) number: u8,

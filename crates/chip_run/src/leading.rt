@@ -86,8 +86,9 @@ fn turn_on<C: ChipSet, N: Named, L0: Ledger, L1: Ledger, L2: Ledger, L3: Ledger,
     }
 }
 
-/// Takes the turns of the held chips, always that of least bound, until one has made its event whose private
-/// work is worth offloading, or a chip that is not held has the least bound, or no bound lies below the run's end.
+/// Takes the turns of the held chips, always that of least bound. It stops once one has made its event whose
+/// private work is worth offloading, where a chip that is not held has the least bound, or where no bound lies
+/// below the run's end.
 pub(crate) fn lead<
     C: ChipSet,
     N: Named,

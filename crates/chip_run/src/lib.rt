@@ -1,10 +1,12 @@
 //! The bus lock and the workers: the chips of one run are moved by several threads, each chip by
 //! the thread that holds it, with all that they share behind one lock.
 //!
-//! Whatever threads there are and however they take turns, the core that returns is the one that
-//! a single thread would have made (`run_core`): a chip makes its event only where the core of
-//! chip_core lets it (`laws::section`), so what lies behind the lock always stands for the run's
-//! base (`laws::standing`). That a thread gets on, or that several run at once, is promised
+//! Whatever threads there are and however they take turns, the core that `run_core` returns is the one
+//! that a single thread would have made. A chip makes its event only where the core of chip_core lets it
+//! (`laws::section`). So what lies behind the lock always stands for the run's base (`laws::standing`).
+//!
+//! There are five kinds of step on what lies behind the lock: `make`, a section of a round, a wait that gives
+//! the lock back unchanged, the leader's whole turn of a chip, and `gather`. That a thread gets on, or that several run at once, is promised
 //! nowhere.
 #![tactic(auto)]
 

@@ -51,9 +51,10 @@ fn run_named<
     gather(bus, helds)
 }
 
-/// Runs the core to cycle `t` with so many workers, 1 to the count of its chips: after it, all
-/// events below `t` and no other have been made, and the journal has their accesses and the room
-/// that it had, whatever threads there are and however they take turns.
+/// Runs the core to cycle `t` with so many workers, 1 to the count of its chips.
+///
+/// After it, all events below `t` and no other have been made, and the journal has their accesses and the
+/// room that it had. So it is whatever threads there are and however they take turns.
 pub fn run_core<C: ChipSet, R: Threads + Wait + Sync, G: Gate>(
     rt: &R,
     core: Core<C>,

@@ -88,10 +88,11 @@ impl<C: ChipSet> CoreFixture<C> {
 
     /// What is answered where a core is asked this.
     ///
-    /// `events T E, E` how many events of a list happen below a cycle; `do E` whether an event is enabled, which then
-    /// is made by its own call; `enabled T E`; `next T` the event that the core chooses; `short T` whether an event
-    /// lies below a cycle; `bounds`; `journal` and `journal K` the number of entries of the last events, and one;
-    /// `writes I J` whether a chip writes another's pins; `count` the number of chips.
+    /// `events T E, E` is how many events of a list happen below a cycle. `do E` is whether an event is enabled, which
+    /// then is made by its own call; `enabled T E` is that alone. `next T` is the event that the core chooses, and
+    /// `short T` whether an event lies below a cycle. `bounds` are the bounds. `journal` is the number of entries of
+    /// the last events, and `journal K` one of them. `writes I J` is whether a chip writes another's pins, and
+    /// `count` the number of chips. It fails where the text is no such question, or when memory is out.
     pub fn ask(&mut self, alloc: Global, asked: &str) -> Result<String, RowError> {
         let (verb, rest) = asked.split_once(' ').unwrap_or((asked, ""));
         match verb {

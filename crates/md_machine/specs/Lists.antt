@@ -19,9 +19,9 @@ use Rattle.md_machine.specs.Refinement.{console_of}
 use Rattle.md_machine.specs.Rules.{five}
 use Rattle.md_machine.specs.declared.chips.Chip.{Chip}
 
--- a list of enabled events below a cycle: it is no longer than what can be there; it gets stuck nowhere,
--- since some event is enabled until none is below the cycle; and then it has led to the machine of the
--- run, with its journal
+-- a list of enabled events below a cycle: it is no longer than what can be there. It gets stuck nowhere,
+-- since some event is enabled until none is below the cycle. Then it has led to the machine of the run,
+-- with its journal
 pub record EndsAsRun (start : Console) (from to : ℕ) (list : List Event) (z : Seen Chip Board) : Type 0 where
   pub few : length list ≤ events_within five (to - from)
   pub goes_on : machines.IsQuiet five z.machine to ⊎ ((event : Event) × IsEnabled five z to event)

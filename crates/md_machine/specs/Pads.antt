@@ -10,7 +10,7 @@ abbrev pub lines_begun : Console → ℕ
 lines_begun z = z.line / line
 
 -- the words of the pads after so many lines have begun: none is pressed before the line after the
--- picture of the first frame; from then on they are the recording's words of the frame of which that
+-- picture of the first frame. From then on they are the recording's words of the frame of which that
 -- line began last
 abbrev pub pads_shown : Bool → Recorded → ℕ → Frame
 pads_shown pal recording begun = if nat_le begun (rows pal) then (0, 0) else pads_of recording ((begun - (rows pal + 1)) / lines pal)

@@ -31,7 +31,7 @@ pub fn mover_is_first()
 {}
 
 /// The first moves of a machine, and after them moves of the machine to which they lead, are together
-/// its moves: they lead to the same machine, with the entries, the frames and the samples of the first
+/// its moves. They lead to the same machine, and the entries, the frames and the samples of the first are
 /// followed by those of the later.
 pub fn moves_added()
     ensures machine { (m : Console) (first later : ℕ) → ran m (first + later) ≡ ran (ran m first) later }
@@ -81,9 +81,8 @@ pub fn samples_counted()
         → IsRunTo start.console end z entries output → length output.levels ≡ 16 * (batches_below end - batches_below start.at) }
 {}
 
-/// A run from a start to a cycle makes a frame for each cycle 766,080 + 896,040 n, or on PAL
-/// 820,800 + 1,070,460 n, at which the line after the picture of frame n begins, that lies between the
-/// two and below the end.
+/// A run from a start to a cycle makes a frame for each start of the line after a picture that lies between
+/// the two and below the end. For frame n that is cycle 766,080 + 896,040 n, or on PAL 820,800 + 1,070,460 n.
 pub fn frames_counted()
     ensures { (start : Start) (z : Console) (end : ℕ) (entries : List Entry) (output : Media) → IsStart start
         → IsRunTo start.console end z entries output → length output.frames ≡ frames_below start.console.pal end - frames_below start.console.pal start.at }
@@ -97,7 +96,7 @@ pub fn few_events(machine: &Machine)
 }
 
 /// Wherever enabled events of the core lead that a machine's chips make, with their keys as bounds and an
-/// empty journal: a list of them below any cycle up to the last has an end, no list gets stuck, and each that
+/// empty journal: a list of them below any cycle up to the last has an end, and none gets stuck. Each list that
 /// leaves no event below the cycle leads to the machine of the run, with its journal. In segments of a frame's
 /// cycles at most, each from the core that the one before left and that was drained, the frames and samples
 /// too are those of the run.
@@ -113,7 +112,7 @@ pub fn few_in_list()
 {}
 
 /// From power-on, after any number of events, the pads show no button before the line after the picture
-/// of the first frame has begun, line 224 or on PAL 240, and from then on the recording's words of the
+/// of the first frame has begun, line 224 or on PAL 240. From then on they show the recording's words of the
 /// frame of which that line began last.
 pub fn pads_are_recorded()
     ensures { (cart : List ℕ) (recording : Recorded) (pal : Bool) (moves : ℕ) → ShowsPads pal recording (ran (power_on cart recording pal) moves) }

@@ -15,8 +15,9 @@ const BIT_7: u8 = 0x80;
 /// For how many master cycles a six-button pad remembers a fall of TH.
 const MEMORY: u64 = 80_000;
 
-/// The port of a pad of three buttons or of six: the last byte written to its data, the last written to its
-/// control, how many falls of TH its pad counted, up to four, and the master cycle of the last of them.
+/// The port of a pad of three buttons or of six. It keeps the last byte written to its data and the last written
+/// to its control. It also keeps how many falls of TH its pad counted, up to four, and the master cycle of the
+/// last of them.
 /// Source: Genesis Technical Overview, the control pads; of the count this project's profile.
 #[derive(Clone, Copy)]
 pub struct PadPort {
@@ -70,7 +71,7 @@ impl PadPort {
     /// 0 while it is pressed. TH is bit 6 of the value latch where bit 6 of the control latch is 1, else 1.
     /// With TH at 1 bits 6 to 0 are 1, C, B, Right, Left, Down and Up; with TH at 0 they are 0, Start, A, 0,
     /// 0, Down and Up. A six-button pad that counted three falls reads 1, C, B, Mode, X, Y and Z with TH at 1,
-    /// and 0, Start, A, 0, 0, 0, 0 with TH at 0; one that counted four reads 0, Start, A, 1, 1, 1, 1 with TH
+    /// and 0, Start, A, 0, 0, 0, 0 with TH at 0. One that counted four reads 0, Start, A, 1, 1, 1, 1 with TH
     /// at 0. 80,000 cycles after the last fall the count is forgotten. Bit 7 is that of the value latch.
     pub fn read(&self, cycle: u64, six: bool, buttons: u16) -> u8
         ensures { result ≡ pad_value cycle six self.now buttons }

@@ -15,8 +15,8 @@ pub const MOST_FRAMES: u32 = 1_048_576;
 pub(crate) const COUNT: usize = 4;
 
 /// What was pressed on two control pads, frame by frame, for at most 1,048,576 frames. Contracts see
-/// its version and the list of its frames: the words of pad 1 and pad 2, in which bits 0 to 7 are Up, Down,
-/// Left, Right, B, C, A and Start, bits 8 to 11 of a six-button pad Z, Y, X and Mode, and the others 0.
+/// its version and the list of its frames: the words of pad 1 and pad 2. Bits 0 to 7 of a word are Up, Down,
+/// Left, Right, B, C, A and Start, and bits 8 to 11 of a six-button pad Z, Y, X and Mode. The others are 0.
 /// Source: this project's profile.
 #[derive(Drop)]
 pub struct Recording {
@@ -57,11 +57,12 @@ impl Recording {
         })
     }
 
-    /// Reads the bytes of a recording: `MDREC001`, or `MDREC002` and a big-endian word in which bits 0 and
-    /// 1 say whether pad 1 and pad 2 have six buttons; then a big-endian count of frames in four bytes, and
-    /// for each frame the words of pad 1 and pad 2, big-endian. It fails where the
-    /// bytes spell no recording, with the offset of the first invalid one. Memory is asked for once, and only
-    /// where they spell a recording: it fails then when memory is out.
+    /// Reads the bytes of a recording. They begin with `MDREC001`, or with `MDREC002` and a big-endian word in
+    /// which bits 0 and 1 say whether pad 1 and pad 2 have six buttons. Then come a big-endian count of frames in
+    /// four bytes, and for each frame the words of pad 1 and pad 2, big-endian.
+    ///
+    /// It fails where the bytes spell no recording, with the offset of the first invalid one. Memory is asked for
+    /// once, and only where they spell a recording: it fails then when memory is out.
     pub fn read(alloc: Global, bytes: &[u8]) -> Result<Recording, RecFault>
         // What is read is spelled so.
         ensures found { IfOk result (λ recording. Spells bytes.now recording) }

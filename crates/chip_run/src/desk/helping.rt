@@ -93,8 +93,8 @@ impl<C: ChipSet, N: Named, L0: Ledger, L1: Ledger, L2: Ledger, L3: Ledger, L4: L
     /// Waits for a change after so many: it looks for a while, and then sleeps, but not while a job is
     /// queued. Answers whether it continues: it does not where enough other helpers look and no change came.
     ///
-    /// No change is missed: it is counted before the one who makes it looks for a watch, and a helper ends its
-    /// watch before it looks at the count for the last time, under the lock under which it is woken.
+    /// No change is missed. It is counted before the one who makes it looks for a watch. A helper ends its watch
+    /// before it looks at the count for the last time, under the lock under which it is woken.
     fn wait_for_change<R: Wait>(&self, rt: &R, seen: u64, errands: &Option<C::Errands>) -> bool {
         let others = self.watches.fetch_add(1, Ordering::SeqCst);
         if others < self.staying {
