@@ -85,8 +85,8 @@ impl Cart {
     /// The lines that print what the header says: `domestic: `, `overseas: `, `serial: ` and `region: `,
     /// each with its field, then `size: ` with the image's bytes, and `checksum: `. That has the word that is
     /// kept at 18Eh and the sum of the words from 200h to the end modulo 65,536; words are big-endian. After
-    /// them comes `ok` where they are the same, else `differs`. A field is shown without the bytes 00h and 20h at its end, and with a dot for
-    /// each byte outside 20h to 7Eh. It fails only when memory is out.
+    /// them comes `ok` where they are the same, else `differs`. A field is shown without the bytes 00h and 20h at
+    /// its end, and with a dot for each byte outside 20h to 7Eh. It fails only when memory is out.
     pub fn info(&self, alloc: Global) -> Result<Vec<u8>, AllocError>
         ensures { IfOk result (λ text. text.items ≡ header.header_lines self.now) }
     {
