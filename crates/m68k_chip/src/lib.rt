@@ -4,6 +4,7 @@
 
 mod case;
 mod chip;
+mod events;
 mod known;
 mod lap;
 mod resuming;
