@@ -21,7 +21,7 @@ use Rattle.m68k_chip.specs.declared.case.Case.TheVariants.{Halted, Trace, Interr
 use Rattle.m68k_chip.specs.declared.lap.Lap.{Lap}
 use Rattle.m68k_chip.specs.declared.lap.Place.{Place}
 use Rattle.m68k_chip.specs.declared.lap.Place.TheVariants.{Away, PastRead, AtRead}
-use Rattle.m68k_chip.specs.declared.lap.Watched.{Watched}
+use Rattle.m68k_chip.specs.declared.watched.Watched.{Watched}
 use Rattle.m68k_chip.specs.declared.sequencer.Sequencer.{Sequencer}
 use Rattle.m68k_chip.proofs.Ahead.{more-ahead, one-ahead}
 use Rattle.m68k_chip.proofs.Laws.{IsLevel, begun-ok, of}

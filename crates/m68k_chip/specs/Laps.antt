@@ -9,7 +9,7 @@ use Rattle.m68k_chip.specs.Held.{IsForeseen, WaitsFor}
 use Rattle.m68k_chip.specs.States.{State68, next_of, none_left}
 use Rattle.m68k_chip.specs.declared.lap.Lap.{Lap}
 use Rattle.m68k_chip.specs.declared.lap.Place.{Place}
-use Rattle.m68k_chip.specs.declared.lap.Watched.{Watched}
+use Rattle.m68k_chip.specs.declared.watched.Watched.{Watched}
 use Rattle.m68k_chip.specs.declared.lap.Place.TheVariants as places
 use Rattle.m68k_chip.specs.declared.stage.Stage.TheVariants.{Sample, Access}
 

@@ -1,14 +1,14 @@
-ghost use Rattle.std.specs.Prelude.{◌≡◌, ◌+◌, ◌-◌, ◌^◌, ◌<◌, ◌≤◌, ◌&&◌, max, ℕ, List, Option, false, None, IfSome, IsTrue};
+ghost use Rattle.std.specs.Prelude.{◌≡◌, ◌+◌, ◌^◌, ◌<◌, ◌≤◌, ℕ, List, Option, IfSome, IsTrue};
 ghost use Rattle.md_word.specs.declared.main_bus.Request68.{Request68};
 ghost use Rattle.m68k_exec.specs.declared.sample.step.Foreseen.{Foreseen};
 ghost use Rattle.m68k_chip.specs.Events.{answered};
-ghost use Rattle.m68k_chip.specs.Laps.{HasWatched, IsAside, IsLap, IsOn, reading, sampling};
-ghost use Rattle.m68k_chip.specs.States.{State68, none_left, state_of};
+ghost use Rattle.m68k_chip.specs.Laps.{HasWatched, IsAside, IsLap, IsOn, reading};
+ghost use Rattle.m68k_chip.specs.States.{State68, state_of};
 ghost use Rattle.m68k_chip.specs.declared.lap.Place.TheVariants.{Away, Opened, Learned, AtRead, PastRead};
 
-use crate::sequencer::{NONE_LEFT, STEP, Sequencer};
-use crate::stage::Stage;
-use md_word::{Answer68, Regs, Request68};
+use crate::sequencer::Sequencer;
+use crate::watched::Watched;
+use md_word::{Answer68, Regs};
 
 /// Where the 68000 stands on a lap.
 #[derive(Clone, Copy)]
@@ -48,29 +48,6 @@ pub struct Lap {
     pub last: u32,
     /// The master cycles from the first of them to the start of the instruction that reads again.
     pub rest: u32,
-}
-
-/// What was seen of samples in a row.
-#[derive(Clone, Copy)]
-pub struct Watched {
-    /// How many they were.
-    pub samples: u64,
-    /// A cycle that none of them but the first lies behind.
-    pub latest: u64,
-    /// Nothing was written into work RAM.
-    pub quiet: bool,
-}
-
-impl Watched {
-    /// One more sample, at this cycle.
-    pub fn add(&mut self, cycle: u64, quiet: bool)
-        requires { self.old.samples < 2 ^ 64 - 1 }
-        ensures { self.new ≡ record { samples = self.old.samples + 1; latest = max self.old.latest cycle; quiet = self.old.quiet && quiet } }
-    {
-        self.samples += 1;
-        self.latest = self.latest.max(cycle);
-        self.quiet = self.quiet && quiet;
-    }
 }
 
 const NO_REGISTERS: Regs = Regs {
@@ -300,77 +277,5 @@ impl Lap {
         } else {
             Place::Learned
         };
-    }
-}
-
-impl Sequencer {
-    /// Whether it stands at the first access of an instruction, with nothing else to come.
-    pub fn is_reading(&self) -> bool
-        ensures { (ram : List ℕ) → IsTrue result → state_of self.now ram ≡ reading ram self.now.regs self.now.start }
-    {
-        matches!(self.stage, Stage::Access)
-            && self.next >= self.start
-            && self.next - self.start == STEP
-            && self.answers.is_empty()
-            && self.has_nothing_else()
-    }
-
-    /// Whether the request that waits at an access reads.
-    #[inline(always)]
-    pub fn reads(&self) -> bool {
-        matches!(
-            self.request,
-            Some(Request68::Read8(_) | Request68::Read16(_))
-        )
-    }
-
-    /// Whether it stands at a sample, with nothing else to come.
-    pub fn is_sampling(&self) -> bool
-        ensures { (ram : List ℕ) → IsTrue result → state_of self.now ram ≡ sampling ram self.now.regs self.now.start }
-    {
-        matches!(self.stage, Stage::Sample)
-            && self.next == self.start
-            && self.answers.is_empty()
-            && self.has_nothing_else()
-    }
-
-    /// Whether it goes on by an instruction, with no trace and no transfer to come.
-    fn has_nothing_else(&self) -> bool
-        ensures { IsTrue result → (self.now.stopped ≡ false) × (self.now.trace ≡ false) × (self.now.halted ≡ None) × (self.now.cause ≡ 0) × (self.now.transfer ≡ none_left) }
-    {
-        !self.stopped
-            && !self.trace
-            && self.halted.is_none()
-            && self.cause == 0
-            && self.transfer == NONE_LEFT
-    }
-
-    /// Goes from the first access of an instruction, whose answer leaves these registers, to the sample behind it.
-    #[inline(always)]
-    pub fn stand_behind(&mut self, regs: &Regs, cycle: u64)
-        requires { (ram : List ℕ) → state_of self.old ram ≡ reading ram self.old.regs self.old.start }
-        ensures state { (ram : List ℕ) → state_of self.new ram ≡ sampling ram regs.now cycle }
-        ensures request { self.new.request ≡ self.old.request }
-        ensures foreseen { self.new.foreseen ≡ self.old.foreseen }
-    {
-        self.regs = *regs;
-        self.next = cycle;
-        self.start = cycle;
-        self.stage = Stage::Sample;
-    }
-
-    /// Goes from a sample to the first access of an instruction that begins at this cycle with these registers.
-    #[inline(always)]
-    pub fn read_again(&mut self, regs: &Regs, start: u64)
-        requires sampling { (ram : List ℕ) → state_of self.old ram ≡ sampling ram self.old.regs self.old.start }
-        requires start { start < 2 ^ 60 }
-        ensures state { (ram : List ℕ) → state_of self.new ram ≡ reading ram regs.now start }
-        ensures request { self.new.request ≡ self.old.request }
-        ensures foreseen { self.new.foreseen ≡ self.old.foreseen }
-    {
-        self.regs = *regs;
-        self.start = start;
-        self.next = start + STEP;
-        self.stage = Stage::Access;
     }
 }

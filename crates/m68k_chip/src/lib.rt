@@ -7,10 +7,14 @@ mod chip;
 mod events;
 mod known;
 mod lap;
+mod reading;
 mod resuming;
+mod sampling;
 mod saved;
+mod saved_fields;
 mod sequencer;
 mod spelling;
 mod stage;
+mod watched;
 
 pub use chip::Chip68;
