@@ -1,4 +1,4 @@
-ghost use Rattle.std.specs.Prelude.{◌≡◌, ◌+◌, ◌*◌, ◌^◌, ◌<◌, ◌≤◌, ℕ, List, Some, false, length, replicate};
+ghost use Rattle.std.specs.Prelude.{◌≡◌, ◌+◌, ◌*◌, ◌^◌, ◌<◌, ◌≤◌, ℕ, List, Some, length, replicate};
 ghost use Rattle.rom_header.specs.Cartridge.{IsImage};
 ghost use Rattle.m68k_time.specs.Clocks.{clocks_of};
 ghost use Rattle.m68k_exec.specs.Access.Memory.{ram_after};
