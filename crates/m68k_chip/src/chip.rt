@@ -1,4 +1,4 @@
-ghost use Rattle.std.specs.Prelude.{◌≡◌, ◌^◌, ◌<◌, true, false, replicate, IfOk};
+ghost use Rattle.std.specs.Prelude.{◌≡◌, ◌^◌, ◌<◌, true, false, replicate, IfOk, IsTrue};
 
 use crate::case::Case;
 use crate::lap::{Lap, Place};
@@ -48,7 +48,7 @@ impl Model for Chip68 {
 impl Chip68 {
     ghost use Rattle.std.specs.Arc.{arc_value};
     ghost use Rattle.m68k_chip.specs.Cases.{begins_at, case_of};
-    ghost use Rattle.m68k_chip.specs.Events.{answered, request_of};
+    ghost use Rattle.m68k_chip.specs.Events.{answered, begun, request_of};
     ghost use Rattle.m68k_chip.specs.Validity.{Fits, IsChip68};
     ghost use Rattle.m68k_chip.specs.States.{next_of, power_on};
 
@@ -149,6 +149,38 @@ impl Chip68 {
         let quiet = self.progress.writes.is_empty();
         self.other.keep(quiet);
         self.lap.take(&self.sequencer, begins, quiet);
+    }
+
+    /// Takes the sample that is the next event, and goes on to the event after it: a pending trace,
+    /// an interrupt above the mask, or the instruction at the program counter, up to the first
+    /// shared access if there is one. Where it is halted or stopped, the next sample follows 28
+    /// cycles later.
+    pub fn sample(&mut self, pins: Pins68)
+        requires sampling { (next_of self.old.state).sample ≡ true }
+        requires far { self.old.state.next < 2 ^ 50 }
+        ensures { self.new ≡ record self.old { state = begun self.old.cart self.old.state pins.level } }
+    {
+        let _quiet = self.sample_quietly(pins);
+    }
+
+    /// `sample`; answers whether nothing was written into work RAM.
+    pub(crate) fn sample_quietly(&mut self, pins: Pins68) -> bool
+        requires sampling { (next_of self.old.state).sample ≡ true }
+        requires far { self.old.state.next < 2 ^ 50 }
+        ensures chip { self.new ≡ record self.old { state = begun self.old.cart self.old.state pins.level } }
+        ensures quiet { IsTrue result → self.new.state.ram ≡ self.old.state.ram }
+    {
+        self.lap.place = Place::Away;
+        self.sequencer.begin(
+            pins.level,
+            &self.cart,
+            &mut self.ram,
+            &mut self.cache,
+            &mut self.progress,
+        );
+        let quiet = self.progress.writes.is_empty();
+        self.other.keep(quiet);
+        quiet
     }
 
     /// The address of the instruction that the next event begins, which is a sample with these

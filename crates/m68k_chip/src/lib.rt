@@ -2,14 +2,17 @@
 //! an access to what other chips share, or a word of a transfer.
 #![tactic(auto)]
 
+mod accesses;
+mod ahead;
 mod case;
 mod chip;
-mod events;
+mod execution;
 mod known;
 mod lap;
+mod numbers;
 mod reading;
 mod resuming;
-mod sampling;
+mod samples;
 mod saved;
 mod saved_fields;
 mod sequencer;

@@ -1,15 +1,14 @@
 ghost use Rattle.std.specs.Prelude.{◌≡◌, ◌≤◌, ℕ, Bool, false, length, IfErr, IfOk};
-ghost use Rattle.md_fields.specs.Padding as padding;
 ghost use Rattle.md_fields.specs.Places.{Stand};
-ghost use Rattle.m68k_chip.specs.Numbers.{numbers_of, stage_number as number_by, stage_of as stage_by, state_from};
+ghost use Rattle.m68k_chip.specs.Numbers.{numbers_of, state_from};
 ghost use Rattle.m68k_chip.specs.Saved.{fields_by};
 ghost use Rattle.m68k_chip.specs.Spelling.{GoesWrongAt, IsKept, ram_in};
 ghost use Rattle.m68k_chip.specs.States.{state_of};
 
 use crate::known::known_regs;
+use crate::numbers::{padded, stage_number, stage_of};
 use crate::resuming::first_answers;
 use crate::sequencer::Sequencer;
-use crate::stage::Stage;
 use m68k_exec::Foreseen;
 use md_fields::{first_wrong, u8_at, u16_at, u32_at, u64_at, words_at};
 use md_word::{Regs, Transfer};
@@ -21,11 +20,6 @@ pub const LENGTH: usize = 65_714;
 
 /// Where work RAM stands among them.
 pub const RAM: usize = 178;
-
-/// The stages of an access and of a word of a transfer.
-pub const ACCESS: u8 = 1;
-
-pub const WORD: u8 = 2;
 
 /// The numbers that a saved state keeps of the 68000, whatever they are, in their order. Cycles are
 /// master cycles.
@@ -222,37 +216,6 @@ impl<'a> Saved68<'a> {
             Err(RAM)
         }
     }
-}
-
-fn stage_number(stage: Stage) -> u8
-    ensures { result ≡ number_by stage }
-{
-    match stage {
-        Stage::Sample => 0,
-        Stage::Access => ACCESS,
-        Stage::Word => WORD,
-    }
-}
-
-fn stage_of(number: u8) -> Stage
-    ensures { result ≡ stage_by number }
-{
-    match number {
-        0 => Stage::Sample,
-        1 => Stage::Access,
-        _ => Stage::Word,
-    }
-}
-
-/// The answers, and 0 in the places that are not used.
-fn padded(answers: &[u16]) -> [u16; 32]
-    requires { length answers.now ≤ 32 }
-    ensures value { result ≡ padding.padded 32 answers.now }
-    ensures size { length result ≡ 32 }
-{
-    let mut all = [0; 32];
-    all[..answers.len()].copy_from_slice(answers);
-    all
 }
 
 /// Work RAM as it stands in the bytes.

@@ -1,9 +1,11 @@
+//! The fields of a saved 68000, and whether their rules hold.
 ghost use Rattle.std.specs.Prelude.{◌≡◌, map};
 ghost use Rattle.md_fields.specs.Fields.{AreSized, seen};
 ghost use Rattle.m68k_chip.specs.Saved as rules;
 ghost use Rattle.m68k_chip.specs.Saved.{fields_by};
 
-use crate::saved::{ACCESS, Saved68, WORD};
+use crate::numbers::{ACCESS, WORD};
+use crate::saved::Saved68;
 use crate::sequencer::STEP;
 use md_fields::{Field, are_zero_words, is_after, is_soon};
 use md_word::Transfer;

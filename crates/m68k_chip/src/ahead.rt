@@ -1,3 +1,4 @@
+//! All samples below a cycle, up to the first access.
 ghost use Rattle.std.specs.Prelude.{◌≡◌, ◌^◌, ◌<◌, ◌≤◌, ◌↔◌, true, IsTrue};
 
 use crate::chip::Chip68;
@@ -8,42 +9,10 @@ use md_word::Pins68;
 
 impl Chip68 {
     ghost use Rattle.m68k_chip.specs.Cases.{case_of, is_rest};
-    ghost use Rattle.m68k_chip.specs.Events.{WentAhead, begun};
+    ghost use Rattle.m68k_chip.specs.Events.{WentAhead};
     ghost use Rattle.m68k_chip.specs.Laps.{HasWatched};
     ghost use Rattle.m68k_chip.specs.Validity.{IsChip68};
     ghost use Rattle.m68k_chip.specs.States.{next_of};
-
-    /// Takes the sample that is the next event, and goes on to the event after it: a pending trace,
-    /// an interrupt above the mask, or the instruction at the program counter, up to the first
-    /// shared access if there is one. Where it is halted or stopped, the next sample follows 28
-    /// cycles later.
-    pub fn sample(&mut self, pins: Pins68)
-        requires sampling { (next_of self.old.state).sample ≡ true }
-        requires far { self.old.state.next < 2 ^ 50 }
-        ensures { self.new ≡ record self.old { state = begun self.old.cart self.old.state pins.level } }
-    {
-        let _quiet = self.sample_quietly(pins);
-    }
-
-    /// `sample`; answers whether nothing was written into work RAM.
-    fn sample_quietly(&mut self, pins: Pins68) -> bool
-        requires sampling { (next_of self.old.state).sample ≡ true }
-        requires far { self.old.state.next < 2 ^ 50 }
-        ensures chip { self.new ≡ record self.old { state = begun self.old.cart self.old.state pins.level } }
-        ensures quiet { IsTrue result → self.new.state.ram ≡ self.old.state.ram }
-    {
-        self.lap.place = Place::Away;
-        self.sequencer.begin(
-            pins.level,
-            &self.cart,
-            &mut self.ram,
-            &mut self.cache,
-            &mut self.progress,
-        );
-        let quiet = self.progress.writes.is_empty();
-        self.other.keep(quiet);
-        quiet
-    }
 
     /// Takes the sample that is the next event, as `sample` does, and then all samples of these pins
     /// below cycle `end`, up to the first access; answers how many that were.

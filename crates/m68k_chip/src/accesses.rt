@@ -1,102 +1,50 @@
+//! The accesses of the 68000: what each asks for, and what its answer leads to.
 ghost use Rattle.std.specs.Prelude.{◌≡◌, ◌^◌, ◌<◌, ℕ, List, [], false};
 ghost use Rattle.arrayvec.specs.ArrayVec.{array_vec_len};
-ghost use Rattle.m68k_exec.specs.Access.Memory.{ram_after, word_at};
+ghost use Rattle.m68k_exec.specs.Access.Memory.{word_at};
 ghost use Rattle.m68k_exec.specs.Sample.Caches.{IsCacheOf};
 ghost use Rattle.m68k_chip.specs.Events as events;
-ghost use Rattle.m68k_chip.specs.Events.{answered, answered_at, begun, carried_out, request_at, went_on};
+ghost use Rattle.m68k_chip.specs.Events.{answered, answered_at, request_at};
 ghost use Rattle.m68k_chip.specs.Held.{IsForeseen, WaitsFor};
-ghost use Rattle.m68k_chip.specs.Steps.{IsForetold, IsTold, ended_by};
-ghost use Rattle.m68k_chip.specs.States.{next_of, state_of};
+ghost use Rattle.m68k_chip.specs.States.{next_of, none_left, state_of};
 ghost use Rattle.m68k_chip.specs.declared.stage.Stage.TheVariants.{Access};
 
-use crate::sequencer::Sequencer;
+use crate::sequencer::{NONE_LEFT, STEP, Sequencer};
 use crate::stage::Stage;
-use m68k_exec::{DecodeCache, Progress, Step, foresee_cached, word_at};
-use md_word::{Answer68, Request68};
+use m68k_exec::{DecodeCache, Progress, word_at};
+use md_word::{Answer68, Request68, Transfer};
 use rom_header::Cart;
 
-/// Writes bytes into work RAM, the first of them first.
-fn store_all(writes: &[(u32, u8)], ram: &mut [u8; 65536])
-    ensures { ram.new ≡ ram_after ram.old writes.now }
-{
-    'writes: for (address, byte) in writes {
-        ram[(*address % 0x1_0000) as usize] = *byte;
-    }
-}
-
 impl Sequencer {
-    /// Goes on with what is carried out, as far as the answers go.
-    #[tactic(auto, unfolding(crate::specs::Events::went_on))]
-    pub fn go_on(
-        &mut self,
-        cause: u8,
-        cart: &Cart,
-        ram: &mut [u8; 65536],
-        cache: &mut DecodeCache,
-        progress: &mut Progress,
-    )
-        requires start { self.old.start < 2 ^ 50 }
-        requires cache { IsCacheOf cart.now cache.old }
-        ensures cache { IsCacheOf cart.now cache.new }
-        ensures state { state_of self.new ram.new ≡ went_on cart.now (state_of self.old ram.old) cause self.old.answers.items }
-        ensures quiet { progress.new.writes.items ≡ [] → ram.new ≡ ram.old }
-        ensures told { IsTold (carried_out cart.now (state_of self.old ram.old) cause self.old.answers.items) self.new.request }
-        ensures foretold { IsForetold (carried_out cart.now (state_of self.old ram.old) cause self.old.answers.items) self.new.foreseen cart.now (state_of self.old ram.old) cause self.old.answers.items }
+    /// A word of a transfer was moved, and the next costs so many cycles.
+    fn move_word(&mut self, cost: u16)
+        requires next { self.old.next < 2 ^ 50 }
+        requires source { self.old.transfer.source < 2 ^ 24 }
+        ensures { (ram : List ℕ) → state_of self.new ram ≡ events.word_moved (state_of self.old ram) cost }
     {
-        let mut step = Step::Need(Request68::Ack(0));
-        foresee_cached(
-            &mut self.regs,
-            cart,
-            ram,
-            &self.answers,
-            cause,
-            cache,
-            progress,
-            &mut step,
-            &mut self.foreseen,
-        );
-        match &step {
-            Step::Need(request) => self.ask(cause, *request),
-            Step::Done(finish) => {
-                store_all(progress.writes.as_slice(), ram);
-                self.finish(finish);
-            }
+        let Transfer { source, words, .. } = self.transfer;
+        let next = self.next;
+        if words <= 1 {
+            self.transfer = NONE_LEFT;
+            self.rest_at_sample(next + STEP);
+        } else {
+            self.transfer = Transfer {
+                source: source / 0x2_0000 * 0x2_0000 + (source + 2) % 0x2_0000,
+                words: words - 1,
+                cost,
+            };
+            self.rest_at_word(next + u64::from(cost));
         }
     }
 
-    /// Ends what was carried out as it is foreseen.
-    fn end_foreseen(&mut self)
-        requires { self.old.start < 2 ^ 50 }
-        ensures { (ram : List ℕ) → state_of self.new ram
-            ≡ events.finished (state_of self.old ram) (ended_by self.old.foreseen.finish self.old.foreseen.regs []) }
+    /// A transfer that an answer starts takes the place of an earlier one.
+    fn start_transfer(&mut self, transfer: Option<Transfer>)
+        ensures state { (ram : List ℕ) → state_of self.new ram ≡ events.with_started (state_of self.old ram) transfer }
+        ensures answers { self.new.answers.items ≡ self.old.answers.items }
+        ensures foreseen { self.new.foreseen ≡ self.old.foreseen }
     {
-        self.regs = self.foreseen.regs;
-        let finish = self.foreseen.finish;
-        self.finish(&finish);
-    }
-
-    /// Goes on from a sample at this interrupt level to the next event.
-    #[tactic(auto, unfolding(crate::specs::Events::begun))]
-    pub fn begin(
-        &mut self,
-        level: u8,
-        cart: &Cart,
-        ram: &mut [u8; 65536],
-        cache: &mut DecodeCache,
-        progress: &mut Progress,
-    )
-        requires start { self.old.start < 2 ^ 50 }
-        requires answers { self.old.answers.items ≡ [] }
-        requires cache { IsCacheOf cart.now cache.old }
-        ensures cache { IsCacheOf cart.now cache.new }
-        ensures state { state_of self.new ram.new ≡ begun cart.now (state_of self.old ram.old) level }
-        ensures quiet { progress.new.writes.items ≡ [] → ram.new ≡ ram.old }
-        ensures waiting { WaitsFor self.new.stage cart.now (state_of self.new ram.new) self.new.request }
-        ensures foreseen { IsForeseen self.new.stage cart.now (state_of self.new ram.new) self.new.foreseen }
-    {
-        match self.case_at(level).cause() {
-            Some(cause) => self.go_on(cause, cart, ram, cache, progress),
-            None => self.wait(),
+        if let Some(transfer) = transfer {
+            self.transfer = transfer;
         }
     }
 
