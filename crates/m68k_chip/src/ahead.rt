@@ -70,7 +70,7 @@ impl Chip68 {
         samples
     }
 
-    /// `sample_each` from a place of a lap.
+    /// `sample_each` from a place of an iteration.
     fn sample_round(&mut self, pins: Pins68, end: u64) -> u64
         requires sampling { (next_of self.old.state).sample ≡ true }
         requires far { self.old.state.next < 2 ^ 50 }

@@ -11,7 +11,7 @@ use std::alloc::Global;
 use std::marker::Model;
 use std::sync::Arc;
 
-/// The 68000, with the cartridge and the work RAM, which no other chip reaches. It stands at its
+/// The 68000, with the cartridge and the work RAM, which no other chip reaches. It is at its
 /// next event, and what it does without other chips belongs to the event before. Cycles are master
 /// cycles, 7 a clock. Source: M68000 Programmer's Reference Manual; M68000 User's Manual, sections
 /// 5, 6 and 8; the places of events are this project's profile.
@@ -22,7 +22,7 @@ pub struct Chip68 {
     pub(crate) sequencer: Sequencer,
     pub(crate) progress: Progress,
     pub(crate) cache: DecodeCache,
-    /// The lap on which it may stand, so that a loop that waits is not carried out anew each time.
+    /// The iteration on which it may be, so that a loop that waits is not carried out again each time.
     pub(crate) lap: Lap,
     /// A second one, with another answer to the same read.
     pub(crate) other: Lap,
@@ -97,7 +97,7 @@ impl Chip68 {
         self.sequencer.asked(&self.cart, &self.ram)
     }
 
-    /// Takes the answer to the access that is the next event, and goes on to the event after it.
+    /// Takes the answer to the access that is the next event, and continues to the event after it.
     /// Work RAM is written once all accesses of an instruction are answered, and not before.
     pub fn answer(&mut self, answer: Answer68)
         requires asking { (next_of self.old.state).sample ≡ false }
@@ -114,7 +114,7 @@ impl Chip68 {
         }
     }
 
-    /// `answer`, where the lap that is known does not tell what comes: perhaps the other one does.
+    /// `answer`, where the iteration that is known does not say what comes: perhaps the other one does.
     fn answer_otherwise(&mut self, answer: &Answer68)
         requires asking { (next_of self.old.state).sample ≡ false }
         requires far { self.old.state.next < 2 ^ 50 }
@@ -131,7 +131,7 @@ impl Chip68 {
         }
     }
 
-    /// `answer`, where no lap tells what comes.
+    /// `answer`, where no iteration says what comes.
     fn answer_anew(&mut self, answer: &Answer68)
         requires asking { (next_of self.old.state).sample ≡ false }
         requires far { self.old.state.next < 2 ^ 50 }
@@ -151,7 +151,7 @@ impl Chip68 {
         self.lap.take(&self.sequencer, begins, quiet);
     }
 
-    /// Takes the sample that is the next event, and goes on to the event after it: a pending trace,
+    /// Takes the sample that is the next event, and continues to the event after it: a pending trace,
     /// an interrupt above the mask, or the instruction at the program counter, up to the first
     /// shared access if there is one. Where it is halted or stopped, the next sample follows 28
     /// cycles later.

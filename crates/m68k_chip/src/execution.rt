@@ -62,7 +62,7 @@ impl Sequencer {
         self.rest(end);
     }
 
-    /// Goes on with what is carried out, as far as the answers go.
+    /// Continues with what is carried out, as far as the answers go.
     #[tactic(auto, unfolding(crate::specs::Events::went_on))]
     pub fn go_on(
         &mut self,
@@ -101,7 +101,7 @@ impl Sequencer {
         }
     }
 
-    /// Ends what was carried out as it is foreseen.
+    /// Ends what was carried out as it is predicted.
     pub fn end_foreseen(&mut self)
         requires { self.old.start < 2 ^ 50 }
         ensures { (ram : List ℕ) → state_of self.new ram

@@ -10,22 +10,22 @@ use crate::sequencer::Sequencer;
 use crate::watched::Watched;
 use md_word::{Answer68, Regs};
 
-/// Where the 68000 stands on a lap.
+/// Where the 68000 is on an iteration.
 #[derive(Clone, Copy)]
 pub enum Place {
-    /// No lap is known.
+    /// No iteration is known.
     Away,
-    /// Behind the answer to a read, with which a lap may have begun.
+    /// After the answer to a read, with which an iteration may have begun.
     Opened,
-    /// Somewhere, with work RAM as the lap that is known leaves it.
+    /// Somewhere, with work RAM as the iteration that is known leaves it.
     Learned,
-    /// At the read of the lap that is known.
+    /// At the read of the iteration that is known.
     AtRead,
-    /// Behind its answer.
+    /// After its answer.
     PastRead,
 }
 
-/// A lap of a loop that waits until a read is answered otherwise: it leads from the read by instructions that write
+/// An iteration of a loop that waits until a read is answered otherwise: it leads from the read by instructions that write
 /// nothing and make no other access back to the read, with the same registers. Once it was gone through, it is taken
 /// in one step, for as long as the answer, the interrupt level and work RAM stay.
 #[derive(Clone, Copy)]
@@ -33,12 +33,12 @@ pub struct Lap {
     pub place: Place,
     /// The registers at the read.
     pub from: Regs,
-    /// The registers behind its answer.
+    /// The registers after its answer.
     pub after: Regs,
     pub answer: Answer68,
-    /// The cycle at which the instruction began that reads, when the lap was gone through.
+    /// The cycle at which the instruction began that reads, when the iteration was gone through.
     pub start: u64,
-    /// The master cycles from there to the sample behind the answer.
+    /// The master cycles from there to the sample after the answer.
     pub first: u32,
     /// How many samples lead back to the read.
     pub samples: u64,
@@ -78,7 +78,7 @@ fn are_same(a: &Regs, b: &Regs) -> bool
 }
 
 impl Lap {
-    /// No lap.
+    /// No iteration.
     pub fn none() -> Lap
         ensures { result.place ≡ Away }
     {
@@ -100,7 +100,7 @@ impl Lap {
         }
     }
 
-    /// Whether the 68000 stands at the read, and that is answered as on the lap.
+    /// Whether the 68000 is at the read, and that is answered as on the iteration.
     #[inline(always)]
     pub fn is_read_again(&self, answer: &Answer68) -> bool
         ensures place { IsTrue result → self.now.place ≡ AtRead }
@@ -109,7 +109,7 @@ impl Lap {
         matches!(self.place, Place::AtRead) && answer.transfer.is_none() && *answer == self.answer
     }
 
-    /// Whether the 68000 stands behind the answer, and all samples of the lap come at this interrupt level, and
+    /// Whether the 68000 is after the answer, and all samples of the iteration come at this interrupt level, and
     /// below a cycle, where the first comes at `start`.
     #[inline(always)]
     pub fn leads_back(&self, level: u8, start: u64, end: u64) -> bool
@@ -123,8 +123,8 @@ impl Lap {
             && start + u64::from(self.last) < end
     }
 
-    /// Keeps the read that is about to be answered, if a lap may begin with it: not where one is known that begins
-    /// there with another answer. A lap that is known goes to `other`.
+    /// Keeps the read that is about to be answered, if an iteration may begin with it: not where one is known that begins
+    /// there with another answer. An iteration that is known goes to `other`.
     #[inline(always)]
     pub fn begins(&mut self, sequencer: &Sequencer, answer: &Answer68, other: &mut Lap) -> bool
         ensures reading { (ram : List ℕ) → IsTrue result → state_of sequencer.now ram ≡ reading ram self.new.from self.new.start }
@@ -145,7 +145,7 @@ impl Lap {
         false
     }
 
-    /// Puts a lap aside that is known.
+    /// Puts an iteration aside that is known.
     fn put_aside(&self, other: &mut Lap)
         ensures { (cart : List ℕ) (state : State68) (request : Option Request68) (foreseen : Foreseen) → IsOn self.now.place self.now cart state request foreseen → IsAside other.old cart state.ram → IsAside other.new cart state.ram }
     {
@@ -154,7 +154,7 @@ impl Lap {
         }
     }
 
-    /// Takes the place of the other lap, which becomes this one where it is known.
+    /// Takes the place of the other iteration, which becomes this one where it is known.
     pub fn exchange(&mut self, other: &mut Lap)
         ensures lap { self.new ≡ other.old }
         ensures other { (cart : List ℕ) (state : State68) (request : Option Request68) (foreseen : Foreseen) → IsOn self.old.place self.old cart state request foreseen → IsAside other.new cart state.ram }
@@ -178,8 +178,8 @@ impl Lap {
         }
     }
 
-    /// Whether this lap, which was put aside, is the one that begins with this answer to the read at which the 68000
-    /// stands.
+    /// Whether this iteration, which was put aside, is the one that begins with this answer to the read at which the 68000
+    /// is.
     pub fn is_begun(&self, sequencer: &Sequencer, answer: &Answer68) -> bool
         ensures place { IsTrue result → self.now.place ≡ Learned }
         ensures answer { IsTrue result → answer.now ≡ self.now.answer }
@@ -194,7 +194,7 @@ impl Lap {
             && are_same(&sequencer.regs, &self.from)
     }
 
-    /// An access was answered, where nothing was written if `quiet`. If it was the read that was kept, `begins`, a lap
+    /// An access was answered, where nothing was written if `quiet`. If it was the read that was kept, `begins`, an iteration
     /// may have begun; else one that begins at it with another answer stays known.
     #[inline(always)]
     pub fn take(&mut self, sequencer: &Sequencer, begins: bool, quiet: bool)
@@ -211,7 +211,7 @@ impl Lap {
         }
     }
 
-    /// A lap may have begun with the read that was kept.
+    /// An iteration may have begun with the read that was kept.
     #[inline(never)]
     fn follow(&mut self, sequencer: &Sequencer)
         ensures { (cart ram : List ℕ) → answered cart (reading ram self.old.from self.old.start) self.old.answer ≡ state_of sequencer.now ram
@@ -227,8 +227,8 @@ impl Lap {
         }
     }
 
-    /// Samples at this interrupt level led from a place of the lap to where the 68000 stands, the first of them at
-    /// the cycle `begun`. Where it stands at the read again, a lap is known.
+    /// Samples at this interrupt level led from a place of the iteration to where the 68000 is, the first of them at
+    /// the cycle `begun`. Where it is at the read again, an iteration is known.
     pub fn go_on(&mut self, sequencer: &Sequencer, watched: &Watched, begun: u64, level: u8)
         ensures { (cart ram : List ℕ) (before : State68) (request : Option Request68) (foreseen : Foreseen) (end : ℕ) → IsOn self.old.place self.old cart before request foreseen
             → HasWatched watched.now end cart level before (state_of sequencer.now ram) → before.start ≡ begun
@@ -245,7 +245,7 @@ impl Lap {
         }
     }
 
-    /// Closes a lap that had begun, where the 68000 stands at its read again.
+    /// Closes an iteration that had begun, where the 68000 is at its read again.
     fn close(&mut self, sequencer: &Sequencer, watched: &Watched, begun: u64, level: u8)
         requires { self.old.place ≡ Away }
         ensures { (cart ram : List ℕ) (before : State68) (request : Option Request68) (foreseen : Foreseen) (end : ℕ) → IsOn Opened self.old cart before request foreseen
@@ -265,7 +265,7 @@ impl Lap {
         }
     }
 
-    /// The lap is known, and the 68000 may stand at its read again.
+    /// The iteration is known, and the 68000 may be at its read again.
     fn come_back(&mut self, sequencer: &Sequencer)
         ensures { (cart ram : List ℕ) → IsLap self.old cart ram → IsOn self.new.place self.new cart (state_of sequencer.now ram) sequencer.now.request sequencer.now.foreseen }
     {

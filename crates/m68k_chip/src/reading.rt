@@ -7,7 +7,7 @@ use crate::stage::Stage;
 use md_word::{Regs, Request68};
 
 impl Sequencer {
-    /// Whether it stands at the first access of an instruction, with nothing else to come.
+    /// Whether it is at the first access of an instruction, with nothing else to come.
     pub fn is_reading(&self) -> bool
         ensures { (ram : List ℕ) → IsTrue result → state_of self.now ram ≡ reading ram self.now.regs self.now.start }
     {
@@ -27,7 +27,7 @@ impl Sequencer {
         )
     }
 
-    /// Whether it stands at a sample, with nothing else to come.
+    /// Whether it is at a sample, with nothing else to come.
     pub fn is_sampling(&self) -> bool
         ensures { (ram : List ℕ) → IsTrue result → state_of self.now ram ≡ sampling ram self.now.regs self.now.start }
     {
@@ -37,7 +37,7 @@ impl Sequencer {
             && self.has_nothing_else()
     }
 
-    /// Whether it goes on by an instruction, with no trace and no transfer to come.
+    /// Whether it continues by an instruction, with no trace and no transfer to come.
     fn has_nothing_else(&self) -> bool
         ensures { IsTrue result → (self.now.stopped ≡ false) × (self.now.trace ≡ false) × (self.now.halted ≡ None) × (self.now.cause ≡ 0) × (self.now.transfer ≡ none_left) }
     {
@@ -48,7 +48,7 @@ impl Sequencer {
             && self.transfer == NONE_LEFT
     }
 
-    /// Goes from the first access of an instruction, whose answer leaves these registers, to the sample behind it.
+    /// Goes from the first access of an instruction, whose answer leaves these registers, to the sample after it.
     #[inline(always)]
     pub fn stand_behind(&mut self, regs: &Regs, cycle: u64)
         requires { (ram : List ℕ) → state_of self.old ram ≡ reading ram self.old.regs self.old.start }

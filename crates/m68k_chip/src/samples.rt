@@ -54,7 +54,7 @@ impl Sequencer {
         1 + steps
     }
 
-    /// Goes on from a sample at this interrupt level to the next event.
+    /// Continues from a sample at this interrupt level to the next event.
     #[tactic(auto, unfolding(crate::specs::Events::begun))]
     pub fn begin(
         &mut self,

@@ -18,7 +18,7 @@ use std::marker::Model;
 /// How many bytes of a saved state keep a 68000.
 pub const LENGTH: usize = 65_714;
 
-/// Where work RAM stands among them.
+/// Where work RAM is among them.
 pub const RAM: usize = 178;
 
 /// The numbers that a saved state keeps of the 68000, whatever they are, in their order. Cycles are
@@ -112,7 +112,7 @@ impl<'a> Saved68<'a> {
         }
     }
 
-    /// The numbers that stand in the bytes.
+    /// The numbers that are in the bytes.
     #[tactic(auto, unfolding(md_fields::specs::Places::Stand))]
     fn read(bytes: &'a [u8]) -> Saved68<'a>
         requires { length bytes.now ≡ 65714 }
@@ -218,7 +218,7 @@ impl<'a> Saved68<'a> {
     }
 }
 
-/// Work RAM as it stands in the bytes.
+/// Work RAM as it is in the bytes.
 fn ram_at(bytes: &[u8]) -> &[u8; 65536]
     requires { length bytes.now ≡ 65714 }
     ensures value { result.now ≡ ram_in bytes.now }

@@ -22,7 +22,7 @@ const WORDS: u32 = 0x1_0000;
 const BUS_END: u32 = 0x100_0000;
 
 impl<'a> Saved68<'a> {
-    /// The fields in their order, and whether their rules hold; that of work RAM is told.
+    /// The fields in their order, and whether their rules hold; that of work RAM is given.
     #[tactic(auto, unfolding(md_fields::specs::Fields::AreSized))]
     pub fn fields(&self, at: u64, holds: bool) -> [Field<'_>; 33]
         ensures fields { map seen result ≡ fields_by at holds self.now }
@@ -99,7 +99,7 @@ impl<'a> Saved68<'a> {
             || (self.stage == ACCESS && (self.cause == 4 || (self.cause == 6 || self.cause == 8)))
     }
 
-    /// Whether the next event stands where the count of answers puts it.
+    /// Whether the next event is where the count of answers puts it.
     fn follows(&self) -> bool
         ensures { result ≡ rules.follows self.now }
     {

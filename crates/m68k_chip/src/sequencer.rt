@@ -22,7 +22,7 @@ pub const NONE_LEFT: Transfer = Transfer {
     cost: 0,
 };
 
-/// The registers of the 68000, and where it stands between two of its events.
+/// The registers of the 68000, and where it is between two of its events.
 #[derive(Drop)]
 pub struct Sequencer {
     pub regs: Regs,
@@ -46,7 +46,7 @@ pub struct Sequencer {
     pub transfer: Transfer,
     /// The request that waits for its answer at an access; at other events it may be any that did.
     pub request: Option<Request68>,
-    /// What comes behind the answer, where that is known.
+    /// What follows the answer, where that is known.
     pub foreseen: Foreseen,
 }
 
@@ -109,7 +109,7 @@ impl Sequencer {
         self.stage = Stage::Word;
     }
 
-    /// Goes on from the end of what was carried out: to the words of a transfer that it started,
+    /// Continues from the end of what was carried out: to the words of a transfer that it started,
     /// else to the next sample.
     pub fn rest(&mut self, end: u64)
         requires { end < 2 ^ 60 }

@@ -18,7 +18,7 @@ impl Chip68 {
     ghost use Rattle.std.specs.Arc.{arc_value};
 
     /// Appends the bytes of a saved state at a cycle that keep this 68000, 65,714 in all. There is room
-    /// for them. They are read again where no event stands below the cycle, and the rules hold there.
+    /// for them. They are read again where no event is below the cycle, and the rules hold there.
     pub fn spell(&self, at: u64, into: &mut Vec<u8>)
         requires { vec_len into.old + chip_size ≤ vec_capacity into.old }
         ensures bytes { into.new.items ≡ into.old.items ++ chip_bytes self.now.state }
@@ -34,7 +34,7 @@ impl Chip68 {
         );
     }
 
-    /// Tells that the bytes of this 68000 are read again, where no event stands below a cycle and the rules hold
+    /// Makes known that the bytes of this 68000 are read again, where no event is below a cycle and the rules hold
     /// there.
     pub fn is_read_again(&self)
         ensures { (at : ℕ) → at ≤ self.now.state.next → HasRules at self.now.state → Spells self.now.cart at (chip_bytes self.now.state) self.now.state }
@@ -77,7 +77,7 @@ impl Chip68 {
     }
 }
 
-/// Work RAM as it stands in the bytes.
+/// Work RAM as it is in the bytes.
 fn copied(alloc: Global, bytes: &[u8]) -> Result<Box<[u8; 65536]>, NoMemory>
     requires { length bytes.now ≡ 65714 }
     ensures { IfOk result (λ ram. ram.value ≡ ram_in bytes.now) }

@@ -5,7 +5,7 @@ ghost use Rattle.std.specs.Prelude.{◌≡◌, ◌+◌, ◌-◌, ◌^◌, ◌<�
 pub struct Watched {
     /// How many they were.
     pub samples: u64,
-    /// A cycle that none of them but the first lies behind.
+    /// A cycle that none of them but the first is after.
     pub latest: u64,
     /// Nothing was written into work RAM.
     pub quiet: bool,

@@ -96,7 +96,7 @@ pub fn low_operand(words: &[u16; 5], size: Size, at: u8) -> Operand
     }
 }
 
-/// The target of MOVE, whose register stands before its mode, with the extension words from this
+/// The target of MOVE, whose register precedes its mode, with the extension words from this
 /// word on.
 #[inline(always)]
 #[tactic(auto, unfolding(crate::specs::Fields::high_mode))]

@@ -1,6 +1,6 @@
 use arrayvec::ArrayVec;
 
-/// What an exception comes to.
+/// The outcome of an exception.
 #[derive(Drop)]
 pub enum Frame {
     /// The words in the order in which they are pushed.

@@ -1,4 +1,4 @@
--- What comes behind a write that waits for its answer.
+-- What follows a write that waits for its answer.
 use Rattle.std.proofs.Common.{◌≡◌, ℕ, ◌+◌, ◌%◌, ◌/◌, ◌^◌, ◌<◌, ◌≤◌, ◌∙◌, Bool, true, false, nat_lt, List, [], ◌∷◌, length, length-append, Result, Ok, Err, refl, sym, ap, subst, arith}
 use Rattle.std.proofs.lemmas.Bool.Decides.{nat_tests}
 use Rattle.std.proofs.lemmas.List.{get_or_append_left}
@@ -41,7 +41,7 @@ use Rattle.m68k_exec.specs.declared.sample.step.Step.TheVariants as steps
 use Rattle.m68k_exec.proofs.Later.Accesses as later
 use Rattle.m68k_exec.proofs.Taken.{answered, with_word-used}
 
--- where nothing is known nothing is foreseen
+-- where nothing is known nothing is predicted
 pub nothing_foreseen : {A : Type 0} (result : Result A Stop) (foreseen : Foreseen) (act : Act Outcome) (memory : Memory) (done : Done) → foreseen.known ≡ false → Foresees result foreseen act memory done
 nothing_foreseen (Ok x) foreseen act memory done none = none
 nothing_foreseen (Err (Ask request)) foreseen act memory done none = λ known. absurd (let no_way = sym none ∙ known in cc)

@@ -46,7 +46,7 @@ fn ask_byte(at: u32, around: &Around, progress: &mut Progress) -> Result<u8, Sto
     Ok((answer % 0x100) as u8)
 }
 
-/// A shared write, whose answer tells nothing.
+/// A shared write, whose answer carries nothing.
 #[tactic(auto, unfolding(crate::specs::Access::Actions::told))]
 fn tell(request: Request68, around: &Around, progress: &mut Progress) -> Result<(), Stop>
     ensures value { Meets result (done_of progress.new)

@@ -88,13 +88,13 @@ fn run(
 }
 
 /// What the 68000 does at a sample, as far as the answers of its shared accesses go: it starts
-/// anew each time, and nothing private is written before all are answered.
+/// again each time, and nothing private is written before all are answered.
 ///
 /// `cause` is 0 for the instruction at the program counter, 1 to 7 for an interrupt of that level,
 /// and more for a pending trace. `ram` is work RAM before it. Where it waits for an answer the
 /// registers stay as they were. `progress` is cleared first; its writes count where the step is
-/// done: the bytes written into work RAM, the oldest first. `step` is what it comes to, whatever it
-/// was. Where it waits for the answer to a write, `foreseen` has what it comes to then, if that is known:
+/// done: the bytes written into work RAM, the oldest first. `step` is its outcome, whatever it
+/// was. Where it waits for the answer to a write, `foreseen` has its outcome then, if that is known:
 /// of a MOVE whose last access waits, and whose other accesses were answered. Source: M68000 Programmer's Reference Manual, sections 4 and 6; M68000 User's Manual, section
 /// 6.
 pub fn foresee(
@@ -117,7 +117,7 @@ pub fn foresee(
     run(regs, cart, ram, answers, cause, progress, step, foreseen)
 }
 
-/// The same where nothing is to be foreseen.
+/// The same where nothing is to be predicted.
 pub fn go(
     regs: &mut Regs,
     cart: &Cart,

@@ -42,7 +42,7 @@ pub fn sample(chip: &mut Chip68, pins: Pins68) -> Option<u64> {
     Some(next.key.cycle)
 }
 
-/// Takes the samples that are next below `end`: the cycle of the event behind them, and whether it is a sample.
+/// Takes the samples that are next below `end`: the cycle of the event after them, and whether it is a sample.
 #[tactic(auto, unfolding(m68k_chip::specs::States::next_of))]
 pub fn ahead(chip: &mut Chip68, pins: Pins68, end: u64) -> Option<(u64, bool)> {
     let next = chip.next();

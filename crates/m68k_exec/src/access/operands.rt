@@ -18,7 +18,7 @@ use md_word::{Mode, Regs, Size};
 const STACK: u8 = 7;
 
 /// The place of a mode's operand, before the instruction changes a register. `pc` is where the
-/// mode's extension words stand.
+/// mode's extension words are.
 #[inline(always)]
 pub fn locate(mode: Mode, size: Size, pc: u32, regs: &Regs) -> Place
     requires { IsMode mode }
@@ -41,7 +41,7 @@ pub fn effective(mode: Mode, size: Size, pc: u32, regs: &Regs) -> u32
     }
 }
 
-/// Reads the operand that stands at a place.
+/// Reads the operand that is at a place.
 #[inline(always)]
 #[tactic(auto, unfolding(crate::specs::Access::Operands::fetch))]
 pub fn fetch(

@@ -11,7 +11,7 @@ use crate::{Around, Outcome, Progress, Stop};
 use m68k_alu::compute;
 use md_word::{Mode, Regs, Size, Task};
 
-/// The instruction goes on at another address.
+/// The instruction continues at another address.
 pub fn jump_to(target: u32, regs: &mut Regs) -> Outcome
     ensures { outcome_of result regs.new ≡ shapes.jump_to target regs.old }
 {
@@ -38,7 +38,7 @@ pub fn refuse(vector: u8, start: u32, regs: &mut Regs) -> Outcome
     end_in(vector)
 }
 
-/// Reads an operand and sets the flags. `pc` is where the mode's extension words stand.
+/// Reads an operand and sets the flags. `pc` is where the mode's extension words are.
 #[inline(always)]
 #[tactic(auto, unfolding(crate::specs::Access::Shapes::test_operand))]
 pub fn test_operand(

@@ -131,7 +131,7 @@ fn take_numbered(
     take_exception(op, exception, trace, found, around, regs, progress, step)
 }
 
-/// An instruction that came to its end, perhaps in an exception.
+/// An instruction that ended, perhaps in an exception.
 #[tactic(auto, unfolding(crate::specs::Sample::Samples::ended_by))]
 pub fn ended_by(
     op: &Op,
@@ -167,7 +167,7 @@ pub fn ended_by(
     });
 }
 
-/// Keeps what a sample comes to that found the registers `found`, where the write that waits is its last
+/// Keeps the outcome of a sample that found the registers `found`, where the write that waits is its last
 /// access.
 pub fn foresee_finish(op: &Op, found: &Regs, around: &Around, foreseen: &mut Foreseen)
     requires few { length around.now.answers.now ≤ 32 }

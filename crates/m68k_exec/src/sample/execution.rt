@@ -26,7 +26,7 @@ use products::products;
 use registers::registers;
 use sums::sums;
 
-/// Carries out an instruction that stands at `start`. On entry the program counter is behind it.
+/// Carries out an instruction that is at `start`. On entry the program counter is after it.
 ///
 /// One that ends in an exception makes four accesses at most before it. Each group of instructions has
 /// a function, since all locals of a function are set to 0 at its start.
