@@ -25,7 +25,7 @@ impl Case {
     }
 
     /// What the sample carries out: 0 the instruction, 1 to 7 an interrupt of that level, 8 a
-    /// trace.
+    /// trace; None where it does nothing.
     pub fn cause(self) -> Option<u8>
         ensures { result ≡ cases.cause_of self }
     {

@@ -54,7 +54,7 @@ impl Chip68 {
 
     /// The 68000 at power-on: its next event is a sample at cycle 0. The supervisor's stack pointer
     /// is the long at 0 of the cartridge and the program counter the long at 4; SR is 2700h, and all
-    /// else 0. It is refused where there is no memory for the work RAM.
+    /// else 0. It fails only where memory runs out: work RAM takes 64 KiB, and the cache of instructions 128 KiB.
     pub fn power_on(alloc: Global, cart: Arc<Cart>) -> Result<Chip68, NoMemory>
         ensures { IfOk result (λ chip. chip ≡ record { cart = arc_value cart; state = power_on (arc_value cart) }) }
     {
@@ -73,7 +73,7 @@ impl Chip68 {
         })
     }
 
-    /// The next event. The 68000 is chip 0.
+    /// The next event: its master cycle, the chip's number, which is 0, and whether it is a sample.
     #[tactic(auto, unfolding(crate::specs::States::next_of))]
     pub fn next(&self) -> Next
         ensures value { result ≡ next_of self.now.state }
@@ -184,7 +184,7 @@ impl Chip68 {
     }
 
     /// The address of the instruction that the next event begins, which is a sample with these
-    /// pins; none where it does nothing, or begins a trace or an interrupt.
+    /// pins; None where it does nothing, being halted or stopped, or begins a trace or an interrupt.
     pub fn begins(&self, pins: Pins68) -> Option<u32>
         requires { (next_of self.now.state).sample ≡ true }
         ensures { result ≡ begins_at (case_of self.now.state pins.level) self.now.state.regs.pc }
@@ -202,7 +202,8 @@ impl Chip68 {
         &self.cart
     }
 
-    /// Where the processor is halted, the start of the instruction or exception that halted it.
+    /// Where the processor is halted, the master cycle at which the instruction or exception began that halted it;
+    /// None where it is not halted.
     pub fn halted(&self) -> Option<u64>
         ensures { result ≡ self.now.state.halted }
     {

@@ -25,9 +25,9 @@ pub enum Place {
     PastRead,
 }
 
-/// An iteration of a loop that waits until a read is answered otherwise: it leads from the read by instructions that write
-/// nothing and make no other access back to the read, with the same registers. Once it was gone through, it is taken
-/// in one step, for as long as the answer, the interrupt level and work RAM stay.
+/// An iteration of an idle loop, which waits until a read is answered otherwise. It leads from the read by instructions
+/// that write nothing and make no other access back to the read, with the same registers. Once it was gone through, it
+/// is taken in one step, for as long as the answer, the interrupt level and work RAM stay.
 #[derive(Clone, Copy)]
 pub struct Lap {
     pub place: Place,

@@ -197,7 +197,7 @@ impl<'a> Saved68<'a> {
     }
 
     /// The 68000 that the bytes keep, with the request that it waits for, where all rules hold; else
-    /// the place of the refusal.
+    /// the offset of the first field whose rule fails, or the lesser of the lengths where that is wrong.
     pub fn checked(bytes: &'a [u8], at: u64, cart: &Cart) -> Result<Sequencer, usize>
         ensures found { IfOk result (λ s. IsKept cart.now at bytes.now (state_of s (ram_in bytes.now)) s.request s.foreseen) }
         ensures refused { IfErr result (λ place. GoesWrongAt cart.now at bytes.now place) }

@@ -43,10 +43,11 @@ impl Chip68 {
         known_next(&self.sequencer);
     }
 
-    /// The 68000 that the bytes of a saved state at a cycle keep, over its cartridge. Bytes that are not
-    /// 65,714 are refused at the lesser of the two lengths, others at the place of the first field whose
-    /// rule fails. An access of what does not ask for one more answer, or was answered by what does not
-    /// fit, is refused at 178, where work RAM begins. Work RAM is copied.
+    /// The 68000 that the bytes of a saved state at a cycle keep, over its cartridge. Numbers have their high
+    /// byte first. Bytes that are not 65,714 are refused at the lesser of the two lengths, others at the offset of
+    /// the first field whose rule fails. An access of what does not ask for one more answer, or was answered by
+    /// what does not fit, is refused at 178, where work RAM begins. Work RAM is copied; where memory runs out the
+    /// answer is NoMemory.
     pub fn unspell(alloc: Global, bytes: &[u8], at: u64, cart: Arc<Cart>) -> Result<Chip68, Unspell>
         ensures found { IfOk result (λ chip. (chip.cart ≡ arc_value cart) × Spells (arc_value cart) at bytes.now chip.state) }
         ensures recent { IfOk result (λ chip. HasRules at chip.state) }

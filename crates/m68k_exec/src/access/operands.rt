@@ -42,6 +42,7 @@ pub fn effective(mode: Mode, size: Size, pc: u32, regs: &Regs) -> u32
 }
 
 /// Reads the operand that is at a place.
+/// Stops where an access waits for its answer, or a word or long has an odd address.
 #[inline(always)]
 #[tactic(auto, unfolding(crate::specs::Access::Operands::fetch))]
 pub fn fetch(
@@ -90,6 +91,7 @@ pub fn step(mode: Mode, size: Size, regs: &mut Regs)
 }
 
 /// Writes a value to a place. Of a register the upper part stays; immediate data stays whole.
+/// Stops where an access waits for its answer, or a word or long has an odd address.
 #[inline(always)]
 #[tactic(auto, unfolding(crate::specs::Access::Operands::put, crate::specs::Access::Operands::stored))]
 pub fn put(
@@ -123,6 +125,7 @@ pub fn put(
 }
 
 /// Reads the operand that a mode names, and moves the register of (An)+ or −(An).
+/// Stops where an access waits for its answer, or a word or long has an odd address.
 #[inline(always)]
 #[tactic(auto, unfolding(crate::specs::Access::Operands::load))]
 pub fn load(
@@ -146,6 +149,7 @@ pub fn load(
 }
 
 /// Writes where a mode names, and moves the register of (An)+ or −(An).
+/// Stops where an access waits for its answer, or a word or long has an odd address.
 #[inline(always)]
 #[tactic(auto, unfolding(crate::specs::Access::Operands::store))]
 pub fn store(
@@ -181,6 +185,7 @@ pub fn bytes_of(size: Size) -> u32
 }
 
 /// Pushes a word or long on the active stack: A7 is lowered, and the value written there.
+/// Stops where an access waits for its answer, or a word or long has an odd address.
 #[tactic(auto, using(crate::proofs::Stack::stack_set), unfolding(crate::specs::Access::Operands::push))]
 pub fn push(
     size: Size,
@@ -203,6 +208,7 @@ pub fn push(
 }
 
 /// Pulls a word or long from the active stack: it is read at A7, which is then raised past it.
+/// Stops where an access waits for its answer, or a word or long has an odd address.
 #[tactic(auto, using(crate::proofs::Stack::stack_set), unfolding(crate::specs::Access::Operands::pull))]
 pub fn pull(
     size: Size,
