@@ -2,7 +2,7 @@ ghost use Rattle.std.specs.Prelude.{◌≡◌, ◌≤◌, ℕ, Bool, false, leng
 ghost use Rattle.md_fields.specs.Places.{Stand};
 ghost use Rattle.m68k_chip.specs.Numbers.{numbers_of, state_from};
 ghost use Rattle.m68k_chip.specs.Saved.{fields_by};
-ghost use Rattle.m68k_chip.specs.Spelling.{GoesWrongAt, IsKept, ram_in};
+ghost use Rattle.m68k_chip.specs.Spelling.{GoesWrongAt, IsKept, chip_size, ram_in};
 ghost use Rattle.m68k_chip.specs.States.{state_of};
 
 use crate::known::known_regs;
@@ -115,7 +115,7 @@ impl<'a> Saved68<'a> {
     /// The numbers that are in the bytes.
     #[tactic(auto, unfolding(md_fields::specs::Places::Stand))]
     fn read(bytes: &'a [u8]) -> Saved68<'a>
-        requires { length bytes.now ≡ 65714 }
+        requires { length bytes.now ≡ chip_size }
         ensures stands { (at : ℕ) (holds : Bool) → Stand 0 (fields_by at holds result) bytes.now }
         ensures ram { result.ram ≡ ram_in bytes.now }
     {
@@ -220,7 +220,7 @@ impl<'a> Saved68<'a> {
 
 /// Work RAM as it is in the bytes.
 fn ram_at(bytes: &[u8]) -> &[u8; 65536]
-    requires { length bytes.now ≡ 65714 }
+    requires { length bytes.now ≡ chip_size }
     ensures value { result.now ≡ ram_in bytes.now }
     ensures size { length result.now ≡ 0x1_0000 }
 {

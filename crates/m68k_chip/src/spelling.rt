@@ -80,7 +80,7 @@ impl Chip68 {
 
 /// Work RAM as it is in the bytes.
 fn copied(alloc: Global, bytes: &[u8]) -> Result<Box<[u8; 65536]>, NoMemory>
-    requires { length bytes.now ≡ 65714 }
+    requires { length bytes.now ≡ chip_size }
     ensures { IfOk result (λ ram. ram.value ≡ ram_in bytes.now) }
 {
     let mut ram = Box::new(alloc, [0; 65536])?;
