@@ -9,6 +9,8 @@ use crate::fields::{number, words_of_number};
 use md_word::{Mode, Size};
 
 /// An addressing mode with its extension words read.
+///
+/// Source: M68000 Programmer's Reference Manual, section 2.2.
 #[derive(Clone, Copy)]
 pub struct Operand {
     pub mode: Mode,

@@ -16,6 +16,8 @@ use crate::{Around, Outcome, Progress, Stop};
 use md_word::{Mode, Regs, Size};
 
 /// In which direction MOVEM goes through memory.
+///
+/// Source: M68000 Programmer's Reference Manual, section 4, MOVEM.
 #[derive(Clone, Copy)]
 pub enum Order {
     Rising,
