@@ -148,31 +148,6 @@ pub fn load(
     Ok(value)
 }
 
-/// Writes where a mode names, and moves the register of (An)+ or −(An).
-/// Stops where an access waits for its answer, or a word or long has an odd address.
-#[inline(always)]
-#[tactic(auto, unfolding(crate::specs::Access::Operands::store))]
-pub fn store(
-    mode: Mode,
-    size: Size,
-    value: u32,
-    pc: u32,
-    around: &Around,
-    regs: &mut Regs,
-    progress: &mut Progress,
-) -> Result<(), Stop>
-    requires mode { IsMode mode }
-    requires value { value < modulus_of size }
-    requires room { array_vec_len progress.old.writes + operands.bytes_of size ≤ 80 }
-    ensures value { Leaves result regs.new (done_of progress.new)
-        (operands.store mode size value pc regs.old (memory_of around.now) (done_of progress.old)) }
-    ensures written { array_vec_len progress.new.writes ≤ array_vec_len progress.old.writes + operands.bytes_of size }
-{
-    let to = locate(mode, size, pc, regs);
-    step(mode, size, regs);
-    put(size, to, value, around, regs, progress)
-}
-
 /// How many bytes an operand of a size has.
 pub fn bytes_of(size: Size) -> u32
     ensures { result ≡ operands.bytes_of size }
