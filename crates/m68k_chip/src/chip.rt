@@ -151,10 +151,9 @@ impl Chip68 {
         self.lap.take(&self.sequencer, begins, quiet);
     }
 
-    /// Takes the sample that is the next event, and continues to the event after it: a pending trace,
-    /// an interrupt above the mask, or the instruction at the program counter, up to the first
-    /// shared access if there is one. Where it is halted or stopped, the next sample follows 28
-    /// cycles later.
+    /// Takes the sample that is the next event, and continues to the event after it. A sample takes a pending
+    /// trace, an interrupt above the mask, or the instruction at the program counter, up to the first shared access
+    /// if there is one. Where the processor is halted or stopped, the next sample follows 28 cycles later.
     pub fn sample(&mut self, pins: Pins68)
         requires sampling { (next_of self.old.state).sample ≡ true }
         requires far { self.old.state.next < 2 ^ 50 }

@@ -196,8 +196,8 @@ impl<'a> Saved68<'a> {
         }
     }
 
-    /// The 68000 that the bytes keep, with the request that it waits for, where all rules hold; else
-    /// the offset of the first field whose rule fails, or the lesser of the lengths where that is wrong.
+    /// The 68000 that the bytes keep, with the request that it waits for, where all rules hold. Else the offset
+    /// of the first field whose rule fails, or the lesser of the two lengths where the length is wrong.
     pub fn checked(bytes: &'a [u8], at: u64, cart: &Cart) -> Result<Sequencer, usize>
         ensures found { IfOk result (λ s. IsKept cart.now at bytes.now (state_of s (ram_in bytes.now)) s.request s.foreseen) }
         ensures refused { IfErr result (λ place. GoesWrongAt cart.now at bytes.now place) }

@@ -55,9 +55,9 @@ pub record SamplesIgnoreLaterAnswers : Type 0 where
   pub row : (op : Op) (start : ℕ) (regs : Regs) → IgnoresLaterAnswers (row op start regs)
   pub sampled : (cause : ℕ) (regs : Regs) (one other : Memory) (ended : Ended) → sampled cause regs one ≡ Ok ended → SameBelow ended.spent.accesses one other → sampled cause regs other ≡ Ok ended
 
--- a sample of any registers, memory and answers: what it spends is what its instruction can spend, it
--- waits only where there are fewer than 32 answers, and it ends, in an address error's
--- handler where an operand is at an odd address
+-- A sample of any registers, memory and answers spends what its instruction can spend. It waits only where
+-- there are fewer than 32 answers. Where an operand is at an odd address it ends in the handler of the
+-- address error.
 pub record SamplesAreBounded : Type 0 where
   pub spends : (cause : ℕ) (regs : Regs) (memory : Memory) (ended : Ended) → sampled cause regs memory ≡ Ok ended → IsSpent ended.op ended.spent
   pub waits : (cause : ℕ) (regs : Regs) (memory : Memory) (request : Request68) → sampled cause regs memory ≡ Err (Ask request) → length memory.answers < 32
