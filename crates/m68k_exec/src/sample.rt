@@ -95,8 +95,9 @@ fn run(
 /// registers stay as they were. `progress` is cleared first; its writes count where the step is
 /// done: the bytes written into work RAM, the oldest first. `step` is its outcome, whatever it
 /// was. Where it waits for the answer to a write, `foreseen` has its outcome then, if that is known:
-/// of a MOVE whose last access waits, and whose other accesses were answered. Source: M68000 Programmer's Reference Manual, sections 4 and 6; M68000 User's Manual, section
-/// 6.
+/// of a MOVE whose last access waits, and whose other accesses were answered.
+///
+/// Source: M68000 Programmer's Reference Manual, sections 4 and 6; M68000 User's Manual, section 6.
 pub fn foresee(
     regs: &mut Regs,
     cart: &Cart,
