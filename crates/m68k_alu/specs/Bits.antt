@@ -13,7 +13,7 @@ use Rattle.m68k_alu.specs.Results.{moved}
 unfoldable pub bit_named : Size → ℕ → ℕ
 bit_named size number = 2 ^ (number % width_of size)
 
--- Z tells whether the bit was 0; nothing else changes
+-- Z says whether the bit was 0; nothing else changes
 unfoldable pub tested : ℕ → ℕ → Flags → ℕ → Out
 tested mask target flags value = record {
   value = value;

@@ -3,6 +3,8 @@ ghost use Rattle.std.specs.Prelude.{◌≡◌};
 use md_word::Flags;
 
 /// What a division of a long by a word gives.
+///
+/// Source: M68000 Programmer's Reference Manual, section 4, DIVS and DIVU.
 #[derive(Clone, Copy)]
 pub enum Quotient {
     /// The divisor is 0.

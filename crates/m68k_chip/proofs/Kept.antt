@@ -1,4 +1,4 @@
--- The chip that an event leaves is valid, keeps the request that waits, and foresees what comes.
+-- The chip that an event leaves is valid, keeps the request that waits, and predicts what comes.
 use Rattle.std.proofs.Common.{◌≡◌, ℕ, true, false, List, Option, sym, ◌∙◌, ap, subst}
 use Rattle.md_word.specs.declared.main_bus.Answer68.{Answer68}
 use Rattle.md_word.specs.declared.main_bus.Request68.{Request68}

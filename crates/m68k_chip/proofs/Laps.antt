@@ -1,4 +1,4 @@
--- A lap is the same at each time at which it is gone through.
+-- An iteration is the same at each time at which it is gone through.
 use Rattle.std.proofs.Common.{◌≡◌, ℕ, zero, suc, ◌+◌, ◌-◌, ◌*◌, ◌<◌, ◌≤◌, ◌==◌, Bool, true, false, inl, inr, List, [], ◌∷◌, ◌++◌, length, Option, Some, None, IfSome, is_some, Result, Ok, Err, refl, sym, ap, subst, ◌∙◌, arith}
 use Rattle.std.specs.Prelude.{◌&&◌, if◌then◌else◌, max, nat_lt}
 use Rattle.std.proofs.lemmas.Bool.{and_parts}
@@ -21,7 +21,7 @@ use Rattle.m68k_chip.specs.declared.case.Case.TheVariants.{Halted, Trace, Interr
 use Rattle.m68k_chip.specs.declared.lap.Lap.{Lap}
 use Rattle.m68k_chip.specs.declared.lap.Place.{Place}
 use Rattle.m68k_chip.specs.declared.lap.Place.TheVariants.{Away, PastRead, AtRead}
-use Rattle.m68k_chip.specs.declared.lap.Watched.{Watched}
+use Rattle.m68k_chip.specs.declared.watched.Watched.{Watched}
 use Rattle.m68k_chip.specs.declared.sequencer.Sequencer.{Sequencer}
 use Rattle.m68k_chip.proofs.Ahead.{more-ahead, one-ahead}
 use Rattle.m68k_chip.proofs.Laws.{IsLevel, begun-ok, of}
@@ -110,7 +110,7 @@ answered-shifted cart n ram regs start answer (Some transfer) e =
     rw e (ap (λ (s : State68). went_on cart (record s { transfer = transfer }) 0 ([] ++ answer.value ∷ [])) (reading-shifted n ram regs start)
     ∙ went-shifted cart n (record (reading ram regs start) { transfer = transfer }) 0 ([] ++ answer.value ∷ []))
 
--- ---- the lap once more
+-- ---- the iteration once more
 
 since : (a b : ℕ) → a ≤ b → a + (b - a) ≡ b
 since a b late = omega (arith, late)
@@ -150,7 +150,7 @@ ahead-valid (suc (suc count)) cart state level known ok kind samples =
     begun-ok (of cart (begun_after (suc count) cart state level)) level known
     (ahead-valid (suc count) cart state level known ok kind (λ k some most. samples k some (omega arith))) (samples (suc count) (omega arith) (omega arith))
 
--- ---- a lap that is closed
+-- ---- an iteration that is closed
 
 pub cycles-are : (a b cycles : ℕ) (found : Option ℕ) → IfSome found (λ n. a + n ≡ b) → found ≡ Some cycles → a + cycles ≡ b
 cycles-are a b cycles found is e = subst (λ (o : Option ℕ). IfSome o (λ n. a + n ≡ b)) e is
@@ -176,7 +176,7 @@ closed lap cart ram before after watched end level begun last rest start regs an
       omega (arith, comes, at),
     )
 
--- where no lap is known nothing is to be shown
+-- where no iteration is known nothing is to be shown
 pub away : (place : Place) (lap : Lap) (cart : List ℕ) (state : State68) (request : Option Request68) (foreseen : Foreseen) → place ≡ Away → IsOn place lap cart state request foreseen
 away place lap cart state request foreseen e = subst (λ (p : Place). IsOn p lap cart state request foreseen) (sym e) tt
 
@@ -201,7 +201,7 @@ more-watched cart state level end watched cycle quiet now after at seen kind low
   quiet = λ all. let parts = and_parts watched.quiet quiet all in still parts.1 ∙ seen.quiet parts.0;
 }
 
--- ---- at the read, and behind its answer
+-- ---- at the read, and after its answer
 
 pub at-read : (lap : Lap) (cart : List ℕ) (state : State68) (place : Place) (request : Option Request68) (foreseen : Foreseen) → IsOn place lap cart state request foreseen → place ≡ AtRead → IsOn AtRead lap cart state request foreseen
 at-read lap cart state place request foreseen on is = subst (λ (p : Place). IsOn p lap cart state request foreseen) is on

@@ -74,7 +74,7 @@ pub halts-early : (b : Bool) (start end : ℕ) → start < end → IfSome (if b 
 halts-early true start end less = less
 halts-early false start end less = tt
 
--- the end of a sample is at least 28 cycles behind its start for none, and 28 more for each access
+-- the end of a sample is at least 28 cycles after its start for none, and 28 more for each access
 pub end-late : (cart : List ℕ) (state : State68) (cause : ℕ) (answers : List ℕ) (ended : Ended) → carried_out cart state cause answers ≡ Ok ended → state.start + 28 * ended.spent.accesses + 28 ≤ end_of state ended
 end-late cart state cause answers ended e = let time = suffices cause state.regs _ ended e in omega (arith, time)
 

@@ -9,7 +9,7 @@ use Rattle.m68k_chip.specs.Events.{at_sample, at_word, rested}
 use Rattle.m68k_chip.specs.Validity.{IsChip68, IsTransfer}
 use Rattle.m68k_chip.specs.States.{State68, none_left}
 
--- what holds of a state that comes to rest after an end
+-- what holds of a state that is at rest after an end
 pub record CanRest (cart : List ℕ) (state : State68) (end : ℕ) : Type 0 where
   pub image : IsImage cart
   pub ram : length state.ram ≡ 0x1_0000

@@ -16,7 +16,7 @@ use Rattle.m68k_chip.specs.States.{State68}
 use Rattle.m68k_chip.specs.declared.stage.Stage.{Stage}
 use Rattle.m68k_chip.specs.declared.stage.Stage.TheVariants.{Sample, Access, Word}
 
--- the numbers that stand in bytes are the only ones
+-- the numbers that are in bytes are the only ones
 pub only_one : (cart : List ℕ) (at : ℕ) (bytes : List ℕ) (s t : Numbers68) → Stand 0 (chip_fields cart at s) bytes → Stand 0 (chip_fields cart at t) bytes → s ≡ t
 unfolding Stand
 only_one cart at bytes s t p0 q0 =

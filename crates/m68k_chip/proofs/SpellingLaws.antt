@@ -55,7 +55,7 @@ numbers_size : (at : ℕ) (n : Numbers68) → sizes (number_fields at n) ≡ 178
 unfolding sizes
 numbers_size at n = refl
 
--- ---- what stands in the bytes
+-- ---- what is in the bytes
 
 module _ (cart : List ℕ) (at : ℕ) (bytes : List ℕ) (n : Numbers68) (fits : IsBytes bytes) (stands : (at : ℕ) (holds : Bool) → Stand 0 (fields_by at holds n) bytes) where
   pub keeps : Keeps (chip_fields cart at) bytes n

@@ -1,4 +1,4 @@
--- The request that a step tells is the one that waits, and what it foresees is what comes.
+-- The request that a step reports is the one that waits, and what it predicts is what comes.
 use Rattle.std.proofs.Common.{◌≡◌, ℕ, ◌-◌, ◌==◌, Bool, true, false, List, [], ◌∷◌, ◌++◌, Option, Some, None, Result, Ok, Err, refl, sym, ap, subst, ◌∙◌}
 use Rattle.std.specs.Prelude.{if◌then◌else◌, nat_le}
 use Rattle.md_word.specs.declared.main_bus.Request68.{Request68}
@@ -52,7 +52,7 @@ pub went-apart : (cart : List ℕ) (state : State68) (cause : ℕ) (answers kept
 unfolding went_on
 went-apart cart state cause answers kept = came-apart state cause answers kept (carried_out cart state cause answers)
 
--- ---- what is foreseen
+-- ---- what is predicted
 
 rested-foreseen : (b : Bool) (cart : List ℕ) (state : State68) (one other : ℕ) (foreseen : Foreseen)
     → IsForeseen (if b then at_sample state one else at_word state other).stage cart (if b then at_sample state one else at_word state other) foreseen
@@ -82,13 +82,13 @@ moved-foreseen cart state new cost foreseen e =
     subst (λ (s : State68). IsForeseen s.stage cart s foreseen) (sym e)
     (moved-foreseen-by (nat_le state.transfer.words 1) cart (record state { transfer = none_left }) (record state { transfer = record { source = next_source state.transfer.source; words = state.transfer.words - 1; cost = cost } }) _ _ foreseen)
 
--- where nothing is known nothing is foreseen
+-- where nothing is known nothing is predicted
 pub unknown-foreseen : (kind : Stage) (cart : List ℕ) (state : State68) (foreseen : Foreseen) → foreseen.known ≡ false → IsForeseen kind cart state foreseen
 unknown-foreseen Sample cart state foreseen none = tt
 unknown-foreseen Access cart state foreseen none = λ known. absurd (let no_way = sym none ∙ known in cc)
 unknown-foreseen Word cart state foreseen none = tt
 
--- ---- the end that was foreseen
+-- ---- the end that was predicted
 
 -- a transfer that an answer starts changes nothing of it
 started-foretells : (cart : List ℕ) (state : State68) (transfer : Option Transfer) (cause : ℕ) (answers : List ℕ) (foreseen : Foreseen) → Foretells foreseen cart state cause answers → Foretells foreseen cart (with_started state transfer) cause answers

@@ -20,7 +20,7 @@ use Rattle.m68k_chip.specs.declared.stage.Stage.TheVariants.{Sample, Access, Wor
 abbrev pub step : ℕ
 step = 28
 
--- what the sample of this cause comes to with these answers
+-- the outcome of the sample of this cause with these answers
 abbrev pub carried_out : List ℕ → State68 → ℕ → List ℕ → Result Ended Stop
 carried_out cart state cause answers = sampled cause state.regs (record { rom = cart; ram = state.ram; answers = answers })
 
@@ -50,7 +50,7 @@ abbrev pub rested : State68 → ℕ → State68
 rested state end =
     if state.transfer.words == 0 then at_sample state end else at_word state (end + state.transfer.cost)
 
--- where a sample ends that came to this
+-- where a sample ends that had this outcome
 abbrev pub end_of : State68 → Ended → ℕ
 end_of state ended = state.start + 7 * clocks_of ended.op ended.spent
 
@@ -75,7 +75,7 @@ abbrev pub came_to : State68 → ℕ → List ℕ → Result Ended Stop → Stat
 came_to state cause answers (Ok ended) = finished state ended
 came_to state cause answers (Err stop) = asking state cause answers
 
--- it goes on with what it carries out, as far as these answers go
+-- it continues with what it carries out, as far as these answers go
 unfoldable pub went_on : List ℕ → State68 → ℕ → List ℕ → State68
 went_on cart state cause answers = came_to state cause answers (carried_out cart state cause answers)
 

@@ -1,4 +1,4 @@
--- The request that the chip keeps is the one that waits, and what it foresees is what comes.
+-- The request that the chip keeps is the one that waits, and what it predicts is what comes.
 use Rattle.std.specs.Prelude.{◌≡◌, true, [], ◌∷◌, ◌++◌, List, ℕ, IsSomeAnd, Option}
 use Rattle.md_word.specs.declared.main_bus.Request68.{Request68}
 use Rattle.m68k_exec.specs.Sample.Samples.{nothing, told_by}
@@ -16,7 +16,7 @@ WaitsFor Sample cart state request = Unit {0}
 WaitsFor Access cart state request = IsSomeAnd request (λ asked. Asks cart state state.cause state.answers asked)
 WaitsFor Word cart state request = Unit {0}
 
--- what is carried out ends as it is foreseen, whatever it is answered behind these answers
+-- what is carried out ends as it is predicted, whatever it is answered after these answers
 abbrev pub Foretells : Foreseen → List ℕ → State68 → ℕ → List ℕ → Type 0
 Foretells foreseen cart state cause answers =
     foreseen.known ≡ true → (value : ℕ) → carried_out cart state cause (answers ++ value ∷ []) ≡ told_by (Done foreseen.finish) foreseen.regs nothing
@@ -27,7 +27,7 @@ IsForeseen Sample cart state foreseen = Unit {0}
 IsForeseen Access cart state foreseen = Foretells foreseen cart state state.cause state.answers
 IsForeseen Word cart state foreseen = Unit {0}
 
--- the chip is valid, and at an access waits for the answer to this request, and foresees what comes
+-- the chip is valid, and at an access waits for the answer to this request, and predicts what comes
 pub record IsHeld (value : Chip68Value) (request : Option Request68) (foreseen : Foreseen) : Type 0 where
   pub valid : IsChip68 value
   pub waiting : WaitsFor value.state.stage value.cart value.state request

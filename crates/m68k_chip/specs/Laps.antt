@@ -1,4 +1,4 @@
--- A lap: from a read, by instructions that write nothing and make no other access, back to the same read with the
+-- An iteration: from a read, by instructions that write nothing and make no other access, back to the same read with the
 -- same registers. This project's own; no manual speaks of it.
 use Rattle.std.specs.Prelude.{◌≡◌, ℕ, ◌+◌, ◌<◌, ◌≤◌, true, false, List, [], Option, None}
 use Rattle.md_word.specs.declared.main_bus.Request68.{Request68}
@@ -9,7 +9,7 @@ use Rattle.m68k_chip.specs.Held.{IsForeseen, WaitsFor}
 use Rattle.m68k_chip.specs.States.{State68, next_of, none_left}
 use Rattle.m68k_chip.specs.declared.lap.Lap.{Lap}
 use Rattle.m68k_chip.specs.declared.lap.Place.{Place}
-use Rattle.m68k_chip.specs.declared.lap.Watched.{Watched}
+use Rattle.m68k_chip.specs.declared.watched.Watched.{Watched}
 use Rattle.m68k_chip.specs.declared.lap.Place.TheVariants as places
 use Rattle.m68k_chip.specs.declared.stage.Stage.TheVariants.{Sample, Access}
 
@@ -45,7 +45,7 @@ sampling ram regs cycle = record {
   ram = ram;
 }
 
--- the cycle of the sample behind the answer, when the lap was gone through
+-- the cycle of the sample after the answer, when the iteration was gone through
 abbrev pub behind : Lap → ℕ
 behind lap = lap.start + lap.first
 
@@ -67,7 +67,7 @@ pub record HasWatched (watched : Watched) (end : ℕ) (cart : List ℕ) (level :
   pub latest : (k : ℕ) → 1 ≤ k → k < watched.samples → (begun_after k cart before level).next ≤ watched.latest
   pub quiet : watched.quiet ≡ true → after.ram ≡ before.ram
 
--- what is known at each place of a lap
+-- what is known at each place of an iteration
 abbrev pub IsOn : Place → Lap → List ℕ → State68 → Option Request68 → Foreseen → Type 0
 IsOn places.Away lap cart state request foreseen = Unit {0}
 IsOn places.Opened lap cart state request foreseen = IsAnswered lap cart state.ram × (state ≡ sampling state.ram lap.after (behind lap))
@@ -78,6 +78,6 @@ IsOn places.PastRead lap cart state request foreseen =
     IsLap lap cart state.ram × (state ≡ sampling state.ram lap.after state.start) × (behind lap ≤ state.start)
     × WaitsFor Access cart (reading state.ram lap.from state.start) request × IsForeseen Access cart (reading state.ram lap.from state.start) foreseen
 
--- a lap that was put aside is still known
+-- an iteration that was put aside is still known
 abbrev pub IsAside : Lap → List ℕ → List ℕ → Type 0
 IsAside lap cart ram = lap.place ≡ places.Learned → IsLap lap cart ram

@@ -88,6 +88,6 @@ number_fields at n =
 abbrev pub fields_by : ℕ → Bool → Numbers68 → List Field
 fields_by at holds n = number_fields at n ++ block 0x1_0000 n.ram holds ∷ []
 
--- what stands in a saved state, by the cartridge's image and the cycle of the state
+-- what is in a saved state, by the cartridge's image and the cycle of the state
 abbrev pub chip_fields : List ℕ → ℕ → Numbers68 → List Field
 chip_fields cart at n = fields_by at (asks_more cart (state_from n)) n

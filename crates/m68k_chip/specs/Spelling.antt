@@ -28,11 +28,11 @@ pub record Spells (cart : List ℕ) (at : ℕ) (bytes : List ℕ) (state : State
 abbrev pub GoesWrongAt : List ℕ → ℕ → List ℕ → ℕ → Type 0
 GoesWrongAt cart at bytes place = IsRefused chip_size (chip_fields cart at) bytes place
 
--- work RAM as it stands in the bytes
+-- work RAM as it is in the bytes
 abbrev pub ram_in : List ℕ → List ℕ
 ram_in bytes = take 0x1_0000 (drop 178 bytes)
 
--- the bytes keep the 68000, and at an access this request waits; nothing is foreseen
+-- the bytes keep the 68000, and at an access this request waits; nothing is predicted
 pub record IsKept (cart : List ℕ) (at : ℕ) (bytes : List ℕ) (state : State68) (request : Option Request68) (foreseen : Foreseen) : Type 0 where
   pub spelled : Spells cart at bytes state
   pub waits : WaitsFor state.stage cart state request

@@ -1,4 +1,4 @@
--- What a step of the processor tells the chip.
+-- What a step of the processor reports to the chip.
 use Rattle.std.specs.Prelude.{◌≡◌, ℕ, List, Option, Some, Result, Ok, Err}
 use Rattle.md_word.specs.declared.main_bus.Request68.{Request68}
 use Rattle.md_word.specs.declared.regs.Regs.{Regs}
@@ -10,7 +10,7 @@ use Rattle.m68k_exec.specs.declared.sample.step.Foreseen.{Foreseen}
 use Rattle.m68k_chip.specs.Held.{Foretells}
 use Rattle.m68k_chip.specs.States.{State68}
 
--- what a finish tells, with the registers and the bytes written then
+-- what a finish reports, with the registers and the bytes written then
 abbrev pub ended_by : Finish → Regs → List (ℕ × ℕ) → Ended
 ended_by finish regs writes = record {
   op = finish.op;
@@ -28,7 +28,7 @@ IsTold (Ok ended) request = Unit {0}
 IsTold (Err (Ask asked)) request = request ≡ Some asked
 IsTold (Err (Odd address read used)) request = Unit {0}
 
--- what is foreseen, where a request waits
+-- what is predicted, where a request waits
 abbrev pub IsForetold : Result Ended Stop → Foreseen → List ℕ → State68 → ℕ → List ℕ → Type 0
 IsForetold (Ok ended) foreseen cart state cause answers = Unit {0}
 IsForetold (Err (Ask asked)) foreseen cart state cause answers = Foretells foreseen cart state cause answers

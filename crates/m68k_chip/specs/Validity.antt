@@ -43,7 +43,7 @@ pub record IsStarted (transfer : Transfer) : Type 0 where
 abbrev pub IsTransfer : Transfer → Type 0
 IsTransfer transfer = (transfer ≡ none_left) ⊎ IsStarted transfer
 
--- a transferred word is told the cost of the next; other accesses may start a transfer
+-- a transferred word is answered with the cost of the next; other accesses may start a transfer
 abbrev pub FitsCost : Request68 → ℕ → Type 0
 FitsCost (TransferWord word) cost = IsWordCost cost
 FitsCost request cost = Unit {0}

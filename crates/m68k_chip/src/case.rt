@@ -2,6 +2,8 @@ ghost use Rattle.std.specs.Prelude.{◌≡◌};
 ghost use Rattle.m68k_chip.specs.Cases as cases;
 
 /// What the 68000 does at a sample.
+///
+/// Source: M68000 User's Manual, section 6; the order is this project's profile.
 #[derive(Clone, Copy)]
 pub enum Case {
     /// It is halted, and does nothing.
@@ -25,7 +27,7 @@ impl Case {
     }
 
     /// What the sample carries out: 0 the instruction, 1 to 7 an interrupt of that level, 8 a
-    /// trace.
+    /// trace; None where it does nothing.
     pub fn cause(self) -> Option<u8>
         ensures { result ≡ cases.cause_of self }
     {

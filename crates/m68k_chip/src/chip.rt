@@ -1,7 +1,7 @@
-ghost use Rattle.std.specs.Prelude.{◌≡◌, ◌^◌, ◌<◌, ◌≤◌, ◌↔◌, true, false, replicate, IfOk, IsTrue};
+ghost use Rattle.std.specs.Prelude.{◌≡◌, ◌^◌, ◌<◌, true, false, replicate, IfOk, IsTrue};
 
 use crate::case::Case;
-use crate::lap::{Lap, Place, Watched};
+use crate::lap::{Lap, Place};
 use crate::sequencer::Sequencer;
 use crate::stage::Stage;
 use m68k_exec::{DecodeCache, Progress};
@@ -11,7 +11,7 @@ use std::alloc::Global;
 use std::marker::Model;
 use std::sync::Arc;
 
-/// The 68000, with the cartridge and the work RAM, which no other chip reaches. It stands at its
+/// The 68000, with the cartridge and the work RAM, which no other chip reaches. It is at its
 /// next event, and what it does without other chips belongs to the event before. Cycles are master
 /// cycles, 7 a clock. Source: M68000 Programmer's Reference Manual; M68000 User's Manual, sections
 /// 5, 6 and 8; the places of events are this project's profile.
@@ -22,7 +22,7 @@ pub struct Chip68 {
     pub(crate) sequencer: Sequencer,
     pub(crate) progress: Progress,
     pub(crate) cache: DecodeCache,
-    /// The lap on which it may stand, so that a loop that waits is not carried out anew each time.
+    /// The iteration on which it may be, so that a loop that waits is not carried out again each time.
     pub(crate) lap: Lap,
     /// A second one, with another answer to the same read.
     pub(crate) other: Lap,
@@ -47,15 +47,14 @@ impl Model for Chip68 {
 
 impl Chip68 {
     ghost use Rattle.std.specs.Arc.{arc_value};
-    ghost use Rattle.m68k_chip.specs.Cases.{begins_at, case_of, is_rest};
-    ghost use Rattle.m68k_chip.specs.Events.{WentAhead, answered, begun, request_of};
-    ghost use Rattle.m68k_chip.specs.Laps.{HasWatched};
+    ghost use Rattle.m68k_chip.specs.Cases.{begins_at, case_of};
+    ghost use Rattle.m68k_chip.specs.Events.{answered, begun, request_of};
     ghost use Rattle.m68k_chip.specs.Validity.{Fits, IsChip68};
     ghost use Rattle.m68k_chip.specs.States.{next_of, power_on};
 
     /// The 68000 at power-on: its next event is a sample at cycle 0. The supervisor's stack pointer
     /// is the long at 0 of the cartridge and the program counter the long at 4; SR is 2700h, and all
-    /// else 0. It is refused where there is no memory for the work RAM.
+    /// else 0. It fails only where memory runs out: work RAM takes 64 KiB, and the cache of instructions 128 KiB.
     pub fn power_on(alloc: Global, cart: Arc<Cart>) -> Result<Chip68, NoMemory>
         ensures { IfOk result (λ chip. chip ≡ record { cart = arc_value cart; state = power_on (arc_value cart) }) }
     {
@@ -74,7 +73,7 @@ impl Chip68 {
         })
     }
 
-    /// The next event. The 68000 is chip 0.
+    /// The next event: its master cycle, the chip's number, which is 0, and whether it is a sample.
     #[tactic(auto, unfolding(crate::specs::States::next_of))]
     pub fn next(&self) -> Next
         ensures value { result ≡ next_of self.now.state }
@@ -98,7 +97,7 @@ impl Chip68 {
         self.sequencer.asked(&self.cart, &self.ram)
     }
 
-    /// Takes the answer to the access that is the next event, and goes on to the event after it.
+    /// Takes the answer to the access that is the next event, and continues to the event after it.
     /// Work RAM is written once all accesses of an instruction are answered, and not before.
     pub fn answer(&mut self, answer: Answer68)
         requires asking { (next_of self.old.state).sample ≡ false }
@@ -115,7 +114,7 @@ impl Chip68 {
         }
     }
 
-    /// `answer`, where the lap that is known does not tell what comes: perhaps the other one does.
+    /// `answer`, where the iteration that is known does not say what comes: perhaps the other one does.
     fn answer_otherwise(&mut self, answer: &Answer68)
         requires asking { (next_of self.old.state).sample ≡ false }
         requires far { self.old.state.next < 2 ^ 50 }
@@ -132,7 +131,7 @@ impl Chip68 {
         }
     }
 
-    /// `answer`, where no lap tells what comes.
+    /// `answer`, where no iteration says what comes.
     fn answer_anew(&mut self, answer: &Answer68)
         requires asking { (next_of self.old.state).sample ≡ false }
         requires far { self.old.state.next < 2 ^ 50 }
@@ -152,10 +151,9 @@ impl Chip68 {
         self.lap.take(&self.sequencer, begins, quiet);
     }
 
-    /// Takes the sample that is the next event, and goes on to the event after it: a pending trace,
-    /// an interrupt above the mask, or the instruction at the program counter, up to the first
-    /// shared access if there is one. Where it is halted or stopped, the next sample follows 28
-    /// cycles later.
+    /// Takes the sample that is the next event, and continues to the event after it. A sample takes a pending
+    /// trace, an interrupt above the mask, or the instruction at the program counter, up to the first shared access
+    /// if there is one. Where the processor is halted or stopped, the next sample follows 28 cycles later.
     pub fn sample(&mut self, pins: Pins68)
         requires sampling { (next_of self.old.state).sample ≡ true }
         requires far { self.old.state.next < 2 ^ 50 }
@@ -165,7 +163,7 @@ impl Chip68 {
     }
 
     /// `sample`; answers whether nothing was written into work RAM.
-    fn sample_quietly(&mut self, pins: Pins68) -> bool
+    pub(crate) fn sample_quietly(&mut self, pins: Pins68) -> bool
         requires sampling { (next_of self.old.state).sample ≡ true }
         requires far { self.old.state.next < 2 ^ 50 }
         ensures chip { self.new ≡ record self.old { state = begun self.old.cart self.old.state pins.level } }
@@ -184,114 +182,8 @@ impl Chip68 {
         quiet
     }
 
-    /// Takes the sample that is the next event, as `sample` does, and then all samples of these pins
-    /// below cycle `end`, up to the first access; answers how many that were.
-    pub fn sample_ahead(&mut self, pins: Pins68, end: u64) -> u64
-        requires sampling { (next_of self.old.state).sample ≡ true }
-        requires far { self.old.state.next < 2 ^ 50 }
-        requires end { end ≤ 2 ^ 50 }
-        ensures state { WentAhead result end self.old.cart pins.level self.old.state self.new.state }
-        ensures all { (next_of self.new.state).sample ≡ true → end ≤ self.new.state.next }
-        ensures cart { self.new.cart ≡ self.old.cart }
-    {
-        if self.lap.leads_back(pins.level, self.sequencer.start, end) {
-            self.lap.place = Place::AtRead;
-            let start = self.sequencer.start + u64::from(self.lap.rest);
-            self.sequencer.read_again(&self.lap.from, start);
-            self.lap.samples
-        } else if self.sequencer.rests(pins.level) {
-            self.rest_ahead(pins, end)
-        } else if matches!(self.lap.place, Place::Away) {
-            self.sample_each(pins, end)
-        } else {
-            self.sample_round(pins, end)
-        }
-    }
-
-    /// `sample_ahead` where the 68000 does nothing, being halted or stopped.
-    fn rest_ahead(&mut self, pins: Pins68, end: u64) -> u64
-        requires sampling { (next_of self.old.state).sample ≡ true }
-        requires far { self.old.state.next < 2 ^ 50 }
-        requires rest { is_rest (case_of self.old.state pins.level) ≡ true }
-        requires end { end ≤ 2 ^ 50 }
-        ensures state { WentAhead result end self.old.cart pins.level self.old.state self.new.state }
-        ensures all { (next_of self.new.state).sample ≡ true → end ≤ self.new.state.next }
-        ensures cart { self.new.cart ≡ self.old.cart }
-    {
-        self.lap.place = Place::Away;
-        self.sequencer.rest_ahead(end)
-    }
-
-    /// `sample_ahead`, sample by sample.
-    fn sample_each(&mut self, pins: Pins68, end: u64) -> u64
-        requires sampling { (next_of self.old.state).sample ≡ true }
-        requires far { self.old.state.next < 2 ^ 50 }
-        requires end { end ≤ 2 ^ 50 }
-        ensures state { WentAhead result end self.old.cart pins.level self.old.state self.new.state }
-        ensures all { (next_of self.new.state).sample ≡ true → end ≤ self.new.state.next }
-        ensures cart { self.new.cart ≡ self.old.cart }
-    {
-        self.sample(pins);
-        let mut samples = 1;
-        while self.samples_below(end) {
-            self.sample(pins);
-            samples += 1;
-        }
-        samples
-    }
-
-    /// `sample_each` from a place of a lap.
-    fn sample_round(&mut self, pins: Pins68, end: u64) -> u64
-        requires sampling { (next_of self.old.state).sample ≡ true }
-        requires far { self.old.state.next < 2 ^ 50 }
-        requires end { end ≤ 2 ^ 50 }
-        ensures state { WentAhead result end self.old.cart pins.level self.old.state self.new.state }
-        ensures all { (next_of self.new.state).sample ≡ true → end ≤ self.new.state.next }
-        ensures cart { self.new.cart ≡ self.old.cart }
-    {
-        let mut lap = self.lap;
-        let begun = self.sequencer.start;
-        let watched = self.sample_watched(pins, end);
-        lap.go_on(&self.sequencer, &watched, begun, pins.level);
-        self.lap = lap;
-        watched.samples
-    }
-
-    /// `sample_each`; answers what was seen of the samples.
-    fn sample_watched(&mut self, pins: Pins68, end: u64) -> Watched
-        requires sampling { (next_of self.old.state).sample ≡ true }
-        requires far { self.old.state.next < 2 ^ 50 }
-        requires end { end ≤ 2 ^ 50 }
-        ensures watched { HasWatched result end self.old.cart pins.level self.old.state self.new.state }
-        ensures all { (next_of self.new.state).sample ≡ true → end ≤ self.new.state.next }
-        ensures cart { self.new.cart ≡ self.old.cart }
-    {
-        let latest = self.next().key.cycle;
-        let quiet = self.sample_quietly(pins);
-        let mut watched = Watched {
-            samples: 1,
-            latest,
-            quiet,
-        };
-        while self.samples_below(end) {
-            let cycle = self.next().key.cycle;
-            let quiet = self.sample_quietly(pins);
-            watched.add(cycle, quiet);
-        }
-        watched
-    }
-
-    /// Whether the next event is a sample below a cycle.
-    #[tactic(auto, unfolding(crate::specs::States::next_of))]
-    fn samples_below(&self, end: u64) -> bool
-        ensures value { IsTrue result ↔ ((next_of self.now.state).sample ≡ true) × (self.now.state.next < end) }
-        ensures valid { IsChip68 self.now }
-    {
-        matches!(self.sequencer.stage, Stage::Sample) && self.sequencer.next < end
-    }
-
     /// The address of the instruction that the next event begins, which is a sample with these
-    /// pins; none where it does nothing, or begins a trace or an interrupt.
+    /// pins; None where it does nothing, being halted or stopped, or begins a trace or an interrupt.
     pub fn begins(&self, pins: Pins68) -> Option<u32>
         requires { (next_of self.now.state).sample ≡ true }
         ensures { result ≡ begins_at (case_of self.now.state pins.level) self.now.state.regs.pc }
@@ -309,7 +201,8 @@ impl Chip68 {
         &self.cart
     }
 
-    /// Where the processor is halted, the start of the instruction or exception that halted it.
+    /// Where the processor is halted, the master cycle at which the instruction or exception began that halted it;
+    /// None where it is not halted.
     pub fn halted(&self) -> Option<u64>
         ensures { result ≡ self.now.state.halted }
     {

@@ -1,44 +1,44 @@
-ghost use Rattle.std.specs.Prelude.{◌≡◌, ◌+◌, ◌-◌, ◌^◌, ◌<◌, ◌≤◌, ◌&&◌, max, ℕ, List, Option, false, None, IfSome, IsTrue};
+ghost use Rattle.std.specs.Prelude.{◌≡◌, ◌+◌, ◌^◌, ◌<◌, ◌≤◌, ℕ, List, Option, IfSome, IsTrue};
 ghost use Rattle.md_word.specs.declared.main_bus.Request68.{Request68};
 ghost use Rattle.m68k_exec.specs.declared.sample.step.Foreseen.{Foreseen};
 ghost use Rattle.m68k_chip.specs.Events.{answered};
-ghost use Rattle.m68k_chip.specs.Laps.{HasWatched, IsAside, IsLap, IsOn, reading, sampling};
-ghost use Rattle.m68k_chip.specs.States.{State68, none_left, state_of};
+ghost use Rattle.m68k_chip.specs.Laps.{HasWatched, IsAside, IsLap, IsOn, reading};
+ghost use Rattle.m68k_chip.specs.States.{State68, state_of};
 ghost use Rattle.m68k_chip.specs.declared.lap.Place.TheVariants.{Away, Opened, Learned, AtRead, PastRead};
 
-use crate::sequencer::{NONE_LEFT, STEP, Sequencer};
-use crate::stage::Stage;
-use md_word::{Answer68, Regs, Request68};
+use crate::sequencer::Sequencer;
+use crate::watched::Watched;
+use md_word::{Answer68, Regs};
 
-/// Where the 68000 stands on a lap.
+/// Where the 68000 is on an iteration.
 #[derive(Clone, Copy)]
 pub enum Place {
-    /// No lap is known.
+    /// No iteration is known.
     Away,
-    /// Behind the answer to a read, with which a lap may have begun.
+    /// After the answer to a read, with which an iteration may have begun.
     Opened,
-    /// Somewhere, with work RAM as the lap that is known leaves it.
+    /// Somewhere, with work RAM as the iteration that is known leaves it.
     Learned,
-    /// At the read of the lap that is known.
+    /// At the read of the iteration that is known.
     AtRead,
-    /// Behind its answer.
+    /// After its answer.
     PastRead,
 }
 
-/// A lap of a loop that waits until a read is answered otherwise: it leads from the read by instructions that write
-/// nothing and make no other access back to the read, with the same registers. Once it was gone through, it is taken
-/// in one step, for as long as the answer, the interrupt level and work RAM stay.
+/// An iteration of an idle loop, which waits until a read is answered otherwise. It leads from the read by instructions
+/// that write nothing and make no other access back to the read, with the same registers. Once it was gone through, it
+/// is taken in one step, for as long as the answer, the interrupt level and work RAM stay.
 #[derive(Clone, Copy)]
 pub struct Lap {
     pub place: Place,
     /// The registers at the read.
     pub from: Regs,
-    /// The registers behind its answer.
+    /// The registers after its answer.
     pub after: Regs,
     pub answer: Answer68,
-    /// The cycle at which the instruction began that reads, when the lap was gone through.
+    /// The cycle at which the instruction began that reads, when the iteration was gone through.
     pub start: u64,
-    /// The master cycles from there to the sample behind the answer.
+    /// The master cycles from there to the sample after the answer.
     pub first: u32,
     /// How many samples lead back to the read.
     pub samples: u64,
@@ -48,29 +48,6 @@ pub struct Lap {
     pub last: u32,
     /// The master cycles from the first of them to the start of the instruction that reads again.
     pub rest: u32,
-}
-
-/// What was seen of samples in a row.
-#[derive(Clone, Copy)]
-pub struct Watched {
-    /// How many they were.
-    pub samples: u64,
-    /// A cycle that none of them but the first lies behind.
-    pub latest: u64,
-    /// Nothing was written into work RAM.
-    pub quiet: bool,
-}
-
-impl Watched {
-    /// One more sample, at this cycle.
-    pub fn add(&mut self, cycle: u64, quiet: bool)
-        requires { self.old.samples < 2 ^ 64 - 1 }
-        ensures { self.new ≡ record { samples = self.old.samples + 1; latest = max self.old.latest cycle; quiet = self.old.quiet && quiet } }
-    {
-        self.samples += 1;
-        self.latest = self.latest.max(cycle);
-        self.quiet = self.quiet && quiet;
-    }
 }
 
 const NO_REGISTERS: Regs = Regs {
@@ -101,7 +78,7 @@ fn are_same(a: &Regs, b: &Regs) -> bool
 }
 
 impl Lap {
-    /// No lap.
+    /// No iteration.
     pub fn none() -> Lap
         ensures { result.place ≡ Away }
     {
@@ -123,7 +100,7 @@ impl Lap {
         }
     }
 
-    /// Whether the 68000 stands at the read, and that is answered as on the lap.
+    /// Whether the 68000 is at the read, and that is answered as on the iteration.
     #[inline(always)]
     pub fn is_read_again(&self, answer: &Answer68) -> bool
         ensures place { IsTrue result → self.now.place ≡ AtRead }
@@ -132,7 +109,7 @@ impl Lap {
         matches!(self.place, Place::AtRead) && answer.transfer.is_none() && *answer == self.answer
     }
 
-    /// Whether the 68000 stands behind the answer, and all samples of the lap come at this interrupt level, and
+    /// Whether the 68000 is after the answer, and all samples of the iteration come at this interrupt level, and
     /// below a cycle, where the first comes at `start`.
     #[inline(always)]
     pub fn leads_back(&self, level: u8, start: u64, end: u64) -> bool
@@ -146,8 +123,8 @@ impl Lap {
             && start + u64::from(self.last) < end
     }
 
-    /// Keeps the read that is about to be answered, if a lap may begin with it: not where one is known that begins
-    /// there with another answer. A lap that is known goes to `other`.
+    /// Keeps the read that is about to be answered, if an iteration may begin with it: not where one is known that begins
+    /// there with another answer. An iteration that is known goes to `other`.
     #[inline(always)]
     pub fn begins(&mut self, sequencer: &Sequencer, answer: &Answer68, other: &mut Lap) -> bool
         ensures reading { (ram : List ℕ) → IsTrue result → state_of sequencer.now ram ≡ reading ram self.new.from self.new.start }
@@ -168,7 +145,7 @@ impl Lap {
         false
     }
 
-    /// Puts a lap aside that is known.
+    /// Puts an iteration aside that is known.
     fn put_aside(&self, other: &mut Lap)
         ensures { (cart : List ℕ) (state : State68) (request : Option Request68) (foreseen : Foreseen) → IsOn self.now.place self.now cart state request foreseen → IsAside other.old cart state.ram → IsAside other.new cart state.ram }
     {
@@ -177,7 +154,7 @@ impl Lap {
         }
     }
 
-    /// Takes the place of the other lap, which becomes this one where it is known.
+    /// Takes the place of the other iteration, which becomes this one where it is known.
     pub fn exchange(&mut self, other: &mut Lap)
         ensures lap { self.new ≡ other.old }
         ensures other { (cart : List ℕ) (state : State68) (request : Option Request68) (foreseen : Foreseen) → IsOn self.old.place self.old cart state request foreseen → IsAside other.new cart state.ram }
@@ -201,8 +178,8 @@ impl Lap {
         }
     }
 
-    /// Whether this lap, which was put aside, is the one that begins with this answer to the read at which the 68000
-    /// stands.
+    /// Whether this iteration, which was put aside, is the one that begins with this answer to the read at which the 68000
+    /// is.
     pub fn is_begun(&self, sequencer: &Sequencer, answer: &Answer68) -> bool
         ensures place { IsTrue result → self.now.place ≡ Learned }
         ensures answer { IsTrue result → answer.now ≡ self.now.answer }
@@ -217,7 +194,7 @@ impl Lap {
             && are_same(&sequencer.regs, &self.from)
     }
 
-    /// An access was answered, where nothing was written if `quiet`. If it was the read that was kept, `begins`, a lap
+    /// An access was answered, where nothing was written if `quiet`. If it was the read that was kept, `begins`, an iteration
     /// may have begun; else one that begins at it with another answer stays known.
     #[inline(always)]
     pub fn take(&mut self, sequencer: &Sequencer, begins: bool, quiet: bool)
@@ -234,7 +211,7 @@ impl Lap {
         }
     }
 
-    /// A lap may have begun with the read that was kept.
+    /// An iteration may have begun with the read that was kept.
     #[inline(never)]
     fn follow(&mut self, sequencer: &Sequencer)
         ensures { (cart ram : List ℕ) → answered cart (reading ram self.old.from self.old.start) self.old.answer ≡ state_of sequencer.now ram
@@ -250,8 +227,8 @@ impl Lap {
         }
     }
 
-    /// Samples at this interrupt level led from a place of the lap to where the 68000 stands, the first of them at
-    /// the cycle `begun`. Where it stands at the read again, a lap is known.
+    /// Samples at this interrupt level led from a place of the iteration to where the 68000 is, the first of them at
+    /// the cycle `begun`. Where it is at the read again, an iteration is known.
     pub fn go_on(&mut self, sequencer: &Sequencer, watched: &Watched, begun: u64, level: u8)
         ensures { (cart ram : List ℕ) (before : State68) (request : Option Request68) (foreseen : Foreseen) (end : ℕ) → IsOn self.old.place self.old cart before request foreseen
             → HasWatched watched.now end cart level before (state_of sequencer.now ram) → before.start ≡ begun
@@ -268,7 +245,7 @@ impl Lap {
         }
     }
 
-    /// Closes a lap that had begun, where the 68000 stands at its read again.
+    /// Closes an iteration that had begun, where the 68000 is at its read again.
     fn close(&mut self, sequencer: &Sequencer, watched: &Watched, begun: u64, level: u8)
         requires { self.old.place ≡ Away }
         ensures { (cart ram : List ℕ) (before : State68) (request : Option Request68) (foreseen : Foreseen) (end : ℕ) → IsOn Opened self.old cart before request foreseen
@@ -288,7 +265,7 @@ impl Lap {
         }
     }
 
-    /// The lap is known, and the 68000 may stand at its read again.
+    /// The iteration is known, and the 68000 may be at its read again.
     fn come_back(&mut self, sequencer: &Sequencer)
         ensures { (cart ram : List ℕ) → IsLap self.old cart ram → IsOn self.new.place self.new cart (state_of sequencer.now ram) sequencer.now.request sequencer.now.foreseen }
     {
@@ -300,77 +277,5 @@ impl Lap {
         } else {
             Place::Learned
         };
-    }
-}
-
-impl Sequencer {
-    /// Whether it stands at the first access of an instruction, with nothing else to come.
-    pub fn is_reading(&self) -> bool
-        ensures { (ram : List ℕ) → IsTrue result → state_of self.now ram ≡ reading ram self.now.regs self.now.start }
-    {
-        matches!(self.stage, Stage::Access)
-            && self.next >= self.start
-            && self.next - self.start == STEP
-            && self.answers.is_empty()
-            && self.has_nothing_else()
-    }
-
-    /// Whether the request that waits at an access reads.
-    #[inline(always)]
-    pub fn reads(&self) -> bool {
-        matches!(
-            self.request,
-            Some(Request68::Read8(_) | Request68::Read16(_))
-        )
-    }
-
-    /// Whether it stands at a sample, with nothing else to come.
-    pub fn is_sampling(&self) -> bool
-        ensures { (ram : List ℕ) → IsTrue result → state_of self.now ram ≡ sampling ram self.now.regs self.now.start }
-    {
-        matches!(self.stage, Stage::Sample)
-            && self.next == self.start
-            && self.answers.is_empty()
-            && self.has_nothing_else()
-    }
-
-    /// Whether it goes on by an instruction, with no trace and no transfer to come.
-    fn has_nothing_else(&self) -> bool
-        ensures { IsTrue result → (self.now.stopped ≡ false) × (self.now.trace ≡ false) × (self.now.halted ≡ None) × (self.now.cause ≡ 0) × (self.now.transfer ≡ none_left) }
-    {
-        !self.stopped
-            && !self.trace
-            && self.halted.is_none()
-            && self.cause == 0
-            && self.transfer == NONE_LEFT
-    }
-
-    /// Goes from the first access of an instruction, whose answer leaves these registers, to the sample behind it.
-    #[inline(always)]
-    pub fn stand_behind(&mut self, regs: &Regs, cycle: u64)
-        requires { (ram : List ℕ) → state_of self.old ram ≡ reading ram self.old.regs self.old.start }
-        ensures state { (ram : List ℕ) → state_of self.new ram ≡ sampling ram regs.now cycle }
-        ensures request { self.new.request ≡ self.old.request }
-        ensures foreseen { self.new.foreseen ≡ self.old.foreseen }
-    {
-        self.regs = *regs;
-        self.next = cycle;
-        self.start = cycle;
-        self.stage = Stage::Sample;
-    }
-
-    /// Goes from a sample to the first access of an instruction that begins at this cycle with these registers.
-    #[inline(always)]
-    pub fn read_again(&mut self, regs: &Regs, start: u64)
-        requires sampling { (ram : List ℕ) → state_of self.old ram ≡ sampling ram self.old.regs self.old.start }
-        requires start { start < 2 ^ 60 }
-        ensures state { (ram : List ℕ) → state_of self.new ram ≡ reading ram regs.now start }
-        ensures request { self.new.request ≡ self.old.request }
-        ensures foreseen { self.new.foreseen ≡ self.old.foreseen }
-    {
-        self.regs = *regs;
-        self.start = start;
-        self.next = start + STEP;
-        self.stage = Stage::Access;
     }
 }

@@ -2,14 +2,22 @@
 //! an access to what other chips share, or a word of a transfer.
 #![tactic(auto)]
 
+mod accesses;
+mod ahead;
 mod case;
 mod chip;
+mod execution;
 mod known;
 mod lap;
+mod numbers;
+mod reading;
 mod resuming;
+mod samples;
 mod saved;
+mod saved_fields;
 mod sequencer;
 mod spelling;
 mod stage;
+mod watched;
 
 pub use chip::Chip68;

@@ -103,7 +103,7 @@ impl Sequencer {
     }
 
     /// Takes up again what is carried out at an access: the request that waits for its answer is found
-    /// anew. Tells whether there is one, and each answer is one to the access that waited for it.
+    /// again. Answers whether there is one, and each answer is one to the access that waited for it.
     pub fn resumes(&mut self, cart: &Cart, ram: &[u8; 65536]) -> bool
         ensures value { result ≡ rules.asks_more cart.now (state_of self.old ram.now) }
         ensures state { (held : List ℕ) → state_of self.new held ≡ state_of self.old held }

@@ -1,21 +1,16 @@
-ghost use Rattle.std.specs.Prelude.{◌≡◌, ◌≤◌, ℕ, Bool, false, length, map, IfErr, IfOk};
-ghost use Rattle.md_fields.specs.Fields.{AreSized, seen};
-ghost use Rattle.md_fields.specs.Padding as padding;
+ghost use Rattle.std.specs.Prelude.{◌≡◌, ◌≤◌, ℕ, Bool, false, length, IfErr, IfOk};
 ghost use Rattle.md_fields.specs.Places.{Stand};
-ghost use Rattle.m68k_chip.specs.Numbers.{numbers_of, stage_number as number_by, stage_of as stage_by, state_from};
-ghost use Rattle.m68k_chip.specs.Saved as rules;
+ghost use Rattle.m68k_chip.specs.Numbers.{numbers_of, state_from};
 ghost use Rattle.m68k_chip.specs.Saved.{fields_by};
-ghost use Rattle.m68k_chip.specs.Spelling.{GoesWrongAt, IsKept, ram_in};
+ghost use Rattle.m68k_chip.specs.Spelling.{GoesWrongAt, IsKept, chip_size, ram_in};
 ghost use Rattle.m68k_chip.specs.States.{state_of};
 
 use crate::known::known_regs;
+use crate::numbers::{padded, stage_number, stage_of};
 use crate::resuming::first_answers;
-use crate::sequencer::{STEP, Sequencer};
-use crate::stage::Stage;
+use crate::sequencer::Sequencer;
 use m68k_exec::Foreseen;
-use md_fields::{
-    Field, are_zero_words, first_wrong, is_after, is_soon, u8_at, u16_at, u32_at, u64_at, words_at,
-};
+use md_fields::{first_wrong, u8_at, u16_at, u32_at, u64_at, words_at};
 use md_word::{Regs, Transfer};
 use rom_header::Cart;
 use std::marker::Model;
@@ -23,45 +18,29 @@ use std::marker::Model;
 /// How many bytes of a saved state keep a 68000.
 pub const LENGTH: usize = 65_714;
 
-/// Where work RAM stands among them.
+/// Where work RAM is among them.
 pub const RAM: usize = 178;
-
-/// The stages of an access and of a word of a transfer.
-const ACCESS: u8 = 1;
-
-const WORD: u8 = 2;
-
-/// The bits of the status register.
-const STATUS: u16 = 0xa71f;
-
-/// How many answers there can be, and how many words of a transfer.
-const ANSWERS: u8 = 31;
-
-const WORDS: u32 = 0x1_0000;
-
-/// Where the addresses of the bus end.
-const BUS_END: u32 = 0x100_0000;
 
 /// The numbers that a saved state keeps of the 68000, whatever they are, in their order. Cycles are
 /// master cycles.
 #[derive(Drop)]
 pub struct Saved68<'a> {
-    next: u64,
+    pub(crate) next: u64,
     /// 0 a sample, 1 an access, 2 a word of a transfer.
-    stage: u8,
-    start: u64,
-    regs: Regs,
-    stopped: u8,
-    halted: u8,
-    trace: u8,
+    pub(crate) stage: u8,
+    pub(crate) start: u64,
+    pub(crate) regs: Regs,
+    pub(crate) stopped: u8,
+    pub(crate) halted: u8,
+    pub(crate) trace: u8,
     /// The start of what halted it.
-    since: u64,
-    cause: u8,
+    pub(crate) since: u64,
+    pub(crate) cause: u8,
     /// How many of the answers there are.
-    count: u8,
-    answers: [u16; 32],
-    transfer: Transfer,
-    ram: &'a [u8; 65536],
+    pub(crate) count: u8,
+    pub(crate) answers: [u16; 32],
+    pub(crate) transfer: Transfer,
+    pub(crate) ram: &'a [u8; 65536],
 }
 
 impl<'a> Model for Saved68<'a> {
@@ -133,10 +112,10 @@ impl<'a> Saved68<'a> {
         }
     }
 
-    /// The numbers that stand in the bytes.
+    /// The numbers that are in the bytes.
     #[tactic(auto, unfolding(md_fields::specs::Places::Stand))]
     fn read(bytes: &'a [u8]) -> Saved68<'a>
-        requires { length bytes.now ≡ 65714 }
+        requires { length bytes.now ≡ chip_size }
         ensures stands { (at : ℕ) (holds : Bool) → Stand 0 (fields_by at holds result) bytes.now }
         ensures ram { result.ram ≡ ram_in bytes.now }
     {
@@ -185,123 +164,6 @@ impl<'a> Saved68<'a> {
         }
     }
 
-    /// The fields in their order, and whether their rules hold; that of work RAM is told.
-    #[tactic(auto, unfolding(md_fields::specs::Fields::AreSized))]
-    pub fn fields(&self, at: u64, holds: bool) -> [Field<'_>; 33]
-        ensures fields { map seen result ≡ fields_by at holds self.now }
-        ensures sizes { AreSized (map seen result) }
-    {
-        let ram = self.ram;
-        [
-            Field::Quad(self.next, is_soon(self.next, at)),
-            Field::Byte(self.stage, self.stage <= WORD),
-            Field::Quad(self.start, self.is_start(at)),
-            Field::Long(self.regs.d[0], true),
-            Field::Long(self.regs.d[1], true),
-            Field::Long(self.regs.d[2], true),
-            Field::Long(self.regs.d[3], true),
-            Field::Long(self.regs.d[4], true),
-            Field::Long(self.regs.d[5], true),
-            Field::Long(self.regs.d[6], true),
-            Field::Long(self.regs.d[7], true),
-            Field::Long(self.regs.a[0], true),
-            Field::Long(self.regs.a[1], true),
-            Field::Long(self.regs.a[2], true),
-            Field::Long(self.regs.a[3], true),
-            Field::Long(self.regs.a[4], true),
-            Field::Long(self.regs.a[5], true),
-            Field::Long(self.regs.a[6], true),
-            Field::Long(self.regs.usp, true),
-            Field::Long(self.regs.ssp, true),
-            Field::Long(self.regs.pc, true),
-            Field::Word(self.regs.sr, self.regs.sr & STATUS == self.regs.sr),
-            Field::Byte(self.stopped, self.stopped <= 1),
-            Field::Byte(self.halted, self.is_halted()),
-            Field::Byte(self.trace, self.trace <= 1),
-            Field::Quad(self.since, self.is_since(at)),
-            Field::Byte(self.cause, self.is_cause()),
-            Field::Byte(self.count, self.are_answers()),
-            Field::Words(&self.answers, true),
-            Field::Long(self.transfer.source, true),
-            Field::Long(self.transfer.words, self.are_words()),
-            Field::Word(self.transfer.cost, self.is_cost()),
-            Field::Block(ram, holds),
-        ]
-    }
-
-    fn is_start(&self, at: u64) -> bool
-        ensures { result ≡ rules.is_start at self.now }
-    {
-        if self.stage == ACCESS {
-            self.start < at
-        } else {
-            self.start == self.next
-        }
-    }
-
-    fn is_halted(&self) -> bool
-        ensures { result ≡ rules.is_halted self.now }
-    {
-        self.halted <= 1 && (self.halted == 0 || self.stage != ACCESS)
-    }
-
-    fn is_since(&self, at: u64) -> bool
-        ensures { result ≡ rules.is_since at self.now }
-    {
-        if self.halted == 1 {
-            self.since < at
-        } else {
-            self.since == 0
-        }
-    }
-
-    fn is_cause(&self) -> bool
-        ensures { result ≡ rules.is_cause self.now }
-    {
-        self.cause == 0
-            || (self.stage == ACCESS && (self.cause == 4 || (self.cause == 6 || self.cause == 8)))
-    }
-
-    /// Whether the next event stands where the count of answers puts it.
-    fn follows(&self) -> bool
-        ensures { result ≡ rules.follows self.now }
-    {
-        if self.stage == ACCESS {
-            is_after(self.next, self.start, STEP * (u64::from(self.count) + 1))
-        } else {
-            self.count == 0
-        }
-    }
-
-    fn are_answers(&self) -> bool
-        ensures { result ≡ rules.are_answers self.now }
-    {
-        self.count <= ANSWERS
-            && (self.follows() && are_zero_words(&self.answers[usize::from(self.count)..]))
-    }
-
-    fn are_words(&self) -> bool
-        ensures { result ≡ rules.are_words self.now }
-    {
-        let Transfer { source, words, .. } = self.transfer;
-        if words == 0 {
-            source == 0 && self.stage != WORD
-        } else {
-            words <= WORDS && self.stage != 0 && is_source(source)
-        }
-    }
-
-    fn is_cost(&self) -> bool
-        ensures { result ≡ rules.is_cost self.now }
-    {
-        let Transfer { words, cost, .. } = self.transfer;
-        if words == 0 {
-            cost == 0
-        } else {
-            cost == 34 || cost == 380
-        }
-    }
-
     /// The 68000 of which these numbers are kept. What it waits for is not known yet.
     fn sequencer(&self) -> Sequencer
         requires { self.now.count ≤ 31 }
@@ -334,8 +196,8 @@ impl<'a> Saved68<'a> {
         }
     }
 
-    /// The 68000 that the bytes keep, with the request that it waits for, where all rules hold; else
-    /// the place of the refusal.
+    /// The 68000 that the bytes keep, with the request that it waits for, where all rules hold. Else the offset
+    /// of the first field whose rule fails, or the lesser of the two lengths where the length is wrong.
     pub fn checked(bytes: &'a [u8], at: u64, cart: &Cart) -> Result<Sequencer, usize>
         ensures found { IfOk result (λ s. IsKept cart.now at bytes.now (state_of s (ram_in bytes.now)) s.request s.foreseen) }
         ensures refused { IfErr result (λ place. GoesWrongAt cart.now at bytes.now place) }
@@ -356,46 +218,9 @@ impl<'a> Saved68<'a> {
     }
 }
 
-fn stage_number(stage: Stage) -> u8
-    ensures { result ≡ number_by stage }
-{
-    match stage {
-        Stage::Sample => 0,
-        Stage::Access => ACCESS,
-        Stage::Word => WORD,
-    }
-}
-
-fn stage_of(number: u8) -> Stage
-    ensures { result ≡ stage_by number }
-{
-    match number {
-        0 => Stage::Sample,
-        1 => Stage::Access,
-        _ => Stage::Word,
-    }
-}
-
-fn is_source(source: u32) -> bool
-    ensures { result ≡ rules.is_source source }
-{
-    source % 2 == 0 && source < BUS_END
-}
-
-/// The answers, and 0 in the places that are not used.
-fn padded(answers: &[u16]) -> [u16; 32]
-    requires { length answers.now ≤ 32 }
-    ensures value { result ≡ padding.padded 32 answers.now }
-    ensures size { length result ≡ 32 }
-{
-    let mut all = [0; 32];
-    all[..answers.len()].copy_from_slice(answers);
-    all
-}
-
-/// Work RAM as it stands in the bytes.
+/// Work RAM as it is in the bytes.
 fn ram_at(bytes: &[u8]) -> &[u8; 65536]
-    requires { length bytes.now ≡ 65714 }
+    requires { length bytes.now ≡ chip_size }
     ensures value { result.now ≡ ram_in bytes.now }
     ensures size { length result.now ≡ 0x1_0000 }
 {

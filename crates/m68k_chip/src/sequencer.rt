@@ -1,26 +1,12 @@
-ghost use Rattle.std.specs.Prelude.{◌≡◌, ◌+◌, ◌*◌, ◌^◌, ◌<◌, ◌≤◌, ℕ, List, [], Some, false, length, replicate};
-ghost use Rattle.arrayvec.specs.ArrayVec.{array_vec_len};
+ghost use Rattle.std.specs.Prelude.{◌≡◌, ◌+◌, ◌^◌, ◌<◌, ℕ, List, length, replicate};
 ghost use Rattle.rom_header.specs.Cartridge.{IsImage};
-ghost use Rattle.m68k_time.specs.Clocks.{clocks_of};
-ghost use Rattle.m68k_exec.specs.Access.Memory.{ram_after, word_at};
-ghost use Rattle.m68k_exec.specs.Sample.Caches.{IsCacheOf};
-ghost use Rattle.m68k_chip.specs.Cases as cases;
 ghost use Rattle.m68k_chip.specs.Events as events;
-ghost use Rattle.m68k_chip.specs.Events.{answered, answered_at, begun, carried_out, end_of, request_at, went_on};
-ghost use Rattle.m68k_exec.specs.declared.sample.step.Foreseen.{Foreseen};
-ghost use Rattle.m68k_chip.specs.Held.{IsForeseen, WaitsFor};
-ghost use Rattle.m68k_chip.specs.Steps.{IsForetold, IsTold, ended_by};
-ghost use Rattle.m68k_chip.specs.States.{long_in, next_of, none_left, power_on, state_of};
-ghost use Rattle.m68k_chip.specs.declared.stage.Stage.TheVariants.{Access};
+ghost use Rattle.m68k_chip.specs.States.{long_in, power_on, state_of};
 
-use crate::case::Case;
 use crate::stage::Stage;
 use arrayvec::ArrayVec;
-use m68k_exec::{DecodeCache, Finish, Foreseen, Progress, Step, foresee_cached, word_at};
-use m68k_time::clocks;
-use md_word::clock::MAIN_CLOCK;
-use md_word::{Answer68, Regs, Request68, Transfer};
-use rom_header::Cart;
+use m68k_exec::Foreseen;
+use md_word::{Regs, Request68, Transfer};
 
 /// The master cycles from a sample to the first access of what it carries out, from one access to
 /// the next, and for which a 68000 waits that is stopped or halted.
@@ -36,7 +22,7 @@ pub const NONE_LEFT: Transfer = Transfer {
     cost: 0,
 };
 
-/// The registers of the 68000, and where it stands between two of its events.
+/// The registers of the 68000, and where it is between two of its events.
 #[derive(Drop)]
 pub struct Sequencer {
     pub regs: Regs,
@@ -60,7 +46,7 @@ pub struct Sequencer {
     pub transfer: Transfer,
     /// The request that waits for its answer at an access; at other events it may be any that did.
     pub request: Option<Request68>,
-    /// What comes behind the answer, where that is known.
+    /// What follows the answer, where that is known.
     pub foreseen: Foreseen,
 }
 
@@ -73,15 +59,6 @@ fn long_at(image: &[u8], at: usize) -> u32
         + u32::from(image[at + 1]) * 0x1_0000
         + u32::from(image[at + 2]) * 0x100
         + u32::from(image[at + 3])
-}
-
-/// Writes bytes into work RAM, the first of them first.
-fn store_all(writes: &[(u32, u8)], ram: &mut [u8; 65536])
-    ensures { ram.new ≡ ram_after ram.old writes.now }
-{
-    'writes: for (address, byte) in writes {
-        ram[(*address % 0x1_0000) as usize] = *byte;
-    }
 }
 
 impl Sequencer {
@@ -114,27 +91,8 @@ impl Sequencer {
         }
     }
 
-    /// What the next sample finds at this interrupt level.
-    #[tactic(auto, unfolding(crate::specs::Cases::case_of))]
-    pub fn case_at(&self, level: u8) -> Case
-        ensures { (ram : List ℕ) → result ≡ cases.case_of (state_of self.now ram) level }
-    {
-        let mask = self.regs.sr / 0x100 % 8;
-        if self.halted.is_some() {
-            Case::Halted
-        } else if self.trace {
-            Case::Trace
-        } else if mask < u16::from(level) {
-            Case::Interrupt(level)
-        } else if self.stopped {
-            Case::Stopped
-        } else {
-            Case::Instruction
-        }
-    }
-
     /// Rests until a sample at this cycle.
-    fn rest_at_sample(&mut self, cycle: u64)
+    pub fn rest_at_sample(&mut self, cycle: u64)
         ensures { (ram : List ℕ) → state_of self.new ram ≡ events.at_sample (state_of self.old ram) cycle }
     {
         self.next = cycle;
@@ -143,7 +101,7 @@ impl Sequencer {
     }
 
     /// Rests until a word of a transfer at this cycle.
-    fn rest_at_word(&mut self, cycle: u64)
+    pub fn rest_at_word(&mut self, cycle: u64)
         ensures { (ram : List ℕ) → state_of self.new ram ≡ events.at_word (state_of self.old ram) cycle }
     {
         self.next = cycle;
@@ -151,9 +109,9 @@ impl Sequencer {
         self.stage = Stage::Word;
     }
 
-    /// Goes on from the end of what was carried out: to the words of a transfer that it started,
+    /// Continues from the end of what was carried out: to the words of a transfer that it started,
     /// else to the next sample.
-    fn rest(&mut self, end: u64)
+    pub fn rest(&mut self, end: u64)
         requires { end < 2 ^ 60 }
         ensures { (ram : List ℕ) → state_of self.new ram ≡ events.rested (state_of self.old ram) end }
     {
@@ -172,246 +130,5 @@ impl Sequencer {
     {
         let cycle = self.start + STEP;
         self.rest_at_sample(cycle);
-    }
-
-    /// Whether the next sample at this interrupt level does nothing, and those after it neither.
-    pub fn rests(&self, level: u8) -> bool
-        ensures { (ram : List ℕ) → result ≡ cases.is_rest (cases.case_of (state_of self.now ram) level) }
-    {
-        self.case_at(level).is_rest()
-    }
-
-    /// Does nothing at the next sample and at those below cycle `end` after it; answers how many samples
-    /// that were.
-    pub fn rest_ahead(&mut self, end: u64) -> u64
-        requires start { self.old.start < 2 ^ 50 }
-        requires end { end ≤ 2 ^ 50 }
-        ensures samples { result ≡ 1 + events.steps_to (self.old.start + events.step) end }
-        ensures state { (ram : List ℕ) → state_of self.new ram ≡ events.at_sample (state_of self.old ram)
-            (self.old.start + events.step + events.step * events.steps_to (self.old.start + events.step) end) }
-    {
-        let first = self.start + STEP;
-        let steps = end.saturating_sub(first).div_ceil(STEP);
-        self.rest_at_sample(first + STEP * steps);
-        1 + steps
-    }
-
-    /// Goes to the access that waits for the next answer.
-    fn ask(&mut self, cause: u8, request: Request68)
-        requires start { self.old.start < 2 ^ 50 }
-        requires answers { length self.old.answers.items < 32 }
-        ensures state { (ram : List ℕ) → state_of self.new ram ≡ events.asking (state_of self.old ram) cause self.old.answers.items }
-        ensures request { self.new.request ≡ Some request }
-        ensures foreseen { self.new.foreseen ≡ self.old.foreseen }
-    {
-        self.next = self.start + STEP * (self.answers.len() as u64 + 1);
-        self.stage = Stage::Access;
-        self.cause = cause;
-        self.request = Some(request);
-    }
-
-    /// Ends what was carried out, from the registers that it left; what it wrote into work RAM is
-    /// stored elsewhere.
-    #[inline(always)]
-    fn finish(&mut self, finish: &Finish)
-        requires { self.old.start < 2 ^ 50 }
-        ensures { (ram : List ℕ) (writes : List (ℕ × ℕ)) → state_of self.new (ram_after ram writes)
-            ≡ events.finished (state_of self.old ram) (ended_by finish.now self.old.regs writes) }
-    {
-        let clocks = clocks(&finish.op, finish.spent);
-        let end = self.start + MAIN_CLOCK * u64::from(clocks);
-        self.stopped = finish.stopped;
-        self.trace = finish.trace;
-        self.halted = if finish.halted {
-            Some(self.start)
-        } else {
-            None
-        };
-        self.cause = 0;
-        self.answers.clear();
-        self.rest(end);
-    }
-
-    /// Goes on with what is carried out, as far as the answers go.
-    #[tactic(auto, unfolding(crate::specs::Events::went_on))]
-    pub fn go_on(
-        &mut self,
-        cause: u8,
-        cart: &Cart,
-        ram: &mut [u8; 65536],
-        cache: &mut DecodeCache,
-        progress: &mut Progress,
-    )
-        requires start { self.old.start < 2 ^ 50 }
-        requires cache { IsCacheOf cart.now cache.old }
-        ensures cache { IsCacheOf cart.now cache.new }
-        ensures state { state_of self.new ram.new ≡ went_on cart.now (state_of self.old ram.old) cause self.old.answers.items }
-        ensures quiet { progress.new.writes.items ≡ [] → ram.new ≡ ram.old }
-        ensures told { IsTold (carried_out cart.now (state_of self.old ram.old) cause self.old.answers.items) self.new.request }
-        ensures foretold { IsForetold (carried_out cart.now (state_of self.old ram.old) cause self.old.answers.items) self.new.foreseen cart.now (state_of self.old ram.old) cause self.old.answers.items }
-    {
-        let mut step = Step::Need(Request68::Ack(0));
-        foresee_cached(
-            &mut self.regs,
-            cart,
-            ram,
-            &self.answers,
-            cause,
-            cache,
-            progress,
-            &mut step,
-            &mut self.foreseen,
-        );
-        match &step {
-            Step::Need(request) => self.ask(cause, *request),
-            Step::Done(finish) => {
-                store_all(progress.writes.as_slice(), ram);
-                self.finish(finish);
-            }
-        }
-    }
-
-    /// Ends what was carried out as it is foreseen.
-    fn end_foreseen(&mut self)
-        requires { self.old.start < 2 ^ 50 }
-        ensures { (ram : List ℕ) → state_of self.new ram
-            ≡ events.finished (state_of self.old ram) (ended_by self.old.foreseen.finish self.old.foreseen.regs []) }
-    {
-        self.regs = self.foreseen.regs;
-        let finish = self.foreseen.finish;
-        self.finish(&finish);
-    }
-
-    /// A word of a transfer was moved, and the next costs so many cycles.
-    fn move_word(&mut self, cost: u16)
-        requires next { self.old.next < 2 ^ 50 }
-        requires source { self.old.transfer.source < 2 ^ 24 }
-        ensures { (ram : List ℕ) → state_of self.new ram ≡ events.word_moved (state_of self.old ram) cost }
-    {
-        let Transfer { source, words, .. } = self.transfer;
-        let next = self.next;
-        if words <= 1 {
-            self.transfer = NONE_LEFT;
-            self.rest_at_sample(next + STEP);
-        } else {
-            self.transfer = Transfer {
-                source: source / 0x2_0000 * 0x2_0000 + (source + 2) % 0x2_0000,
-                words: words - 1,
-                cost,
-            };
-            self.rest_at_word(next + u64::from(cost));
-        }
-    }
-
-    /// A transfer that an answer starts takes the place of an earlier one.
-    fn start_transfer(&mut self, transfer: Option<Transfer>)
-        ensures state { (ram : List ℕ) → state_of self.new ram ≡ events.with_started (state_of self.old ram) transfer }
-        ensures answers { self.new.answers.items ≡ self.old.answers.items }
-        ensures foreseen { self.new.foreseen ≡ self.old.foreseen }
-    {
-        if let Some(transfer) = transfer {
-            self.transfer = transfer;
-        }
-    }
-
-    /// Goes on from a sample at this interrupt level to the next event.
-    #[tactic(auto, unfolding(crate::specs::Events::begun))]
-    pub fn begin(
-        &mut self,
-        level: u8,
-        cart: &Cart,
-        ram: &mut [u8; 65536],
-        cache: &mut DecodeCache,
-        progress: &mut Progress,
-    )
-        requires start { self.old.start < 2 ^ 50 }
-        requires answers { self.old.answers.items ≡ [] }
-        requires cache { IsCacheOf cart.now cache.old }
-        ensures cache { IsCacheOf cart.now cache.new }
-        ensures state { state_of self.new ram.new ≡ begun cart.now (state_of self.old ram.old) level }
-        ensures quiet { progress.new.writes.items ≡ [] → ram.new ≡ ram.old }
-        ensures waiting { WaitsFor self.new.stage cart.now (state_of self.new ram.new) self.new.request }
-        ensures foreseen { IsForeseen self.new.stage cart.now (state_of self.new ram.new) self.new.foreseen }
-    {
-        match self.case_at(level).cause() {
-            Some(cause) => self.go_on(cause, cart, ram, cache, progress),
-            None => self.wait(),
-        }
-    }
-
-    /// Takes the answer to a shared access of what is carried out.
-    pub fn take(
-        &mut self,
-        answer: &Answer68,
-        cart: &Cart,
-        ram: &mut [u8; 65536],
-        cache: &mut DecodeCache,
-        progress: &mut Progress,
-    )
-        requires start { self.old.start < 2 ^ 50 }
-        requires few { array_vec_len self.old.answers < 32 }
-        requires foreseen { IsForeseen Access cart.now (state_of self.old ram.old) self.old.foreseen }
-        requires cache { IsCacheOf cart.now cache.old }
-        ensures cache { IsCacheOf cart.now cache.new }
-        ensures state { state_of self.new ram.new ≡ answered_at Access cart.now (state_of self.old ram.old) answer.now }
-        ensures quiet { progress.new.writes.items ≡ [] → ram.new ≡ ram.old }
-        ensures waiting { WaitsFor self.new.stage cart.now (state_of self.new ram.new) self.new.request }
-        ensures foreseen { IsForeseen self.new.stage cart.now (state_of self.new ram.new) self.new.foreseen }
-    {
-        self.start_transfer(answer.transfer);
-        if self.foreseen.known {
-            self.end_foreseen();
-        } else {
-            self.answers.push(answer.value);
-            let cause = self.cause;
-            self.go_on(cause, cart, ram, cache, progress);
-        }
-    }
-
-    /// The request that waits for its answer at the next event, which is an access.
-    #[tactic(auto, unfolding(crate::specs::States::next_of))]
-    pub fn asked(&self, cart: &Cart, ram: &[u8; 65536]) -> Request68
-        requires access { (next_of (state_of self.now ram.now)).sample ≡ false }
-        requires waiting { WaitsFor self.now.stage cart.now (state_of self.now ram.now) self.now.request }
-        requires source { self.now.transfer.source < 2 ^ 24 }
-        ensures { result ≡ request_at self.now.stage cart.now (state_of self.now ram.now) }
-    {
-        match self.stage {
-            Stage::Sample => unreachable!(),
-            Stage::Access => match self.request {
-                Some(request) => request,
-                None => unreachable!(),
-            },
-            Stage::Word => Request68::Word(word_at(self.transfer.source, cart.bytes(), ram)),
-        }
-    }
-
-    /// Takes the answer to the access that is the next event.
-    #[tactic(auto, unfolding(crate::specs::Events::answered))]
-    pub fn answer(
-        &mut self,
-        answer: &Answer68,
-        cart: &Cart,
-        ram: &mut [u8; 65536],
-        cache: &mut DecodeCache,
-        progress: &mut Progress,
-    )
-        requires start { self.old.start < 2 ^ 50 }
-        requires next { self.old.next < 2 ^ 50 }
-        requires source { self.old.transfer.source < 2 ^ 24 }
-        requires few { array_vec_len self.old.answers < 32 }
-        requires foreseen { IsForeseen self.old.stage cart.now (state_of self.old ram.old) self.old.foreseen }
-        requires cache { IsCacheOf cart.now cache.old }
-        ensures cache { IsCacheOf cart.now cache.new }
-        ensures state { state_of self.new ram.new ≡ answered cart.now (state_of self.old ram.old) answer.now }
-        ensures quiet { progress.new.writes.items ≡ [] → ram.new ≡ ram.old }
-        ensures waiting { WaitsFor self.new.stage cart.now (state_of self.new ram.new) self.new.request }
-        ensures foreseen { IsForeseen self.new.stage cart.now (state_of self.new ram.new) self.new.foreseen }
-    {
-        match self.stage {
-            Stage::Sample => {}
-            Stage::Access => self.take(answer, cart, ram, cache, progress),
-            Stage::Word => self.move_word(answer.cost),
-        }
     }
 }

@@ -18,7 +18,7 @@ impl Chip68 {
     ghost use Rattle.std.specs.Arc.{arc_value};
 
     /// Appends the bytes of a saved state at a cycle that keep this 68000, 65,714 in all. There is room
-    /// for them. They are read again where no event stands below the cycle, and the rules hold there.
+    /// for them. They are read again where no event is below the cycle, and the rules hold there.
     pub fn spell(&self, at: u64, into: &mut Vec<u8>)
         requires { vec_len into.old + chip_size ≤ vec_capacity into.old }
         ensures bytes { into.new.items ≡ into.old.items ++ chip_bytes self.now.state }
@@ -34,7 +34,7 @@ impl Chip68 {
         );
     }
 
-    /// Tells that the bytes of this 68000 are read again, where no event stands below a cycle and the rules hold
+    /// Makes known that the bytes of this 68000 are read again, where no event is below a cycle and the rules hold
     /// there.
     pub fn is_read_again(&self)
         ensures { (at : ℕ) → at ≤ self.now.state.next → HasRules at self.now.state → Spells self.now.cart at (chip_bytes self.now.state) self.now.state }
@@ -43,10 +43,11 @@ impl Chip68 {
         known_next(&self.sequencer);
     }
 
-    /// The 68000 that the bytes of a saved state at a cycle keep, over its cartridge. Bytes that are not
-    /// 65,714 are refused at the lesser of the two lengths, others at the place of the first field whose
-    /// rule fails. An access of what does not ask for one more answer, or was answered by what does not
-    /// fit, is refused at 178, where work RAM begins. Work RAM is copied.
+    /// The 68000 that the bytes of a saved state at a cycle keep, over its cartridge. Numbers have their high
+    /// byte first. Bytes that are not 65,714 are refused at the lesser of the two lengths, others at the offset of
+    /// the first field whose rule fails. An access of what does not ask for one more answer, or was answered by
+    /// what does not fit, is refused at 178, where work RAM begins. Work RAM is copied; where memory runs out the
+    /// answer is NoMemory.
     pub fn unspell(alloc: Global, bytes: &[u8], at: u64, cart: Arc<Cart>) -> Result<Chip68, Unspell>
         ensures found { IfOk result (λ chip. (chip.cart ≡ arc_value cart) × Spells (arc_value cart) at bytes.now chip.state) }
         ensures recent { IfOk result (λ chip. HasRules at chip.state) }
@@ -77,9 +78,9 @@ impl Chip68 {
     }
 }
 
-/// Work RAM as it stands in the bytes.
+/// Work RAM as it is in the bytes.
 fn copied(alloc: Global, bytes: &[u8]) -> Result<Box<[u8; 65536]>, NoMemory>
-    requires { length bytes.now ≡ 65714 }
+    requires { length bytes.now ≡ chip_size }
     ensures { IfOk result (λ ram. ram.value ≡ ram_in bytes.now) }
 {
     let mut ram = Box::new(alloc, [0; 65536])?;

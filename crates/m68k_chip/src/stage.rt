@@ -1,4 +1,6 @@
 /// What the next event of the 68000 is.
+///
+/// Source: this project's profile.
 #[derive(Clone, Copy, PartialEq, Eq, Debug)]
 pub enum Stage {
     /// A sample of the interrupt level, at the start of an instruction.

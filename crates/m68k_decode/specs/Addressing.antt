@@ -3,7 +3,7 @@
 use Rattle.std.specs.Prelude.{ℕ, Bool, ◌+◌, ◌/◌, ◌%◌, ◌==◌, ◌&&◌, ◌||◌, not, nat_lt, nat_le, if◌then◌else◌}
 
 -- 0 Dn, 1 An, 2 (An), 3 (An)+, 4 −(An), 5 d16(An), 6 d8(An,Xn), 7 xxx.W, 8 xxx.L, 9 d16(PC),
--- 10 d8(PC,Xn), 11 #; above, no mode. A mode and its register stand in the low six bits of a word
+-- 10 d8(PC,Xn), 11 #; above, no mode. A mode and its register are in the low six bits of a word
 abbrev pub mode_number : ℕ → ℕ → ℕ
 mode_number m r = if nat_lt m 7 then m else 7 + r
 

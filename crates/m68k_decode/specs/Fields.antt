@@ -81,11 +81,11 @@ words_of_mode size (Immediate value) = words_of_number size
 unfoldable pub low_mode : Size → ℕ → List ℕ → Mode
 low_mode size k words = mode_of (opcode words / 8 % 8) (opcode words % 8) size k words
 
--- the target of MOVE: its register stands before its mode
+-- the target of MOVE: its register precedes its mode
 unfoldable pub high_mode : Size → ℕ → List ℕ → Mode
 high_mode size k words = mode_of (opcode words / 64 % 8) (opcode words / 512 % 8) size k words
 
--- the operands of ABCD, SBCD, ADDX and SUBX: bit 3 tells −(An) from Dn
+-- the operands of ABCD, SBCD, ADDX and SUBX: bit 3 distinguishes −(An) from Dn
 unfoldable pub paired : List ℕ → ℕ → Mode
 paired words n = if bit_of (opcode words) 8 then PreDec n else Data n
 

@@ -53,7 +53,7 @@ byte_of_address w = w / 64 % 4 == 0 && low_mode_number w == 1
 abbrev pub words_on : (ℕ → Bool) → ℕ → Bool
 words_on class w = sized_on class w && not (byte_of_address w)
 
--- MOVE: any source, but no byte of an address register; the target's register stands before its
+-- MOVE: any source, but no byte of an address register; the target's register precedes its
 -- mode
 abbrev pub moved_to : (ℕ → Bool) → ℕ → Bool
 moved_to class w = any (low_mode_number w) && class (mode_number (w / 64 % 8) (w / 512 % 8))

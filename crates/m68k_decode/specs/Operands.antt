@@ -6,7 +6,7 @@ use Rattle.md_word.specs.declared.mode.Mode.{Mode}
 use Rattle.md_word.specs.declared.mode.Mode.TheVariants as modes
 use Rattle.md_word.specs.declared.size.Size.{Size}
 
--- a number that stands in the instruction is of the size
+-- a number that is in the instruction is of the size
 abbrev pub FitsSize : Size → Mode → Type 0
 FitsSize size (modes.Immediate value) = value < modulus_of size
 FitsSize size _ = Unit {0}

@@ -141,7 +141,7 @@ accesses_of (ops.Muls _ mode) = touches_of Word mode
 accesses_of (ops.ShiftMemory _ mode) = 2 * touches_of Word mode
 accesses_of _ = 0
 
--- MOVEM tells how many registers its list has
+-- MOVEM reports how many registers its list has
 abbrev pub Counts : Op → ℕ → Type 0
 Counts (ops.MovemToMemory size list mode) count = count ≡ count_ones list
 Counts (ops.MovemToRegisters size list mode) count = count ≡ count_ones list

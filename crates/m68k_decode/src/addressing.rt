@@ -83,7 +83,7 @@ pub fn is_control_or_postincrement(word: u16) -> bool
     matches!(low_mode_number(word), 2 | 3 | 5..=10)
 }
 
-/// Whether the target of MOVE is a data alterable mode: its register stands before its mode.
+/// Whether the target of MOVE is a data alterable mode: its register precedes its mode.
 pub fn is_data_alterable_target(word: u16) -> bool
     ensures { result ≡ classes.data_alterable (classes.mode_number (word / 64 % 8) (word / 512 % 8)) }
 {

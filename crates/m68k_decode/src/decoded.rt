@@ -4,6 +4,8 @@ ghost use Rattle.m68k_decode.specs.Instructions.{of_words};
 use crate::Op;
 
 /// A decoded instruction.
+///
+/// Source: M68000 Programmer's Reference Manual, sections 4 and 8.
 #[derive(Clone, Copy)]
 pub struct Decoded {
     pub op: Op,

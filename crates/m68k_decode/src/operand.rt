@@ -9,6 +9,8 @@ use crate::fields::{number, words_of_number};
 use md_word::{Mode, Size};
 
 /// An addressing mode with its extension words read.
+///
+/// Source: M68000 Programmer's Reference Manual, section 2.2.
 #[derive(Clone, Copy)]
 pub struct Operand {
     pub mode: Mode,
@@ -96,7 +98,7 @@ pub fn low_operand(words: &[u16; 5], size: Size, at: u8) -> Operand
     }
 }
 
-/// The target of MOVE, whose register stands before its mode, with the extension words from this
+/// The target of MOVE, whose register precedes its mode, with the extension words from this
 /// word on.
 #[inline(always)]
 #[tactic(auto, unfolding(crate::specs::Fields::high_mode))]

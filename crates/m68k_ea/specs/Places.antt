@@ -1,4 +1,4 @@
--- Where the operand of an addressing mode stands.
+-- Where the operand of an addressing mode is.
 -- M68000 Programmer's Reference Manual, section 2.2; for odd addresses M68000 User's Manual,
 -- section 6.3.10.
 use Rattle.std.specs.Prelude.{◌≡◌, ◌≢◌, ℕ, ◌+◌, ◌%◌, ◌<◌, Bool, true, false, IsTrue, IsFalse, ◌==◌, if◌then◌else◌}
@@ -12,7 +12,7 @@ use Rattle.m68k_ea.specs.declared.places.Place.{Place}
 use Rattle.m68k_ea.specs.declared.places.Place.TheVariants as places
 use Rattle.m68k_ea.specs.Addresses.{effective_address}
 
--- whether an operand of this size may not stand at this address: a word or long at an odd one
+-- whether an operand of this size may not be at this address: a word or long at an odd one
 abbrev pub is_misaligned : Size → ℕ → Bool
 is_misaligned Byte at = false
 is_misaligned Word at = at % 2 == 1

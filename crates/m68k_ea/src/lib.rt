@@ -1,4 +1,4 @@
-//! Where the operands of the 68000 stand: effective addresses, and what (An)+ and −(An) do to their
+//! Where the operands of the 68000 are: effective addresses, and what (An)+ and −(An) do to their
 //! register.
 #![tactic(auto)]
 

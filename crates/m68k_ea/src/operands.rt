@@ -7,7 +7,7 @@ use crate::Place;
 use crate::addresses::{displaced, indexed, lowered, short, step_of};
 use md_word::{Mode, Regs, Size};
 
-/// Whether an operand of this size may not stand at this address.
+/// Whether an operand of this size may not be at this address.
 #[tactic(auto, using(std::proofs::lemmas::Bool::Decides::nat_tests))]
 fn is_misaligned(size: Size, address: u32) -> bool
     ensures { result ≡ places.is_misaligned size address }
@@ -34,7 +34,7 @@ fn standing(size: Size, address: u32) -> Place
 /// The place of a mode's operand, before the instruction changes a register.
 ///
 /// An address has 32 bits: it is the sum of its base, index and displacement modulo 2^32. `pc` is
-/// where the mode's extension word stands, and counts for d16(PC) and d8(PC,Xn) alone. An index
+/// where the mode's extension word is, and counts for d16(PC) and d8(PC,Xn) alone. An index
 /// register is taken whole, or as a word with its sign extended. A7 is the active stack pointer.
 /// −(An) names the memory below its register, which `stepped` moves. Of immediate data as much
 /// counts as the size takes. A word or long whose address is odd is `Odd`, and nothing else is.

@@ -1,4 +1,6 @@
-/// Where an operand stands.
+/// Where an operand is.
+///
+/// Source: M68000 Programmer's Reference Manual, section 2.2.
 #[derive(Clone, Copy, PartialEq, Eq, Debug)]
 pub enum Place {
     /// In a register: 0 to 7 for D0 to D7, 8 to 15 for A0 to A7.

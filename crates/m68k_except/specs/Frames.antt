@@ -15,7 +15,7 @@ abbrev pub is_address_error : ℕ → Bool
 is_address_error cause = cause == 3
 
 -- there is no place to push: the supervisor's stack pointer is odd. An address error halts also
--- where its handler stands at an odd address.
+-- where its handler is at an odd address.
 abbrev pub halts : ℕ → ℕ → Regs → Bool
 halts cause vector regs = is_odd regs.ssp || (is_address_error cause && is_odd vector)
 
@@ -27,8 +27,8 @@ words_of long = long / 0x1_0000 ∷ long % 0x1_0000 ∷ []
 abbrev pub short_frame : ℕ → Regs → List ℕ
 short_frame pc regs = words_of pc ++ regs.sr ∷ []
 
--- bit 4 tells a read; bits 2 to 0 are the function code: 1 the user's data, 2 the user's program, 5
--- and 6 the supervisor's. It is the program where the instruction itself stands at an odd address.
+-- bit 4 is set for a read; bits 2 to 0 are the function code: 1 the user's data, 2 the user's program, 5
+-- and 6 the supervisor's. It is the program where the instruction itself is at an odd address.
 abbrev pub access_word : Regs → Bool → ℕ
 access_word regs read =
     (if read then 16 else 0) + (if is_supervisor regs then 4 else 0) + (if is_odd regs.pc then 2 else 1)
@@ -37,7 +37,7 @@ access_word regs read =
 abbrev pub first_word : Regs → ℕ → ℕ
 first_word regs opcode = if is_odd regs.pc then 0xffff else opcode
 
--- behind the short frame the first word of the instruction, the address, and the access. The saved
+-- after the short frame the first word of the instruction, the address, and the access. The saved
 -- program counter is the instruction's and two more.
 abbrev pub address_frame : Regs → ℕ → ℕ → Bool → List ℕ
 address_frame regs opcode address read =

@@ -1,6 +1,8 @@
 use arrayvec::ArrayVec;
 
-/// What an exception comes to.
+/// The outcome of an exception.
+///
+/// Source: M68000 User's Manual, section 6.
 #[derive(Drop)]
 pub enum Frame {
     /// The words in the order in which they are pushed.

@@ -8,7 +8,7 @@ use md_word::Regs;
 
 /// The frame of an exception with this vector number.
 ///
-/// `vector` is the long that stands at the vector, `opcode` the instruction's first word, and
+/// `vector` is the long that is at the vector, `opcode` the instruction's first word, and
 /// `address` and `read` are the access of an address error (vector number 3). `regs` are the
 /// registers before the exception, with the program counter that it saves; for an address error
 /// with that of the instruction. Source: M68000 User's Manual, section 6.

@@ -1,4 +1,4 @@
--- What comes behind a write that waits for its answer.
+-- What follows a write that waits for its answer.
 use Rattle.std.proofs.Common.{◌≡◌, ℕ, ◌+◌, ◌%◌, ◌/◌, ◌^◌, ◌<◌, ◌≤◌, ◌∙◌, Bool, true, false, nat_lt, List, [], ◌∷◌, length, length-append, Result, Ok, Err, refl, sym, ap, subst, arith}
 use Rattle.std.proofs.lemmas.Bool.Decides.{nat_tests}
 use Rattle.std.proofs.lemmas.List.{get_or_append_left}
@@ -18,9 +18,7 @@ use Rattle.m68k_decode.specs.Instructions.{instruction_of}
 use Rattle.m68k_decode.specs.Ops.{moves_of}
 use Rattle.m68k_decode.specs.declared.decoded.Decoded.{Decoded}
 use Rattle.m68k_decode.specs.declared.op.Op.{Op}
-use Rattle.m68k_ea.specs.Places.{place_of}
 use Rattle.m68k_ea.specs.Steps.{stepped}
-use Rattle.m68k_ea.specs.declared.places.Place.TheVariants as places
 use Rattle.m68k_exec.specs.Access.Actions as actions
 use Rattle.m68k_exec.specs.Access.Actions.{Act, Done, is_odd}
 use Rattle.m68k_exec.specs.Access.Memory.{Memory, bus_address, instruction_word, instruction_words}
@@ -43,7 +41,7 @@ use Rattle.m68k_exec.specs.declared.sample.step.Step.TheVariants as steps
 use Rattle.m68k_exec.proofs.Later.Accesses as later
 use Rattle.m68k_exec.proofs.Taken.{answered, with_word-used}
 
--- where nothing is known nothing is foreseen
+-- where nothing is known nothing is predicted
 pub nothing_foreseen : {A : Type 0} (result : Result A Stop) (foreseen : Foreseen) (act : Act Outcome) (memory : Memory) (done : Done) → foreseen.known ≡ false → Foresees result foreseen act memory done
 nothing_foreseen (Ok x) foreseen act memory done none = none
 nothing_foreseen (Err (Ask request)) foreseen act memory done none = λ known. absurd (let no_way = sym none ∙ known in cc)
@@ -170,11 +168,6 @@ few-taken Word used count e = omega (arith, e)
 few-taken Long used count e = omega (arith, e)
 
 -- ---- MOVE
-
-pub store-behind : (size : Size) (mode : Mode) (written pc : ℕ) (regs : Regs) (memory : Memory) (done after : Done) (at : ℕ) → place_of mode size regs pc ≡ places.Memory at
-    → actions.write size at written memory done ≡ Ok (tt, after) → operands.store mode size written pc regs memory done ≡ Ok (stepped mode size regs, after)
-unfolding operands.store operands.put operands.stored
-store-behind size mode written pc regs memory done after at place ends = rw place (rw ends refl)
 
 pub move-behind : (size : Size) (source target : Mode) (start : ℕ) (regs : Regs) (memory : Memory) (done : Done) (from : Operand) (mid : Done) (value : ℕ)
     → operands.load source size (behind start 2) regs memory done ≡ Ok (from, mid) → mid.used ≤ length memory.answers

@@ -1,4 +1,4 @@
--- A place costs as many accesses as the mode that names it, and stands at its address.
+-- A place costs as many accesses as the mode that names it, and is at its address.
 use Rattle.std.proofs.Common.{◌≡◌, ℕ, Bool, true, false, pos, refl, sym}
 use Rattle.md_word.specs.declared.mode.Mode.{Mode}
 use Rattle.md_word.specs.declared.mode.Mode.TheVariants.{Data, Address, Immediate}

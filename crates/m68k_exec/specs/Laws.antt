@@ -29,7 +29,7 @@ pub record SameBelow (count : ℕ) (one other : Memory) : Type 0 where
   pub enough : count ≤ length other.answers
   pub answers : (k : ℕ) → k < count → slice_index other.answers k ≡ slice_index one.answers k
 
--- where it comes to a value or to an address error, it comes to the same with any answers in place
+-- where it results in a value or in an address error, it results in the same with any answers in place
 -- of those that it did not take; and it takes no answer back
 pub record IgnoresLaterAnswers {A : Type 0} (act : Act A) : Type 0 where
   pub value : (one other : Memory) (before : Done) (x : A) (after : Done) → act one before ≡ Ok (x, after) → SameBelow after.used one other → act other before ≡ Ok (x, after)
@@ -49,15 +49,15 @@ pub record ActionsIgnoreLaterAnswers : Type 0 where
   pub push : (size : Size) (value : ℕ) (regs : Regs) → IgnoresLaterAnswers (push size value regs)
   pub pull : (size : Size) (regs : Regs) → IgnoresLaterAnswers (pull size regs)
 
--- each instruction; and a sample that comes to its end comes to the same with any answers in place
+-- each instruction; and a sample that ends results in the same with any answers in place
 -- of those that it did not take
 pub record SamplesIgnoreLaterAnswers : Type 0 where
   pub row : (op : Op) (start : ℕ) (regs : Regs) → IgnoresLaterAnswers (row op start regs)
   pub sampled : (cause : ℕ) (regs : Regs) (one other : Memory) (ended : Ended) → sampled cause regs one ≡ Ok ended → SameBelow ended.spent.accesses one other → sampled cause regs other ≡ Ok ended
 
--- a sample of any registers, memory and answers: what it spends is what its instruction can spend, it
--- waits only where there are fewer than 32 answers, and it comes to its end, in an address error's
--- handler where an operand stands at an odd address
+-- A sample of any registers, memory and answers spends what its instruction can spend. It waits only where
+-- there are fewer than 32 answers. Where an operand is at an odd address it ends in the handler of the
+-- address error.
 pub record SamplesAreBounded : Type 0 where
   pub spends : (cause : ℕ) (regs : Regs) (memory : Memory) (ended : Ended) → sampled cause regs memory ≡ Ok ended → IsSpent ended.op ended.spent
   pub waits : (cause : ℕ) (regs : Regs) (memory : Memory) (request : Request68) → sampled cause regs memory ≡ Err (Ask request) → length memory.answers < 32
@@ -78,7 +78,7 @@ abbrev pub flags_after : Size → ℕ → ℕ → Flags → Flags
 flags_after size source target flags = (computed tasks.Cmp size source target flags).flags
 
 -- After CMP each condition is a comparison of the target with the source: HI, LS, CC and CS of whole
--- numbers, GE, LT, GT and LE of numbers in two's complement. MI and PL tell the sign of the difference
+-- numbers, GE, LT, GT and LE of numbers in two's complement. MI and PL give the sign of the difference
 -- within the size, VS and VC whether the signed difference has a place in it.
 pub record ConditionsCompare (size : Size) (source target : ℕ) (flags : Flags) : Type 0 where
   pub always : holds conditions.True (flags_after size source target flags) ≡ true

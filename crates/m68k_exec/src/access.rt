@@ -46,7 +46,7 @@ fn ask_byte(at: u32, around: &Around, progress: &mut Progress) -> Result<u8, Sto
     Ok((answer % 0x100) as u8)
 }
 
-/// A shared write, whose answer tells nothing.
+/// A shared write, whose answer carries nothing.
 #[tactic(auto, unfolding(crate::specs::Access::Actions::told))]
 fn tell(request: Request68, around: &Around, progress: &mut Progress) -> Result<(), Stop>
     ensures value { Meets result (done_of progress.new)
@@ -58,7 +58,7 @@ fn tell(request: Request68, around: &Around, progress: &mut Progress) -> Result<
     Ok(())
 }
 
-/// Reads the byte at an address.
+/// Reads the byte at an address. Stops where an access waits for its answer.
 #[tactic(auto, unfolding(crate::specs::Access::Actions::read_byte))]
 pub fn read_byte(address: u32, around: &Around, progress: &mut Progress) -> Result<u8, Stop>
     ensures value { Meets result (done_of progress.new)
@@ -90,6 +90,7 @@ fn read_aligned(at: u32, around: &Around, progress: &mut Progress) -> Result<u16
 }
 
 /// Reads the word at an address; an odd one is an address error.
+/// Stops there, and where an access waits for its answer.
 #[inline(always)]
 #[tactic(auto, unfolding(crate::specs::Access::Actions::read_word))]
 pub fn read_word(address: u32, around: &Around, progress: &mut Progress) -> Result<u16, Stop>
@@ -108,7 +109,7 @@ pub fn read_word(address: u32, around: &Around, progress: &mut Progress) -> Resu
 }
 
 /// Reads the long at an address, the word at the lower address first; an odd address is an address
-/// error before any access.
+/// error before any access. Stops there, and where an access waits for its answer.
 #[tactic(auto, unfolding(crate::specs::Access::Actions::read_long))]
 pub fn read_long(address: u32, around: &Around, progress: &mut Progress) -> Result<u32, Stop>
     ensures value { Meets result (done_of progress.new)
@@ -121,6 +122,7 @@ pub fn read_long(address: u32, around: &Around, progress: &mut Progress) -> Resu
 }
 
 /// Reads the operand of a size at an address.
+/// Stops where an access waits for its answer, or a word or long has an odd address.
 #[inline(always)]
 #[tactic(auto, unfolding(crate::specs::Access::Actions::read))]
 pub fn read(size: Size, address: u32, around: &Around, progress: &mut Progress) -> Result<u32, Stop>
@@ -136,7 +138,7 @@ pub fn read(size: Size, address: u32, around: &Around, progress: &mut Progress) 
     }
 }
 
-/// Writes the byte at an address.
+/// Writes the byte at an address. Stops where an access waits for its answer.
 #[tactic(auto, unfolding(crate::specs::Access::Actions::write_byte))]
 pub fn write_byte(
     address: u32,
@@ -176,6 +178,7 @@ fn write_aligned(at: u32, value: u16, around: &Around, progress: &mut Progress) 
 }
 
 /// Writes the word at an address; an odd one is an address error.
+/// Stops there, and where an access waits for its answer.
 #[inline(always)]
 #[tactic(auto, unfolding(crate::specs::Access::Actions::write_word))]
 pub fn write_word(
@@ -201,7 +204,7 @@ pub fn write_word(
 }
 
 /// Writes the long at an address, the word at the lower address first; an odd address is an address
-/// error before any access.
+/// error before any access. Stops there, and where an access waits for its answer.
 #[tactic(auto, unfolding(crate::specs::Access::Actions::write_long))]
 pub fn write_long(
     address: u32,
@@ -224,6 +227,7 @@ pub fn write_long(
 }
 
 /// Writes an operand of a size at an address.
+/// Stops where an access waits for its answer, or a word or long has an odd address.
 #[inline(always)]
 #[tactic(auto, unfolding(crate::specs::Access::Actions::write))]
 pub fn write(

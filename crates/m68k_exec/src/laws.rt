@@ -9,7 +9,7 @@ pub fn later_answers_change_nothing()
     ensures { ActionsIgnoreLaterAnswers }
 {}
 
-/// Answers beyond those that it took change nothing of what a sample came to.
+/// Answers beyond those that it took change nothing of the outcome of a sample.
 pub fn later_answers_change_no_sample()
     ensures { SamplesIgnoreLaterAnswers }
 {}

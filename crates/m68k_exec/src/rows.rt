@@ -1,4 +1,5 @@
-//! The instructions, one file a group of rows of the manual's table of instructions.
+//! The instructions, one file a group of rows of the manual's table of instructions. Each stops where an access waits
+//! for its answer, or where a word or long has an odd address, which is an address error.
 
 // First digit 0.
 pub mod bits;

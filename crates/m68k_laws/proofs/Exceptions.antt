@@ -27,7 +27,7 @@ use Rattle.m68k_laws.specs.Frames.{frame}
 use Rattle.m68k_laws.specs.Laws.{IsComplete, WaitsAt}
 use Rattle.m68k_laws.specs.Samples.{ExceptionsFollowFrames}
 
--- what a sample comes to, with so many answers taken before these words
+-- the outcome of a sample, with so many answers taken before these words
 abbrev pub ComesTo : List Access → ℕ → ℕ → Result Ended Stop → Type 0
 ComesTo list count start (Ok ended) = EndsAlong list count start ended.spent.accesses
 ComesTo list count start (Err (Ask request)) = AsksAlong list count start request

@@ -32,7 +32,7 @@ pub record FaultsAlong (list : List Access) (count start after address : ℕ) (r
   pub enough : after ≤ count
   pub faults : FaultsAt list taken address read
 
--- what an action of these words comes to, with so many answers there and so many taken before
+-- the result of an action of these words, with so many answers there and so many taken before
 abbrev pub GoesAlong : {A : Type 0} → List Access → ℕ → ℕ → Result (A × Done) Stop → Type 0
 GoesAlong list count used (Ok x) = EndsAlong list count used x.1.used
 GoesAlong list count used (Err (Ask request)) = AsksAlong list count used request

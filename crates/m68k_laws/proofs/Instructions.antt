@@ -30,7 +30,7 @@ pub faulted : (list : List Access) (count after address : ℕ) (read : Bool) →
 faulted list count after address read h =
     let whole : h.taken ≡ after = omega (arith, h.used) in subst (λ taken. FaultsAt list taken address read) whole h.faults
 
--- what a row comes to
+-- the result of a row
 pub row_along : (op : Op) (start : ℕ) (regs : Regs) (memory : Memory) → MovesWords op → GoesAlong (words (footprint op start regs)) (length memory.answers) 0 (execution.row op start regs memory nothing)
 row_along op start regs memory moves = (row op start regs moves).along memory nothing (omega arith)
 

@@ -21,7 +21,7 @@ use Rattle.m68k_laws.proofs.Single.{odd_first, read, write}
 use Rattle.m68k_laws.specs.Accesses.{Access, Kind, Read, Write, is_read, one, words}
 use Rattle.m68k_laws.specs.Footprints.{below, changes, reads, writes}
 
--- an operand at an odd address is an address error at its first word, whatever comes behind it
+-- an operand at an odd address is an address error at its first word, whatever follows it
 pub misplaced : {A : Type 0} (kind : Kind) (size : Size) (at : ℕ) (more : List Access) → is_misaligned size at ≡ true → Follows (one kind size at ++ more) (actions.odd {A = A} at (is_read kind))
 misplaced kind Byte at more e = absurd (cc)
 misplaced kind Word at more e = odd_first _ (record { kind = kind; size = Word; address = at }) (words more) refl e

@@ -190,7 +190,7 @@ rts : (regs : Regs) → Follows (one Read Long (stack_of regs)) (control.rts reg
 unfolding control.rts
 rts regs = last _ _ _ (pull Long regs) (λ target. give _)
 
--- the long that is pulled behind a word
+-- the long that is pulled after a word
 pull_second : (regs : Regs) → Follows (one Read Long (above (stack_of regs) 2)) (operands.pull Long (with_address regs 7 (above (stack_of regs) 2)))
 pull_second regs =
     same _ _ _ (ap (λ at. one Read Long at) (stack_set regs (above (stack_of regs) 2))) (pull Long (with_address regs 7 (above (stack_of regs) 2)))

@@ -29,7 +29,7 @@ use Rattle.m68k_laws.specs.Frames.{frame, left_by}
 use Rattle.m68k_laws.specs.Laws.{FaultsAt, IsComplete, WaitsAt}
 use Rattle.m68k_laws.specs.Samples.{AfterAll, AfterFault, ReachesFrame, SamplesFollowFootprints, started, words_at}
 
--- what its row comes to
+-- the result of its row
 abbrev result_at : Regs → Memory → Result (Outcome × Done) Stop
 result_at regs memory = execution.row (named regs memory) regs.pc (started regs memory) memory nothing
 
@@ -71,7 +71,7 @@ waits_by regs memory (Ok x) h even fewer = absurd (omega (arith, h.along.used, h
 waits_by regs memory (Err (Ask request)) h even fewer = (request, refl, waited _ _ request h.along)
 waits_by regs memory (Err (Odd address read used)) h even fewer = absurd (no_fault _ _ address read even h.along.faults)
 
--- an exception behind all words
+-- an exception after all words
 frame_same : (number : ℕ) (memory : Memory) (one two : Regs) → one.ssp ≡ two.ssp → frame number one memory ≡ frame number two memory
 frame_same number memory one two e = ap (λ stack. frame number (record one { ssp = stack }) memory) e
 

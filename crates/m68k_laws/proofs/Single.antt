@@ -16,7 +16,7 @@ use Rattle.m68k_laws.proofs.Follows.{AsksAlong, EndsAlong, FaultsAlong, Follows,
 use Rattle.m68k_laws.specs.Accesses.{Access, IsEven, Kind, Read, Write, is_odd, is_read, one, shared, words}
 use Rattle.m68k_laws.specs.Laws.{LeadsTo, Requests}
 
--- by a test, with what it tells
+-- by a test, with what it reports
 pub split : {A : Type 0} (list : List Access) (test : Bool) (one other : Act A) → (test ≡ true → Follows list one) → (test ≡ false → Follows list other) → Follows list (λ memory done. if test then one memory done else other memory done)
 split list true one other h k = h refl
 split list false one other h k = k refl

@@ -1,5 +1,5 @@
 -- The footprint of each instruction: the accesses that it makes to memory beside its own words, in
--- their order, told from the instruction and the registers alone.
+-- their order, found from the instruction and the registers alone.
 -- M68000 Programmer's Reference Manual, section 4; what is read before it is written, and TAS on memory:
 -- this project's profile.
 use Rattle.std.specs.Prelude.{ℕ, zero, suc, ◌≢◌, ◌+◌, ◌-◌, ◌*◌, ◌%◌, ◌^◌, ◌<◌, List, [], ◌++◌, if◌then◌else◌, count_ones}
@@ -27,7 +27,7 @@ above address bytes = (address + bytes) % 2 ^ 32
 abbrev pub below : ℕ → ℕ → ℕ
 below address bytes = (address + 2 ^ 32 - bytes) % 2 ^ 32
 
--- one access to the operand that a mode names, whose extension words stand at pc: registers and
+-- one access to the operand that a mode names, whose extension words are at pc: registers and
 -- numbers in the instruction are not in memory
 abbrev pub operand : Kind → Size → Mode → ℕ → Regs → List Access
 operand kind size (Data n) pc regs = []
@@ -71,7 +71,7 @@ alternate kind Word at = one kind Byte at ++ one kind Byte (above at 2)
 alternate kind Long at =
     one kind Byte at ++ one kind Byte (above at 2) ++ one kind Byte (above at 4) ++ one kind Byte (above at 6)
 
--- so many operands one behind another, from an address on
+-- so many operands one after another, from an address on
 abbrev pub ascending : ℕ → Kind → Size → ℕ → List Access
 ascending zero kind size at = []
 ascending (suc count) kind size at = one kind size at ++ ascending count kind size (above at (bytes_of size))
@@ -87,8 +87,8 @@ abbrev pub stores : Size → ℕ → Mode → ℕ → Regs → List Access
 stores size list (PreDec n) pc regs = descending (count_ones list) Write size (address_of regs n)
 stores size list mode pc regs = ascending (count_ones list) Write size (effective_address mode size regs pc)
 
--- an instruction whose first word stands at `start`. The extension words of its operand stand behind that
--- word and behind a number, those of a second operand behind those of the first; the second is found with
+-- an instruction whose first word is at `start`. The extension words of its operand are after that
+-- word and after a number, those of a second operand after those of the first; the second is found with
 -- the register of the first moved by (An)+ or −(An)
 abbrev pub footprint : Op → ℕ → Regs → List Access
 footprint (ops.Immediate operation size number mode) start regs = changes size mode (above start (2 + 2 * words_of_number size)) regs

@@ -55,10 +55,10 @@ pub record IsComplete (list : List Access) (count : ℕ) : Type 0 where
   pub even : All IsEven list
   pub counted : count ≡ length (shared list)
 
--- Each instruction at any address, with any registers, cartridge, work RAM and answers: where it waits for
--- an answer, the request is that of the next shared word of its footprint, so many being before it as there
--- are answers; where it comes to an outcome, also one that ends in an exception, it took an answer for each
--- shared word; an address error is the first odd word. What words of 16 bits decode to meets the premise.
+-- Each instruction at any address, with any registers, cartridge, work RAM and answers. Where it waits for an
+-- answer, the request is that of the next shared word of its footprint, so many being before it as there are
+-- answers. Where it results in an outcome, also one that ends in an exception, it took an answer for each
+-- shared word. An address error is the first odd word. What words of 16 bits decode to meets the premise.
 pub record InstructionsFollowFootprints : Type 0 where
   pub decodes : (list : List ℕ) → slice_index list 1 < 65536 → MovesWords (instruction_of list).op
   pub waits : (op : Op) (start : ℕ) (regs : Regs) (memory : Memory) (request : Request68) → MovesWords op → row op start regs memory nothing ≡ Err (Ask request) → WaitsAt (words (footprint op start regs)) (length memory.answers) request

@@ -1,4 +1,4 @@
--- The requests of a sample are the shared words of its instruction's footprint in order, and behind
+-- The requests of a sample are the shared words of its instruction's footprint in order, and after
 -- them those of the frame of an exception.
 use Rattle.std.specs.Prelude.{ℕ, ◌≡◌, ◌≢◌, ◌⊎◌, ◌+◌, ◌%◌, ◌^◌, ◌<◌, ◌≤◌, Bool, List, All, length, IsFalse, Ok, Err}
 use Rattle.md_word.specs.declared.main_bus.Request68.{Request68}
@@ -14,7 +14,7 @@ use Rattle.m68k_laws.specs.Footprints.{footprint}
 use Rattle.m68k_laws.specs.Frames.{frame, left_by}
 use Rattle.m68k_laws.specs.Laws.{FaultsAt, IsComplete, WaitsAt}
 
--- the registers as the instruction at the program counter finds them: that points behind it
+-- the registers as the instruction at the program counter finds them: that points after it
 abbrev pub started : Regs → Memory → Regs
 started regs memory =
     record regs { pc = (regs.pc + (instruction_of (instruction_words regs.pc memory)).length) % 2 ^ 32 }
@@ -32,7 +32,7 @@ pub record AfterFault (regs : Regs) (memory : Memory) (taken number : ℕ) (list
   pub error : number ≡ 3
   pub pushes : list ≡ words (frame 3 regs memory)
 
--- another exception, behind all words of the instruction: its frame is pushed from the stack pointer
+-- another exception, after all words of the instruction: its frame is pushed from the stack pointer
 -- that the instruction leaves
 pub record AfterAll (regs : Regs) (memory : Memory) (taken number : ℕ) (list : List Access) : Type 0 where
   pub completes : IsComplete (words_at regs memory) taken
@@ -51,7 +51,7 @@ pub record ReachesFrame (regs : Regs) (memory : Memory) (count number : ℕ) (Ho
 -- A sample of the instruction at an even program counter, of any registers and answers, where memory
 -- holds bytes. While there are fewer answers than shared words, and no word is odd, it waits for the
 -- next shared word. Where it waits at all, it waits for that, or for the next shared word of the frame
--- behind. Where it ends in no exception, each shared word took an answer; where it ends in one, so did
+-- after. Where it ends in no exception, each shared word took an answer; where it ends in one, so did
 -- each shared word of the frame, which is that of its cause unless the processor halts.
 pub record SamplesFollowFootprints : Type 0 where
   pub waits : (regs : Regs) (memory : Memory) → Fits memory → regs.pc % 2 ≡ 0 → All IsEven (words_at regs memory) → length memory.answers < length (shared (words_at regs memory)) → (request : Request68) × (sampled 0 regs memory ≡ Err (Ask request)) × WaitsAt (words_at regs memory) (length memory.answers) request

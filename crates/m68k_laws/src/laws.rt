@@ -6,12 +6,12 @@ pub fn instructions_follow_footprints()
     ensures { InstructionsFollowFootprints }
 {}
 
-/// So are those of a sample; behind them come those of the frame of an exception in which it ends.
+/// So are those of a sample; after them come those of the frame of an exception in which it ends.
 pub fn samples_follow_footprints()
     ensures { SamplesFollowFootprints }
 {}
 
-/// The requests of an interrupt, behind its acknowledge, and of a trace are the shared words of its frame in
+/// The requests of an interrupt, after its acknowledge, and of a trace are the shared words of its frame in
 /// order.
 pub fn exceptions_follow_frames()
     ensures { ExceptionsFollowFrames }

@@ -94,7 +94,7 @@ pub fn divided(alloc: Global, signed: bool, rest: &str) -> Result<String, RowErr
     }
 }
 
-/// The condition codes behind a division that gave this.
+/// The condition codes after a division that gave this.
 pub fn flags_of(alloc: Global, rest: &str) -> Result<String, RowError> {
     let (gave, before) = rest.split_once(' ').ok_or(RowError::NoSuchLine)?;
     let quotient = match gave {

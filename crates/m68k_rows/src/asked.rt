@@ -50,7 +50,7 @@ impl Asked {
         Ok(asked)
     }
 
-    /// Takes what stands next in a text.
+    /// Takes what is next in a text.
     pub fn take(&mut self, token: &str) -> Result<(), RowError> {
         match token {
             "TAKEN" => self.spent.taken = true,

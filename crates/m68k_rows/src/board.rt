@@ -1,12 +1,12 @@
-ghost use Rattle.m68k_chip.specs.Validity.{Fits};
-
 use crate::asked::Asked;
+use crate::changes::{change, piece, range_of};
+use crate::events::{ahead, begun, pins, sample, take};
 use crate::registers::{registers, value_of};
 use crate::requests::put_access;
 use m68k_chip::Chip68;
-use md_word::{Answer68, Pins68, Request68, Unspell};
+use md_word::{Request68, Unspell};
 use rom_header::Cart;
-use row_lines::{RowError, bytes, hexadecimal, number, word};
+use row_lines::{RowError, hexadecimal, number, word};
 use std::alloc::Global;
 use std::sync::Arc;
 
@@ -19,125 +19,6 @@ pub struct Board {
     image: [u8; 512],
     chip: Option<Chip68>,
     bytes: Vec<u8>,
-}
-
-/// Puts bytes at a place, where all have room.
-fn put(bytes: &mut [u8], place: usize, values: &[u8]) -> Result<(), RowError> {
-    let rest = bytes.get_mut(place..).ok_or(RowError::NoSuchLine)?;
-    let part = rest.get_mut(..values.len()).ok_or(RowError::NoSuchLine)?;
-    part.copy_from_slice(values);
-    Ok(())
-}
-
-/// The interrupt pins of this level.
-fn pins(level: &str) -> Result<Pins68, RowError> {
-    match level {
-        "0" => Ok(Pins68 { level: 0 }),
-        "4" => Ok(Pins68 { level: 4 }),
-        "6" => Ok(Pins68 { level: 6 }),
-        _ => Err(RowError::NoSuchLine),
-    }
-}
-
-/// The answer to an access whose read gives this value.
-fn answer_to(request: &Request68, value: u16) -> Answer68
-    ensures { Fits request.now result }
-{
-    let (value, cost) = match request {
-        Request68::Read16(_) => (value, 0),
-        Request68::Read8(_) => (value % 0x100, 0),
-        Request68::Word(_) => (0, 34),
-        _ => (0, 0),
-    };
-    Answer68 {
-        value,
-        transfer: None,
-        cost,
-    }
-}
-
-/// Takes the sample that is next: its cycle.
-#[tactic(auto, unfolding(m68k_chip::specs::States::next_of))]
-fn sample(chip: &mut Chip68, pins: Pins68) -> Option<u64> {
-    let next = chip.next();
-    if !next.sample || next.key.cycle >= 1 << 50 {
-        return None;
-    }
-    chip.sample(pins);
-    Some(next.key.cycle)
-}
-
-/// Takes the samples that are next below `end`: the cycle of the event behind them, and whether it is a sample.
-#[tactic(auto, unfolding(m68k_chip::specs::States::next_of))]
-fn ahead(chip: &mut Chip68, pins: Pins68, end: u64) -> Option<(u64, bool)> {
-    let next = chip.next();
-    if !next.sample || next.key.cycle >= 1 << 50 || end > 1 << 50 {
-        return None;
-    }
-    chip.sample_ahead(pins, end);
-    let next = chip.next();
-    Some((next.key.cycle, next.sample))
-}
-
-/// Answers the access that is next: its cycle and its request.
-#[tactic(auto, unfolding(m68k_chip::specs::States::next_of))]
-fn take(chip: &mut Chip68, value: u16) -> Option<(u64, Request68)> {
-    let next = chip.next();
-    if next.sample || next.key.cycle >= 1 << 50 {
-        return None;
-    }
-    let request = chip.request();
-    chip.answer(answer_to(&request, value));
-    Some((next.key.cycle, request))
-}
-
-/// The address of the instruction that the next event begins, where it is a sample; its level is 0.
-#[tactic(auto, unfolding(m68k_chip::specs::States::next_of))]
-fn begun(chip: &Chip68) -> Option<u32> {
-    if chip.next().sample {
-        chip.begins(Pins68 { level: 0 })
-    } else {
-        None
-    }
-}
-
-/// A place and a length in decimal, in a text.
-fn range_of(text: &str) -> Result<(usize, usize), RowError> {
-    let (from, count) = text.split_once(' ').ok_or(RowError::NoSuchLine)?;
-    let from = number(from)? % 0x1_0000_0000;
-    let count = number(count)? % 0x1_0000_0000;
-    Ok((from as usize, count as usize))
-}
-
-/// So many bytes from a place on, in hexadecimal.
-fn piece(alloc: Global, bytes: &[u8], from: usize, count: usize) -> Result<String, RowError> {
-    let rest = bytes.get(from..).ok_or(RowError::NoSuchLine)?;
-    let part = rest.get(..count).ok_or(RowError::NoSuchLine)?;
-    Ok(hex::encode_upper(alloc, part)?)
-}
-
-/// Carries out changes of bytes: `PLACE:BYTES` puts bytes at a place, and `length:N` cuts or fills with 0.
-fn change(alloc: Global, to: &mut Vec<u8>, changes: &str) -> Result<(), RowError> {
-    for part in changes.split_whitespace() {
-        let (place, values) = part.split_once(':').ok_or(RowError::NoSuchLine)?;
-        if place == "length" {
-            resize(to, values)?;
-        } else {
-            put_text(alloc, to.as_mut_slice(), place, values)?;
-        }
-    }
-    Ok(())
-}
-
-fn resize(to: &mut Vec<u8>, length: &str) -> Result<(), RowError> {
-    let length = number(length)? % 0x10_0000;
-    Ok(to.resize(length as usize, 0)?)
-}
-
-fn put_text(alloc: Global, to: &mut [u8], place: &str, values: &str) -> Result<(), RowError> {
-    let place = number(place)? % 0x10_0000;
-    let values = bytes(alloc, values)?;
-    put(to, place as usize, values.as_slice())
 }
 
 /// Appends the bytes that keep a 68000 at a cycle.

@@ -4,6 +4,8 @@
 mod arithmetic;
 mod asked;
 mod board;
+mod changes;
+mod events;
 mod plain;
 mod registers;
 mod requests;

@@ -126,7 +126,7 @@ fn place_of(alloc: Global, regs: &Regs, size: Size, rest: &str) -> Result<String
     Ok(format!(in alloc; "{kind}{value:08X}")?)
 }
 
-/// A register behind a step, by both functions.
+/// A register after a step, by both functions.
 fn step_of(alloc: Global, regs: &Regs, size: Size, rest: &str) -> Result<String, RowError> {
     let (name, rest) = rest.split_once(' ').ok_or(RowError::NoSuchLine)?;
     let asked = Asked::of(regs, rest)?;

@@ -53,7 +53,7 @@ pub fn set_all(regs: &mut Regs, text: &str) -> Result<(), RowError> {
     Ok(())
 }
 
-/// What stands in the register that is named.
+/// What is in the register that is named.
 pub fn value_of(regs: &Regs, name: &str) -> Result<u32, RowError> {
     match name {
         "US" => Ok(regs.usp),

@@ -7,14 +7,14 @@ use rom_header::Cart;
 use row_lines::{RowError, long, word};
 use std::alloc::{AllocError, Global};
 
-/// A sample of the 68000: what stands before it, and what came of it.
+/// A sample of the 68000: what is before it, and what came of it.
 #[derive(Drop)]
 struct Sample {
     rom: [u8; 0x400],
     ram: [u8; 65536],
     before: Asked,
     after: Regs,
-    /// What the accesses are answered, in their order; 0 behind them.
+    /// What the accesses are answered, in their order; 0 after them.
     answers: ArrayVec<u16, 40>,
     accesses: usize,
     progress: Progress,
@@ -45,7 +45,7 @@ impl Sample {
         }
     }
 
-    /// Takes what stands before the sample.
+    /// Takes what precedes the sample.
     fn set_up(&mut self, asked: &str) -> Result<(), RowError> {
         for token in asked.split_whitespace() {
             self.take(token)?;
@@ -99,7 +99,7 @@ impl Sample {
         Ok(())
     }
 
-    /// Runs it with no answer, one, and so on, and tells its accesses.
+    /// Runs it with no answer, one, and so on, and prints its accesses.
     fn run(&mut self, cart: &Cart, text: &mut String) -> Result<Finish, RowError> {
         let mut given = ArrayVec::new();
         let mut step = Step::Need(Request68::Ack(0));
@@ -136,7 +136,7 @@ impl Sample {
         }
     }
 
-    /// Runs what is asked, and tells what came of it.
+    /// Runs what is asked, and prints what came of it.
     fn tell(
         &mut self,
         alloc: Global,

@@ -20,7 +20,7 @@ bit_time tasks.Btst mode = placed mode 6 (4 + address_time Byte mode)
 bit_time tasks.Bclr mode = placed mode 10 (8 + address_time Byte mode)
 bit_time _ mode = placed mode 8 (8 + address_time Byte mode)
 
--- a branch that is not taken has its displacement in the first word or behind it
+-- a branch that is not taken has its displacement in the first word or after it
 abbrev pub passed_time : Displacement → ℕ
 passed_time (displacements.Byte _) = 8
 passed_time (displacements.Word _) = 12

@@ -1,4 +1,5 @@
 pub mod Agree
+pub mod Answered
 pub mod Below
 pub mod Choices
 pub mod Regions

@@ -1,3 +1,4 @@
+pub mod Answers
 pub mod Clock
 pub mod Coding
 pub mod Fields

@@ -94,7 +94,7 @@ write_even Word at value e memory done = write_word_even at value e memory done
 write_even Long at value e memory done =
     both (write_word at (value / 0x1_0000) memory done) _ (write_word_even at _ e memory done) (λ first after. write_word_even _ _ (next_even at e) memory after)
 
--- an operand in memory stands at an aligned address
+-- an operand in memory is at an aligned address
 abbrev StandsAligned : Size → Place → Type 0
 StandsAligned size (places.Memory at) = is_misaligned size at ≡ false
 StandsAligned size _ = Unit {0}

@@ -271,7 +271,7 @@ row32 (ops.Extended operation size source target) start regs =
     more _ _ _ (omega (arith, t, u)) (row (ops.Extended operation size source target) start regs)
 row32 op start regs = more (accesses_of op) _ _ (let few_ : accesses_of op ≤ 4 = few op in omega (arith, few_)) (row op start regs)
 
--- MOVEM tells how many registers its list has
+-- MOVEM reports how many registers its list has
 pub counts_list : (op : Op) (start : ℕ) (regs : Regs) (memory : Memory) (before : Done) (x : Outcome) (after : Done) → execution.row op start regs memory before ≡ Ok (x, after) → Counts op x.count
 counts_list (ops.MovemToMemory size list mode) start regs memory before x after e = (subst (CountsList list) e (store_counted size list mode start regs memory before)).1
 counts_list (ops.MovemToRegisters size list mode) start regs memory before x after e = (subst (CountsList list) e (load_counted size list mode start regs memory before)).1

@@ -32,7 +32,7 @@ use Rattle.m68k_exec.specs.declared.sample.exception.Exception.TheVariants.{Addr
 use Rattle.m68k_exec.specs.declared.access.stop.Stop.{Stop}
 use Rattle.m68k_exec.specs.declared.access.stop.Stop.TheVariants.{Ask, Odd}
 
--- the count of an instruction is what its row told
+-- the count of an instruction is what its row reported
 pub record FromRow (op : Op) (memory : Memory) (count : ℕ) : Type 0 where
   pub start : ℕ
   pub regs : Regs

@@ -37,7 +37,7 @@ odd op start regs memory before fresh address read used e =
     let taken = (early op start regs).odd memory before address read used e (none_taken memory before fresh) in
     omega (arith, none, taken)
 
--- what a step that tells a sample has
+-- what a step that reports a sample has
 pub step_waits_below : (step : Step) (after : Regs) (done : Done) (cause : ℕ) (regs : Regs) (memory : Memory) → told_by step after done ≡ sampled cause regs memory → WaitsBelow step (length memory.answers) 32
 step_waits_below (steps.Need request) after done cause regs memory e = waits cause regs memory request (sym e)
 step_waits_below (steps.Done finish) after done cause regs memory e = tt

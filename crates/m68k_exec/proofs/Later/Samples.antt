@@ -1,4 +1,4 @@
--- Answers beyond those that it takes change nothing: of an exception, and of a sample that comes to
+-- Answers beyond those that it takes change nothing: of an exception, and of a sample that results in
 -- its end.
 use Rattle.std.proofs.Common.{◌≡◌, ℕ, zero, suc, ◌+◌, ◌%◌, ◌^◌, ◌≤◌, ◌==◌, Bool, true, false, nat_lt, List, [], length, Option, Some, None, Result, Ok, Err, refl, ap, sym, ◌∙◌, arith, if◌then◌else◌}
 use Rattle.md_word.proofs.Choices.{split}
@@ -92,7 +92,7 @@ unfolding samples.take_exception
 exception-taken op exception trace found regs one before ended e =
     begun-taken op exception trace found regs one before ended (entries.enter exception regs one before) refl e
 
--- an instruction that came to its end
+-- an instruction that ended
 choose : {A : Type 0} (test : Bool) (x y z : A) → (test ≡ true → x ≡ z) → (test ≡ false → y ≡ z) → (if test then x else y) ≡ z
 choose true x y z h k = h refl
 choose false x y z h k = k refl

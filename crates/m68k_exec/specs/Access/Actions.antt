@@ -56,7 +56,7 @@ asked_byte at = do
   answer ← asked (Read8 at)
   give (answer % 0x100)
 
--- a shared write: the answer tells nothing
+-- a shared write: the answer carries nothing
 unfoldable pub told : Request68 → Act (Unit {0})
 told request = do
   answer ← asked request

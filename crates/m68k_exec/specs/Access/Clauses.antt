@@ -41,7 +41,7 @@ abbrev pub Reaches : Result ℕ Stop → Regs → Done → Result (Loaded × Don
 Reaches (Ok x) regs after meaning = meaning ≡ Ok (record { address = x; regs = regs }, after)
 Reaches (Err stop) regs after meaning = meaning ≡ Err stop
 
--- the same of a whole instruction, which gives what there is to tell beside the registers
+-- the same of a whole instruction, which gives what there is to report beside the registers
 abbrev pub Ends : Result told.Outcome Stop → Regs → Done → Result (Outcome × Done) Stop → Type 0
 Ends (Ok x) regs after meaning = meaning ≡ Ok (outcome_of x regs, after)
 Ends (Err stop) regs after meaning = meaning ≡ Err stop

@@ -32,7 +32,7 @@ bytes_of Byte = 1
 bytes_of Word = 2
 bytes_of Long = 4
 
--- the operand that stands at a place
+-- the operand that is at a place
 unfoldable pub fetch : Size → Place → Regs → Act ℕ
 fetch size (places.Register n) regs = give (register_of regs n % modulus_of size)
 fetch size (places.Memory at) regs = read size at

@@ -1,9 +1,9 @@
--- What an instruction comes to.
+-- The outcome of an instruction.
 use Rattle.std.specs.Prelude.{ℕ, Bool, false}
 use Rattle.md_word.specs.declared.regs.Regs.{Regs}
 use Rattle.m68k_exec.specs.declared.access.outcome.Outcome as told
 
--- the registers after it, and what else there is to tell; of one that ends in an exception the
+-- the registers after it, and what else there is to report; of one that ends in an exception the
 -- registers with the program counter that it saves
 pub record Outcome : Type 0 where
   pub regs : Regs
@@ -13,11 +13,11 @@ pub record Outcome : Type 0 where
   pub vector : ℕ
   pub stopped : Bool
 
--- what a call told, with the registers that it left
+-- what a call reported, with the registers that it left
 abbrev pub outcome_of : told.Outcome → Regs → Outcome
 outcome_of told regs = record { regs = regs; taken = told.taken; expired = told.expired; count = told.count; vector = told.vector; stopped = told.stopped }
 
--- nothing to tell: no branch taken, no loop ended, none moved, no exception, no stop
+-- nothing to report: no branch taken, no loop ended, none moved, no exception, no stop
 abbrev pub told_nothing : told.Outcome
 told_nothing = record { taken = false; expired = false; count = 0; vector = 0; stopped = false }
 
@@ -25,7 +25,7 @@ told_nothing = record { taken = false; expired = false; count = 0; vector = 0; s
 abbrev pub ended_in : ℕ → told.Outcome
 ended_in vector = record told_nothing { vector = vector }
 
--- the registers, and nothing else to tell
+-- the registers, and nothing else to report
 abbrev pub plain : Regs → Outcome
 plain regs =
     record { regs = regs; taken = false; expired = false; count = 0; vector = 0; stopped = false }

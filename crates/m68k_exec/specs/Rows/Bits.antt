@@ -32,6 +32,6 @@ bit task number mode pc regs =
 unfoldable pub bit_by_register : Task → ℕ → Mode → ℕ → Regs → Act Outcome
 bit_by_register task n mode start regs = bit task (register_of regs n) mode (behind start 2) regs
 
--- the bit of a number, which stands before the mode's words
+-- the bit of a number, which precedes the mode's words
 unfoldable pub bit_by_number : Task → ℕ → Mode → ℕ → Regs → Act Outcome
 bit_by_number task number mode start regs = bit task number mode (behind start 4) regs

@@ -58,7 +58,7 @@ trap number regs = end_in (trap_vector number) regs
 unfoldable pub trapv : Regs → Outcome
 trapv regs = if (flags_of regs).v then end_in overflow regs else plain regs
 
--- the bound was not kept: N tells whether the value was below 0
+-- the bound was not kept: N says whether the value was below 0
 unfoldable pub caught : Bool → Regs → Outcome
 caught negative regs =
     end_in out_of_bounds (with_flags regs (record (flags_of regs) { n = negative }))

@@ -1,4 +1,4 @@
--- Instructions with a number behind their first word: ORI, ANDI, SUBI, ADDI, EORI, CMPI, and those
+-- Instructions with a number after their first word: ORI, ANDI, SUBI, ADDI, EORI, CMPI, and those
 -- to CCR and SR. M68000 Programmer's Reference Manual, section 4; to SR section 6.
 use Rattle.std.specs.Prelude.{ℕ, ◌+◌, ◌*◌, ◌%◌}
 use Rattle.md_word.specs.Fields.{flags_of}
@@ -15,7 +15,7 @@ use Rattle.m68k_exec.specs.Access.Outcomes.{Outcome, plain}
 use Rattle.m68k_exec.specs.Access.Shapes.{behind, change_operand, test_operand}
 use Rattle.m68k_exec.specs.Rows.Status.{privileged, with_ccr, with_sr}
 
--- the target's words stand behind the number
+-- the target's words are after the number
 abbrev pub behind_number : Size → ℕ → ℕ
 behind_number size start = behind start (2 + 2 * words_of_number size)
 

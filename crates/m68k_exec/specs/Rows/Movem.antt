@@ -99,7 +99,7 @@ left_at _ at regs = regs
 abbrev pub moved : ℕ → Regs → Outcome
 moved list regs = record (plain regs) { count = count_ones list }
 
--- MOVEM to memory; the mode's words stand behind the list
+-- MOVEM to memory; the mode's words are after the list
 unfoldable pub movem_to_memory : Size → ℕ → Mode → ℕ → Regs → Act Outcome
 movem_to_memory size list mode start regs = do
   reached ← store_list (order_of mode) size list (first_address size mode (behind start 4) regs) regs

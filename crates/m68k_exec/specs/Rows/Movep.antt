@@ -1,4 +1,4 @@
--- MOVEP: the bytes of a register stand at every other address, the highest byte first.
+-- MOVEP: the bytes of a register are at every other address, the highest byte first.
 -- M68000 Programmer's Reference Manual, section 4.
 use Rattle.std.specs.Prelude.{ℕ, ◌+◌, ◌*◌, ◌/◌, ◌%◌, ◌^◌}
 use Rattle.md_word.specs.Fields.{register_of}

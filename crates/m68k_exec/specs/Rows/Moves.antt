@@ -13,7 +13,7 @@ use Rattle.m68k_exec.specs.Access.Operands.{load, store}
 use Rattle.m68k_exec.specs.Access.Outcomes.{Outcome, plain}
 use Rattle.m68k_exec.specs.Access.Shapes.{behind}
 
--- the target's words stand behind the source's
+-- the target's words are after the source's
 abbrev pub behind_source : Size → Mode → ℕ → ℕ
 behind_source size source start = behind start (2 + 2 * words_of_mode size source)
 

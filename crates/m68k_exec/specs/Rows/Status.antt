@@ -60,7 +60,7 @@ move_to_usp n start regs = privileged start regs (plain (record regs { usp = add
 unfoldable pub move_from_usp : ℕ → ℕ → Regs → Outcome
 move_from_usp n start regs = privileged start regs (plain (with_address regs n regs.usp))
 
--- STOP: the old status register tells whether it is privileged
+-- STOP: the old status register says whether it is privileged
 unfoldable pub stop : ℕ → ℕ → Regs → Outcome
 stop value start regs = privileged start regs (record (plain (with_sr value regs)) { stopped = true })
 

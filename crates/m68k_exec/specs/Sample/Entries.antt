@@ -22,7 +22,7 @@ number_of (AddressError opcode address read) = 3
 number_of (Interrupt level) = 24 + level
 number_of (Numbered number) = number
 
--- the long at a vector: they all stand in the cartridge
+-- the long at a vector: they are all in the cartridge
 unfoldable pub vector_at : ℕ → Memory → ℕ
 vector_at number memory =
     word_at memory.rom memory.ram (4 * number) * 0x1_0000 + word_at memory.rom memory.ram (4 * number + 2)

@@ -25,7 +25,7 @@ use Rattle.m68k_exec.specs.Rows.Shifts as shifts
 use Rattle.m68k_exec.specs.Rows.Single as single
 use Rattle.m68k_exec.specs.Rows.Status as status
 
--- an instruction that stands at `start`, with the program counter behind it
+-- an instruction that is at `start`, with the program counter after it
 abbrev pub row : Op → ℕ → Regs → Act Outcome
 row (ops.Immediate task size number mode) start regs = immediates.immediate task size number mode start regs
 row (ops.CompareImmediate size number mode) start regs = immediates.compare_immediate size number mode start regs

@@ -1,4 +1,4 @@
--- What comes behind a write that waits for its answer, which tells nothing.
+-- What follows a write that waits for its answer, which carries nothing.
 -- M68000 User's Manual, section 5, the write cycle.
 use Rattle.std.specs.Prelude.{◌≡◌, ℕ, ◌+◌, ◌≤◌, true, false, [], ◌∷◌, ◌++◌, length, Result, Ok, Err}
 use Rattle.m68k_decode.specs.declared.op.Op.{Op}
@@ -21,29 +21,29 @@ answered_with value memory = record memory { answers = memory.answers ++ value �
 abbrev pub all_answered : Memory → Done
 all_answered memory = record { used = length memory.answers + 1; writes = [] }
 
--- an instruction that waits ends with the registers that are foreseen, whatever it is answered; where it
--- does not wait nothing is foreseen
+-- an instruction that waits ends with the registers that are predicted, whatever it is answered; where it
+-- does not wait nothing is predicted
 abbrev pub Foresees : {A : Type 0} → Result A Stop → Foreseen → Act Outcome → Memory → Done → Type 0
 Foresees (Ok x) foreseen act memory done = foreseen.known ≡ false
 Foresees (Err (Ask request)) foreseen act memory done =
     foreseen.known ≡ true → (value : ℕ) → act (answered_with value memory) done ≡ Ok (plain foreseen.regs, all_answered memory)
 Foresees (Err (Odd address read used)) foreseen act memory done = foreseen.known ≡ false
 
--- a sample that waits comes to what is foreseen, whatever it is answered
+-- a sample that waits results in what is predicted, whatever it is answered
 abbrev pub EndsForeseen : Step → Foreseen → (Memory → Result Ended Stop) → Memory → Type 0
 EndsForeseen (steps.Need request) foreseen sample memory =
     foreseen.known ≡ true → (value : ℕ) → sample (answered_with value memory) ≡ told_by (steps.Done foreseen.finish) foreseen.regs nothing
 EndsForeseen (steps.Done finish) foreseen sample memory = Unit {0}
 
--- an action whose last access waits gives this, whatever it is answered, and these registers are foreseen;
--- where it does not wait nothing is foreseen
+-- an action whose last access waits gives this, whatever it is answered, and these registers are predicted;
+-- where it does not wait nothing is predicted
 abbrev pub WaitsForLast : {A B : Type 0} → Result A Stop → Foreseen → Regs → Act B → B → Memory → Done → Type 0
 WaitsForLast (Ok x) foreseen regs act given memory done = foreseen.known ≡ false
 WaitsForLast (Err (Ask request)) foreseen regs act given memory done =
     foreseen.known ≡ true → (foreseen.regs ≡ regs) × (done.used ≤ length memory.answers) × ((value : ℕ) → act (answered_with value memory) done ≡ Ok (given, all_answered memory))
 WaitsForLast (Err (Odd address read used)) foreseen regs act given memory done = foreseen.known ≡ false
 
--- what is kept of the finish is that of an instruction with nothing else to tell
+-- what is kept of the finish is that of an instruction with nothing else to report
 abbrev pub FinishesForeseen : Foreseen → Op → Regs → Memory → Type 0
 FinishesForeseen foreseen op found memory =
     told_by (steps.Done foreseen.finish) foreseen.regs nothing ≡ Ok (finished op found (plain foreseen.regs) (all_answered memory))

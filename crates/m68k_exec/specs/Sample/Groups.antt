@@ -2,7 +2,7 @@
 use Rattle.m68k_decode.specs.declared.op.Op.{Op}
 use Rattle.m68k_decode.specs.declared.op.Op.TheVariants as ops
 
--- instructions with a number behind the opcode, those on a bit, and MOVEP: the first digit is 0
+-- instructions with a number after the opcode, those on a bit, and MOVEP: the first digit is 0
 abbrev pub IsOfNumber : Op → Type 0
 IsOfNumber (ops.Immediate _ _ _ _) = Unit {0}
 IsOfNumber (ops.CompareImmediate _ _ _) = Unit {0}

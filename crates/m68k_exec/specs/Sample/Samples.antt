@@ -22,7 +22,7 @@ use Rattle.m68k_exec.specs.declared.sample.step.Step.TheVariants as steps
 use Rattle.m68k_exec.specs.declared.access.stop.Stop.{Stop}
 use Rattle.m68k_exec.specs.declared.access.stop.Stop.TheVariants.{Ask, Odd}
 
--- what it comes to: the instruction at the program counter, the registers after it, the bytes
+-- its outcome: the instruction at the program counter, the registers after it, the bytes
 -- written into work RAM, what its time depends on, and whether it stopped the processor, halted it,
 -- or left a trace pending
 pub record Ended : Type 0 where
@@ -75,7 +75,7 @@ begun op number trace found None done = record {
   trace = false;
 }
 
--- the same where its pushes came to their end; else the stop
+-- the same where its pushes ended; else the stop
 abbrev pub begun_by : Op → ℕ → Bool → Regs → Result (Option Regs × Done) Stop → Result Ended Stop
 begun_by op number trace found (Ok x) = Ok (begun op number trace found x.0 x.1)
 begun_by op number trace found (Err stop) = Err stop
@@ -97,7 +97,7 @@ finished op found outcome done = record {
   trace = leaves_trace found 0;
 }
 
--- an instruction that came to its end, perhaps in an exception
+-- an instruction that ended, perhaps in an exception
 unfoldable pub ended_by : Op → Regs → Outcome → Memory → Done → Result Ended Stop
 ended_by op found outcome memory done =
     if outcome.vector == 0 then Ok (finished op found outcome done)
@@ -132,7 +132,7 @@ interrupt level op regs memory = acknowledged level op regs memory (asked (Ack l
 unfoldable pub trace : Op → Regs → Memory → Result Ended Stop
 trace op regs memory = take_exception op (Numbered 9) false regs regs memory nothing
 
--- what a sample comes to where this instruction, with this first word, is at the program counter.
+-- the outcome of a sample where this instruction, with this first word, is at the program counter.
 -- The cause is 0 for the instruction, 1 to 7 for an interrupt of that level, and more for a trace
 abbrev pub sample_of : ℕ → Decoded → ℕ → Regs → Memory → Result Ended Stop
 sample_of cause found first regs memory =
@@ -144,7 +144,7 @@ sample_of cause found first regs memory =
 abbrev pub named : Regs → Memory → Op
 named regs memory = (instruction_of (instruction_words regs.pc memory)).op
 
--- what a sample comes to, or the request that waits for its answer
+-- the outcome of a sample, or the request that waits for its answer
 unfoldable pub sampled : ℕ → Regs → Memory → Result Ended Stop
 sampled cause regs memory =
     let words = instruction_words regs.pc memory in

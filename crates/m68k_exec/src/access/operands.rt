@@ -18,7 +18,7 @@ use md_word::{Mode, Regs, Size};
 const STACK: u8 = 7;
 
 /// The place of a mode's operand, before the instruction changes a register. `pc` is where the
-/// mode's extension words stand.
+/// mode's extension words are.
 #[inline(always)]
 pub fn locate(mode: Mode, size: Size, pc: u32, regs: &Regs) -> Place
     requires { IsMode mode }
@@ -41,7 +41,8 @@ pub fn effective(mode: Mode, size: Size, pc: u32, regs: &Regs) -> u32
     }
 }
 
-/// Reads the operand that stands at a place.
+/// Reads the operand that is at a place.
+/// Stops where an access waits for its answer, or a word or long has an odd address.
 #[inline(always)]
 #[tactic(auto, unfolding(crate::specs::Access::Operands::fetch))]
 pub fn fetch(
@@ -90,6 +91,7 @@ pub fn step(mode: Mode, size: Size, regs: &mut Regs)
 }
 
 /// Writes a value to a place. Of a register the upper part stays; immediate data stays whole.
+/// Stops where an access waits for its answer, or a word or long has an odd address.
 #[inline(always)]
 #[tactic(auto, unfolding(crate::specs::Access::Operands::put, crate::specs::Access::Operands::stored))]
 pub fn put(
@@ -123,6 +125,7 @@ pub fn put(
 }
 
 /// Reads the operand that a mode names, and moves the register of (An)+ or −(An).
+/// Stops where an access waits for its answer, or a word or long has an odd address.
 #[inline(always)]
 #[tactic(auto, unfolding(crate::specs::Access::Operands::load))]
 pub fn load(
@@ -145,30 +148,6 @@ pub fn load(
     Ok(value)
 }
 
-/// Writes where a mode names, and moves the register of (An)+ or −(An).
-#[inline(always)]
-#[tactic(auto, unfolding(crate::specs::Access::Operands::store))]
-pub fn store(
-    mode: Mode,
-    size: Size,
-    value: u32,
-    pc: u32,
-    around: &Around,
-    regs: &mut Regs,
-    progress: &mut Progress,
-) -> Result<(), Stop>
-    requires mode { IsMode mode }
-    requires value { value < modulus_of size }
-    requires room { array_vec_len progress.old.writes + operands.bytes_of size ≤ 80 }
-    ensures value { Leaves result regs.new (done_of progress.new)
-        (operands.store mode size value pc regs.old (memory_of around.now) (done_of progress.old)) }
-    ensures written { array_vec_len progress.new.writes ≤ array_vec_len progress.old.writes + operands.bytes_of size }
-{
-    let to = locate(mode, size, pc, regs);
-    step(mode, size, regs);
-    put(size, to, value, around, regs, progress)
-}
-
 /// How many bytes an operand of a size has.
 pub fn bytes_of(size: Size) -> u32
     ensures { result ≡ operands.bytes_of size }
@@ -181,6 +160,7 @@ pub fn bytes_of(size: Size) -> u32
 }
 
 /// Pushes a word or long on the active stack: A7 is lowered, and the value written there.
+/// Stops where an access waits for its answer, or a word or long has an odd address.
 #[tactic(auto, using(crate::proofs::Stack::stack_set), unfolding(crate::specs::Access::Operands::push))]
 pub fn push(
     size: Size,
@@ -203,6 +183,7 @@ pub fn push(
 }
 
 /// Pulls a word or long from the active stack: it is read at A7, which is then raised past it.
+/// Stops where an access waits for its answer, or a word or long has an odd address.
 #[tactic(auto, using(crate::proofs::Stack::stack_set), unfolding(crate::specs::Access::Operands::pull))]
 pub fn pull(
     size: Size,

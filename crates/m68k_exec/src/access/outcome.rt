@@ -1,7 +1,7 @@
 ghost use Rattle.std.specs.Prelude.{◌≡◌};
 ghost use Rattle.m68k_exec.specs.Access.Outcomes.{told_nothing};
 
-/// What an instruction comes to, once its accesses are answered.
+/// The outcome of an instruction, once its accesses are answered.
 #[derive(Clone, Copy)]
 pub struct Outcome {
     /// A branch was taken, or a condition held.
@@ -18,7 +18,7 @@ pub struct Outcome {
 }
 
 impl Outcome {
-    /// Nothing but the registers to tell.
+    /// Nothing but the registers to report.
     pub fn plain() -> Self
         ensures { result ≡ told_nothing }
     {

@@ -11,7 +11,7 @@ use crate::{Around, Outcome, Progress, Stop};
 use m68k_alu::compute;
 use md_word::{Mode, Regs, Size, Task};
 
-/// The instruction goes on at another address.
+/// The instruction continues at another address.
 pub fn jump_to(target: u32, regs: &mut Regs) -> Outcome
     ensures { outcome_of result regs.new ≡ shapes.jump_to target regs.old }
 {
@@ -38,7 +38,8 @@ pub fn refuse(vector: u8, start: u32, regs: &mut Regs) -> Outcome
     end_in(vector)
 }
 
-/// Reads an operand and sets the flags. `pc` is where the mode's extension words stand.
+/// Reads an operand and sets the flags. `pc` is where the mode's extension words are.
+/// Stops where an access waits for its answer, or a word or long has an odd address.
 #[inline(always)]
 #[tactic(auto, unfolding(crate::specs::Access::Shapes::test_operand))]
 pub fn test_operand(
@@ -64,6 +65,7 @@ pub fn test_operand(
 }
 
 /// Reads an operand, does the operation, and writes the result where the operand was.
+/// Stops where an access waits for its answer, or a word or long has an odd address.
 #[inline(always)]
 #[tactic(auto, unfolding(crate::specs::Access::Shapes::change_operand))]
 pub fn change_operand(
@@ -108,7 +110,7 @@ pub fn change_data(task: Task, size: Size, number: u32, register: u8, regs: &mut
 }
 
 /// Reads an operand, and does the operation with it on a register: 0 to 7 for D0 to D7, 8 to 15 for
-/// A0 to A7.
+/// A0 to A7. Stops where an access waits for its answer, or a word or long has an odd address.
 #[inline(always)]
 #[tactic(auto, unfolding(crate::specs::Access::Shapes::change_register))]
 pub fn change_register(

@@ -1,6 +1,8 @@
 use md_word::Request68;
 
 /// Why an instruction goes no further.
+///
+/// Source: M68000 User's Manual, section 6.3.10, for odd addresses.
 #[derive(Clone, Copy, PartialEq, Eq, Debug)]
 pub enum Stop {
     /// This access waits for its answer.

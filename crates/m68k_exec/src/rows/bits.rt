@@ -103,7 +103,7 @@ pub fn bit_by_register(
     )
 }
 
-/// BTST, BCHG, BCLR, BSET of the bit of this number, which stands before the mode's words.
+/// BTST, BCHG, BCLR, BSET of the bit of this number, which precedes the mode's words.
 #[tactic(auto, unfolding(crate::specs::Rows::Bits::bit_by_number))]
 pub fn bit_by_number(
     task: Task,

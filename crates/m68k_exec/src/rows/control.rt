@@ -121,7 +121,7 @@ pub fn trapv(regs: &Regs) -> Outcome
     }
 }
 
-/// The bound was not kept: N tells whether the value was below 0.
+/// The bound was not kept: N says whether the value was below 0.
 #[tactic(auto, unfolding(crate::specs::Rows::Control::caught))]
 fn caught(negative: bool, regs: &mut Regs) -> Outcome
     ensures { outcome_of result regs.new ≡ control.caught negative regs.old }

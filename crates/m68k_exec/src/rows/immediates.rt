@@ -13,7 +13,7 @@ use crate::{Around, Outcome, Progress, Stop};
 use m68k_alu::compute;
 use md_word::{Mode, Regs, Size, Task};
 
-/// Where the target's words stand: behind the number.
+/// Where the target's words are: after the number.
 fn behind_number(size: Size, start: u32) -> u32
     ensures { result ≡ immediates.behind_number size start }
 {

@@ -2,18 +2,22 @@ ghost use Rattle.std.specs.Prelude.{◌≡◌, ◌+◌, ◌%◌, ◌<◌, ◌≤
 ghost use Rattle.std.specs.Int.RustNames.{count_ones};
 ghost use Rattle.arrayvec.specs.ArrayVec.{array_vec_len};
 ghost use Rattle.md_word.specs.Modes.{IsMode};
-ghost use Rattle.md_word.specs.Coding.{flag_number};
-ghost use Rattle.m68k_exec.specs.Access.Clauses.{Ends, Meets, Reaches, done_of, memory_of};
+ghost use Rattle.m68k_exec.specs.Access.Clauses.{Ends, done_of, memory_of};
 ghost use Rattle.m68k_exec.specs.Access.Outcomes.{told_nothing};
 ghost use Rattle.m68k_exec.specs.Rows.Movem as movem;
-ghost use Rattle.m68k_exec.specs.Rows.Turns as turns;
+
+pub mod loads;
+pub mod stores;
 
 use crate::access::operands::effective;
-use crate::access::{read, write};
+use crate::rows::movem::loads::load_list;
+use crate::rows::movem::stores::store_list;
 use crate::{Around, Outcome, Progress, Stop};
-use md_word::{Mode, Regs, Size, extend};
+use md_word::{Mode, Regs, Size};
 
 /// In which direction MOVEM goes through memory.
+///
+/// Source: M68000 Programmer's Reference Manual, section 4, MOVEM.
 #[derive(Clone, Copy)]
 pub enum Order {
     Rising,
@@ -31,7 +35,7 @@ fn order_of(mode: Mode) -> Order
 }
 
 /// The register that a bit of the list names.
-fn named(order: Order, place: u8) -> u8
+pub fn named(order: Order, place: u8) -> u8
     requires { place < 16 }
     ensures value { result ≡ movem.named order place }
     ensures below { result < 16 }
@@ -55,7 +59,7 @@ fn step_of(size: Size) -> u32
 }
 
 /// The next address, by one register.
-fn next_address(order: Order, size: Size, at: u32) -> u32
+pub fn next_address(order: Order, size: Size, at: u32) -> u32
     ensures value { result ≡ movem.next_address order size at }
 {
     match order {
@@ -65,207 +69,13 @@ fn next_address(order: Order, size: Size, at: u32) -> u32
 }
 
 /// Where a register is written.
-fn place_at(order: Order, size: Size, at: u32) -> u32
+pub fn place_at(order: Order, size: Size, at: u32) -> u32
     ensures value { result ≡ movem.place_at order size at }
 {
     match order {
         Order::Rising => at,
         Order::Falling => next_address(order, size, at),
     }
-}
-
-/// Writes one register, and gives the next address.
-#[tactic(auto, unfolding(crate::specs::Rows::Turns::store_one))]
-fn store_one(
-    order: Order,
-    size: Size,
-    place: u8,
-    at: u32,
-    around: &Around,
-    regs: &Regs,
-    progress: &mut Progress,
-) -> Result<u32, Stop>
-    requires place { place < 16 }
-    requires room { array_vec_len progress.old.writes + 4 ≤ 80 }
-    ensures value { Meets result (done_of progress.new) (turns.store_one order size place at regs.now (memory_of around.now) (done_of progress.old)) }
-    ensures written { array_vec_len progress.new.writes ≤ array_vec_len progress.old.writes + 4 }
-{
-    let value = size.low(regs.register(named(order, place)));
-    write(size, place_at(order, size, at), value, around, progress)?;
-    Ok(next_address(order, size, at))
-}
-
-/// Writes a register if its bit is set.
-fn store_turn(
-    order: Order,
-    size: Size,
-    chosen: bool,
-    place: u8,
-    at: u32,
-    around: &Around,
-    regs: &Regs,
-    progress: &mut Progress,
-) -> Result<u32, Stop>
-    requires place { place < 16 }
-    requires room { array_vec_len progress.old.writes + 4 ≤ 80 }
-    ensures value { Meets result (done_of progress.new) (turns.store_turn order size chosen place at regs.now (memory_of around.now) (done_of progress.old)) }
-    ensures written { array_vec_len progress.new.writes ≤ array_vec_len progress.old.writes + 4 }
-{
-    if chosen {
-        store_one(order, size, place, at, around, regs, progress)
-    } else {
-        Ok(at)
-    }
-}
-
-/// Writes the registers of the list, each as it was before the instruction, and gives the address
-/// that is reached.
-#[tactic(auto, using(crate::proofs::Turns::store_step))]
-fn store_each(
-    order: Order,
-    size: Size,
-    list: u16,
-    at: u32,
-    around: &Around,
-    regs: &Regs,
-    progress: &mut Progress,
-) -> Result<u32, Stop>
-    requires fresh { array_vec_len progress.old.writes ≡ 0 }
-    ensures value { Meets result (done_of progress.new) (movem.store_each order size (movem.places_in list) at regs.now (memory_of around.now) (done_of progress.old)) }
-    ensures written { array_vec_len progress.new.writes ≤ array_vec_len progress.old.writes + 64 }
-{
-    let mut left = list;
-    let mut address = at;
-    'registers: for place in 0..16u8 {
-        address = store_turn(
-            order,
-            size,
-            left % 2 == 1,
-            place,
-            address,
-            around,
-            regs,
-            progress,
-        )?;
-        left /= 2;
-    }
-    Ok(address)
-}
-
-/// Writes the registers of the list, if there are any: at an odd address that is an address error.
-#[tactic(auto, unfolding(crate::specs::Rows::Movem::store_list))]
-fn store_list(
-    order: Order,
-    size: Size,
-    list: u16,
-    at: u32,
-    around: &Around,
-    regs: &Regs,
-    progress: &mut Progress,
-) -> Result<u32, Stop>
-    requires { array_vec_len progress.old.writes ≡ 0 }
-    ensures value { Meets result (done_of progress.new) (movem.store_list order size list at regs.now (memory_of around.now) (done_of progress.old)) }
-    ensures written { array_vec_len progress.new.writes ≤ array_vec_len progress.old.writes + 64 }
-{
-    if list == 0 {
-        return Ok(at);
-    }
-    if at % 2 == 1 {
-        return Err(Stop::Odd {
-            address: place_at(order, size, at),
-            read: false,
-            used: progress.used,
-        });
-    }
-    store_each(order, size, list, at, around, regs, progress)
-}
-
-/// Reads one register, a word with its sign extended.
-#[tactic(auto, unfolding(crate::specs::Rows::Turns::load_one))]
-fn load_one(
-    size: Size,
-    place: u8,
-    at: u32,
-    around: &Around,
-    regs: &mut Regs,
-    progress: &mut Progress,
-) -> Result<u32, Stop>
-    requires place { place < 16 }
-    ensures value { Reaches result regs.new (done_of progress.new) (turns.load_one size place at regs.old (memory_of around.now) (done_of progress.old)) }
-    ensures written { array_vec_len progress.new.writes ≤ array_vec_len progress.old.writes }
-{
-    let value = read(size, at, around, progress)?;
-    regs.set_register(place, extend(value, size));
-    Ok(next_address(Order::Rising, size, at))
-}
-
-/// Reads a register if its bit is set.
-fn load_turn(
-    size: Size,
-    chosen: bool,
-    place: u8,
-    at: u32,
-    around: &Around,
-    regs: &mut Regs,
-    progress: &mut Progress,
-) -> Result<u32, Stop>
-    requires place { place < 16 }
-    ensures value { Reaches result regs.new (done_of progress.new) (turns.load_turn size chosen place at regs.old (memory_of around.now) (done_of progress.old)) }
-    ensures written { array_vec_len progress.new.writes ≤ array_vec_len progress.old.writes }
-{
-    if chosen {
-        load_one(size, place, at, around, regs, progress)
-    } else {
-        Ok(at)
-    }
-}
-
-/// Reads the registers of the list.
-#[tactic(auto, using(crate::proofs::Turns::load_step))]
-fn load_each(
-    size: Size,
-    list: u16,
-    at: u32,
-    around: &Around,
-    regs: &mut Regs,
-    progress: &mut Progress,
-) -> Result<u32, Stop>
-    ensures value { Reaches result regs.new (done_of progress.new) (movem.load_each size (movem.places_in list) at regs.old (memory_of around.now) (done_of progress.old)) }
-    ensures written { array_vec_len progress.new.writes ≤ array_vec_len progress.old.writes }
-{
-    let mut left = list;
-    let mut address = at;
-    'registers: for place in 0..16u8 {
-        address = load_turn(size, left % 2 == 1, place, address, around, regs, progress)?;
-        left /= 2;
-    }
-    Ok(address)
-}
-
-/// Reads the registers of the list, if there are any: at an odd address that is an address error.
-#[tactic(auto, unfolding(crate::specs::Rows::Movem::load_list))]
-fn load_list(
-    size: Size,
-    list: u16,
-    at: u32,
-    around: &Around,
-    regs: &mut Regs,
-    progress: &mut Progress,
-) -> Result<u32, Stop>
-    ensures value { Reaches result regs.new (done_of progress.new) (movem.load_list size list at regs.old (memory_of around.now) (done_of progress.old)) }
-    ensures written { array_vec_len progress.new.writes ≤ array_vec_len progress.old.writes }
-{
-    if list == 0 {
-        return Ok(at);
-    }
-    if at % 2 == 1 {
-        return Err(Stop::Odd {
-            address: at,
-            read: true,
-            used: progress.used,
-        });
-    }
-    load_each(size, list, at, around, regs, progress)
 }
 
 /// Where MOVEM to memory begins: with −(An) at An itself, which is lowered for each register.

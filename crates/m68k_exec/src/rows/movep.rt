@@ -9,7 +9,7 @@ use crate::access::{read_byte, write_byte};
 use crate::{Around, Outcome, Progress, Stop};
 use md_word::{Mode, Regs, Size};
 
-/// Reads a word whose bytes stand at every other address, the high byte first.
+/// Reads a word whose bytes are at every other address, the high byte first.
 #[tactic(auto, unfolding(crate::specs::Rows::Movep::spread_word))]
 fn spread_word(at: u32, around: &Around, progress: &mut Progress) -> Result<u16, Stop>
     ensures value { Meets result (done_of progress.new) (movep.spread_word at (memory_of around.now) (done_of progress.old)) }
@@ -20,7 +20,7 @@ fn spread_word(at: u32, around: &Around, progress: &mut Progress) -> Result<u16,
     Ok(u16::from(high) * 0x100 + u16::from(low))
 }
 
-/// Reads a long whose bytes stand at every other address, the highest byte first.
+/// Reads a long whose bytes are at every other address, the highest byte first.
 #[tactic(auto, unfolding(crate::specs::Rows::Movep::spread_long))]
 fn spread_long(at: u32, around: &Around, progress: &mut Progress) -> Result<u32, Stop>
     ensures value { Meets result (done_of progress.new) (movep.spread_long at (memory_of around.now) (done_of progress.old)) }
@@ -31,7 +31,7 @@ fn spread_long(at: u32, around: &Around, progress: &mut Progress) -> Result<u32,
     Ok(u32::from(high) * 0x1_0000 + u32::from(low))
 }
 
-/// Reads a value of a size whose bytes stand at every other address.
+/// Reads a value of a size whose bytes are at every other address.
 fn read_spread(size: Size, at: u32, around: &Around, progress: &mut Progress) -> Result<u32, Stop>
     ensures value { Meets result (done_of progress.new) (movep.read_spread size at (memory_of around.now) (done_of progress.old)) }
     ensures below { IfOk result (λ value. value < modulus_of size) }

@@ -18,7 +18,7 @@ use m68k_alu::compute;
 use m68k_ea::Place;
 use md_word::{Flags, Mode, Regs, Size, Task, extend};
 
-/// Where the target's words stand: behind the source's.
+/// Where the target's words are: after the source's.
 #[inline(always)]
 fn behind_source(size: Size, source: Mode, start: u32) -> u32
     ensures { result ≡ moves.behind_source size source start }
@@ -36,7 +36,7 @@ fn behind_source(size: Size, source: Mode, start: u32) -> u32
     }
 }
 
-/// Whether an operand that is written behind so many answers waits for its last, where there are `count`.
+/// Whether an operand that is written after so many answers waits for its last, where there are `count`.
 #[inline(always)]
 fn waits_for_last(size: Size, used: usize, count: usize) -> bool
     ensures { result ≡ true → used + ops.moves_of size ≡ count + 1 }
@@ -47,8 +47,8 @@ fn waits_for_last(size: Size, used: usize, count: usize) -> bool
     }
 }
 
-/// Writes the result of MOVE into memory. Where the last access of that waits, the registers behind the
-/// instruction are foreseen: those given, with its flags.
+/// Writes the result of MOVE into memory. Where the last access of that waits, the registers after the
+/// instruction are predicted: those given, with its flags.
 #[inline(always)]
 #[tactic(auto, using(crate::proofs::Foresight::nothing_waits))]
 fn write_last(
@@ -84,7 +84,7 @@ fn write_last(
 }
 
 /// Writes the result of MOVE where a mode names, and moves the register of (An)+ or −(An). Where the last
-/// access of that waits, the registers behind the instruction are foreseen.
+/// access of that waits, the registers after the instruction are predicted.
 #[inline(always)]
 #[tactic(auto, using(crate::proofs::Foresight::nothing_waits), unfolding(crate::specs::Access::Operands::store, crate::specs::Access::Operands::put, crate::specs::Access::Operands::stored))]
 fn store_last(

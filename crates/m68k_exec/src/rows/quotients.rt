@@ -13,7 +13,7 @@ use crate::{Around, Outcome, Progress, Stop};
 use m68k_alu::{Quotient, divide};
 use md_word::{Mode, Regs, Size};
 
-/// What a division comes to: a quotient stands in the register, and a divisor of 0 is an exception.
+/// The outcome of a division: a quotient is in the register, and a divisor of 0 is an exception.
 #[tactic(auto, unfolding(crate::specs::Rows::Quotients::finished))]
 fn finished(quotient: Quotient, number: u8, regs: &mut Regs) -> Outcome
     requires { number < 8 }

@@ -57,7 +57,7 @@ fn decode_at(address: u32, around: &Around) -> CachedInstruction
 }
 
 impl DecodeCache {
-    /// A cache of no instruction. It takes 128 KiB.
+    /// A cache of no instruction. It takes 128 KiB, and fails only where memory runs out.
     pub fn empty(alloc: Global) -> Result<Self, NoMemory>
         ensures { (rom : List ℕ) → IfOk result (λ cache. IsCacheOf rom cache) }
     {

@@ -89,8 +89,9 @@ fn enter_with(
     }))
 }
 
-/// Begins an exception, from the registers with the program counter that it saves: gives those
-/// that its handler finds, or none where the processor halts.
+/// Begins an exception, from the registers with the program counter that it saves: gives those that its handler
+/// finds. None where the processor halts, since the stack pointer is odd, or the handler of an address error is.
+/// Stops where a push waits for its answer.
 #[tactic(auto, unfolding(crate::specs::Sample::Entries::enter))]
 pub fn enter(
     exception: Exception,

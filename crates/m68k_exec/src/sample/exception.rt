@@ -16,6 +16,8 @@ const UNTRACED: u16 = 0x7fff;
 const UNMASKED: u16 = 0x78ff;
 
 /// An exception that begins.
+///
+/// Source: M68000 User's Manual, section 6.
 #[derive(Clone, Copy)]
 pub enum Exception {
     /// A word or long at an odd address: the first word of the instruction, the address, and

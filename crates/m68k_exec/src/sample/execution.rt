@@ -26,7 +26,8 @@ use products::products;
 use registers::registers;
 use sums::sums;
 
-/// Carries out an instruction that stands at `start`. On entry the program counter is behind it.
+/// Carries out an instruction that is at `start`. On entry the program counter is after it. Stops where an access
+/// waits for its answer, or where a word or long has an odd address.
 ///
 /// One that ends in an exception makes four accesses at most before it. Each group of instructions has
 /// a function, since all locals of a function are set to 0 at its start.

@@ -3,7 +3,7 @@ ghost use Rattle.std.specs.Prelude.{◌≡◌, false};
 use m68k_decode::Op;
 use md_word::{Regs, Request68, Spent};
 
-/// What a sample of the 68000 comes to, once its shared accesses are answered.
+/// The outcome of a sample of the 68000, once its shared accesses are answered.
 #[derive(Clone, Copy)]
 pub struct Finish {
     /// The instruction at the program counter before it.
@@ -27,14 +27,14 @@ pub enum Step {
     Done(Finish),
 }
 
-/// What comes behind a write that waits for its answer, where that is known: the write is the last
+/// What follows a write that waits for its answer, where that is known: the write is the last
 /// access of its instruction, no answer to it changes anything, and no work RAM is written.
 #[derive(Clone, Copy)]
 pub struct Foreseen {
     pub known: bool,
     /// The registers then.
     pub regs: Regs,
-    /// What the sample comes to.
+    /// The outcome of the sample.
     pub finish: Finish,
 }
 

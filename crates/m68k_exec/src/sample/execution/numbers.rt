@@ -12,7 +12,7 @@ use crate::{Around, Outcome, Progress, Stop};
 use m68k_decode::Op;
 use md_word::Regs;
 
-/// Instructions with a number behind the opcode, those on a bit, and MOVEP: the first digit is 0.
+/// Instructions with a number after the opcode, those on a bit, and MOVEP: the first digit is 0.
 #[inline(never)]
 pub fn numbers(
     op: &Op,

@@ -14,7 +14,7 @@ pub stand_behind-requires : goal.stand_behind-requires
 stand_behind-requires c =
     reads-here c.self.inside.lap (arc_value c.self.inside.cart) c.self.inside.ram.value c.self.inside.sequencer c.self.inside.lap.place _ _ c.self.invariant.2 (c.is_read_again.ensures.place c.if-is_read_again.true)
 
--- it stands behind the answer that is known
+-- it is after the answer that is known
 behind : (c : After-stand_behind) → state_of c.stand_behind.new.self c.self.inside.ram.value ≡ sampling c.self.inside.ram.value c.self.inside.lap.after (c.self.inside.sequencer.start + c.self.inside.lap.first)
 behind c = c.stand_behind.ensures.state c.self.inside.ram.value ∙ ap (λ n. sampling c.self.inside.ram.value c.self.inside.lap.after (c.self.inside.sequencer.start + n)) c.from.ensures
 

@@ -17,11 +17,11 @@ stand_behind-requires c =
     reads-here c.self.inside.other (arc_value c.self.inside.cart) c.self.inside.ram.value c.self.inside.sequencer AtRead c.self.inside.sequencer.request c.self.inside.sequencer.foreseen
     (c.self.invariant.3 (c.is_begun.ensures.place c.if-is_begun.true), c.is_begun.ensures.reading c.self.inside.ram.value c.if-is_begun.true, c.is_begun.ensures.late c.if-is_begun.true) refl
 
--- it stands at the read of the other lap
+-- it is at the read of the other iteration
 other : (c : After-stand_behind) → IsOn AtRead c.self.inside.other (arc_value c.self.inside.cart) (state_of c.self.inside.sequencer c.self.inside.ram.value) c.self.inside.sequencer.request c.self.inside.sequencer.foreseen
 other c = (c.self.invariant.3 (c.is_begun.ensures.place c.if-is_begun.true), c.is_begun.ensures.reading c.self.inside.ram.value c.if-is_begun.true, c.is_begun.ensures.late c.if-is_begun.true)
 
--- it stands behind the answer that is known
+-- it is after the answer that is known
 behind : (c : After-stand_behind) → state_of c.stand_behind.new.self c.self.inside.ram.value ≡ sampling c.self.inside.ram.value c.self.inside.other.after (c.self.inside.sequencer.start + c.self.inside.other.first)
 behind c =
     c.stand_behind.ensures.state c.self.inside.ram.value

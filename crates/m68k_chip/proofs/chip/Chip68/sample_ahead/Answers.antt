@@ -12,7 +12,7 @@ pub read_again-requires-clause-sampling : goal.read_again-requires-clause-sampli
 read_again-requires-clause-sampling c =
     samples-here c.self.inside.lap (arc_value c.self.inside.cart) c.self.inside.ram.value c.self.inside.sequencer c.self.inside.lap.place _ _ c.self.invariant.2 (c.leads_back.ensures.place c.if-leads_back.true)
 
--- it stands at the read again
+-- it is at the read again
 again : (c : After-read_again) → state_of c.read_again.new.self c.self.inside.ram.value ≡ reading c.self.inside.ram.value c.self.inside.lap.from (c.self.inside.sequencer.start + c.self.inside.lap.rest)
 again c = c.read_again.ensures.state c.self.inside.ram.value ∙ ap (λ n. reading c.self.inside.ram.value c.self.inside.lap.from (c.self.inside.sequencer.start + n)) c.from.ensures
 

@@ -36,7 +36,7 @@ pub end_foreseen-requires : goal.end_foreseen-requires
 end_foreseen-requires c =
     omega (arith, c.requires.start, ap (λ (s : State68). s.start) (c.start_transfer.ensures.state []), (started-rest (state_of c.args.self.now []) c.args.answer.now.transfer).3)
 
--- what was foreseen comes
+-- what was predicted comes
 came : (c : goal.After-end_foreseen) → state_of c.end_foreseen.new.self c.args.ram.now ≡ finished (with_started (state_of c.args.self.now c.args.ram.now) c.args.answer.now.transfer) (ended_by c.args.self.now.foreseen.finish c.args.self.now.foreseen.regs [])
 came c =
     let started : State68 = with_started (state_of c.args.self.now c.args.ram.now) c.args.answer.now.transfer in

@@ -4,7 +4,7 @@ use Rattle.m68k_exec.specs.Access.Clauses.{memory_of}
 use Rattle.m68k_exec.specs.declared.access.outcome.Outcome.{Outcome}
 use Rattle.m68k_exec.proofs.Bounds.Steps as bounds
 use Rattle.m68k_exec.proofs.Foresight.{instruction-foresees}
-use Rattle.m68k_exec.proofs.sample.instruction.Goals as goal
+use Rattle.m68k_exec.proofs.sample.causes.instruction.Goals as goal
 
 pub ended_by-requires-clause-most : goal.ended_by-requires-clause-most
 ended_by-requires-clause-most c =

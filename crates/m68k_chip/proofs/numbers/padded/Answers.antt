@@ -1,6 +1,6 @@
 use Rattle.std.proofs.Common.{ℕ, ◌-◌, ◌++◌, List, length, replicate, ap, ◌∙◌}
 use Rattle.std.proofs.lemmas.List.{drop-replicate}
-use Rattle.m68k_chip.proofs.saved.padded.Goals as goal
+use Rattle.m68k_chip.proofs.numbers.padded.Goals as goal
 
 pub returns-clause-value : goal.returns-clause-value
 returns-clause-value c =

@@ -1,6 +1,6 @@
 use Rattle.std.proofs.Common.{◌≡◌, take}
 use Rattle.m68k_exec.specs.Access.Memory.{ram_after}
-use Rattle.m68k_chip.proofs.sequencer.store_all.Given as goal
+use Rattle.m68k_chip.proofs.execution.store_all.Given as goal
 
 -- the writes so far are stored
 abbrev pub invariant-writes : goal.invariant-writes

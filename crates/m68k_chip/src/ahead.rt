@@ -1,0 +1,122 @@
+//! All samples below a cycle, up to the first access.
+ghost use Rattle.std.specs.Prelude.{◌≡◌, ◌^◌, ◌<◌, ◌≤◌, ◌↔◌, true, IsTrue};
+
+use crate::chip::Chip68;
+use crate::lap::Place;
+use crate::stage::Stage;
+use crate::watched::Watched;
+use md_word::Pins68;
+
+impl Chip68 {
+    ghost use Rattle.m68k_chip.specs.Cases.{case_of, is_rest};
+    ghost use Rattle.m68k_chip.specs.Events.{WentAhead};
+    ghost use Rattle.m68k_chip.specs.Laps.{HasWatched};
+    ghost use Rattle.m68k_chip.specs.Validity.{IsChip68};
+    ghost use Rattle.m68k_chip.specs.States.{next_of};
+
+    /// Takes the sample that is the next event, as `sample` does, and then all samples of these pins
+    /// below cycle `end`, up to the first access; answers how many that were.
+    pub fn sample_ahead(&mut self, pins: Pins68, end: u64) -> u64
+        requires sampling { (next_of self.old.state).sample ≡ true }
+        requires far { self.old.state.next < 2 ^ 50 }
+        requires end { end ≤ 2 ^ 50 }
+        ensures state { WentAhead result end self.old.cart pins.level self.old.state self.new.state }
+        ensures all { (next_of self.new.state).sample ≡ true → end ≤ self.new.state.next }
+        ensures cart { self.new.cart ≡ self.old.cart }
+    {
+        if self.lap.leads_back(pins.level, self.sequencer.start, end) {
+            self.lap.place = Place::AtRead;
+            let start = self.sequencer.start + u64::from(self.lap.rest);
+            self.sequencer.read_again(&self.lap.from, start);
+            self.lap.samples
+        } else if self.sequencer.rests(pins.level) {
+            self.rest_ahead(pins, end)
+        } else if matches!(self.lap.place, Place::Away) {
+            self.sample_each(pins, end)
+        } else {
+            self.sample_round(pins, end)
+        }
+    }
+
+    /// `sample_ahead` where the 68000 does nothing, being halted or stopped.
+    fn rest_ahead(&mut self, pins: Pins68, end: u64) -> u64
+        requires sampling { (next_of self.old.state).sample ≡ true }
+        requires far { self.old.state.next < 2 ^ 50 }
+        requires rest { is_rest (case_of self.old.state pins.level) ≡ true }
+        requires end { end ≤ 2 ^ 50 }
+        ensures state { WentAhead result end self.old.cart pins.level self.old.state self.new.state }
+        ensures all { (next_of self.new.state).sample ≡ true → end ≤ self.new.state.next }
+        ensures cart { self.new.cart ≡ self.old.cart }
+    {
+        self.lap.place = Place::Away;
+        self.sequencer.rest_ahead(end)
+    }
+
+    /// `sample_ahead`, sample by sample.
+    fn sample_each(&mut self, pins: Pins68, end: u64) -> u64
+        requires sampling { (next_of self.old.state).sample ≡ true }
+        requires far { self.old.state.next < 2 ^ 50 }
+        requires end { end ≤ 2 ^ 50 }
+        ensures state { WentAhead result end self.old.cart pins.level self.old.state self.new.state }
+        ensures all { (next_of self.new.state).sample ≡ true → end ≤ self.new.state.next }
+        ensures cart { self.new.cart ≡ self.old.cart }
+    {
+        self.sample(pins);
+        let mut samples = 1;
+        while self.samples_below(end) {
+            self.sample(pins);
+            samples += 1;
+        }
+        samples
+    }
+
+    /// `sample_each` from a place of an iteration.
+    fn sample_round(&mut self, pins: Pins68, end: u64) -> u64
+        requires sampling { (next_of self.old.state).sample ≡ true }
+        requires far { self.old.state.next < 2 ^ 50 }
+        requires end { end ≤ 2 ^ 50 }
+        ensures state { WentAhead result end self.old.cart pins.level self.old.state self.new.state }
+        ensures all { (next_of self.new.state).sample ≡ true → end ≤ self.new.state.next }
+        ensures cart { self.new.cart ≡ self.old.cart }
+    {
+        let mut lap = self.lap;
+        let begun = self.sequencer.start;
+        let watched = self.sample_watched(pins, end);
+        lap.go_on(&self.sequencer, &watched, begun, pins.level);
+        self.lap = lap;
+        watched.samples
+    }
+
+    /// `sample_each`; answers what was seen of the samples.
+    fn sample_watched(&mut self, pins: Pins68, end: u64) -> Watched
+        requires sampling { (next_of self.old.state).sample ≡ true }
+        requires far { self.old.state.next < 2 ^ 50 }
+        requires end { end ≤ 2 ^ 50 }
+        ensures watched { HasWatched result end self.old.cart pins.level self.old.state self.new.state }
+        ensures all { (next_of self.new.state).sample ≡ true → end ≤ self.new.state.next }
+        ensures cart { self.new.cart ≡ self.old.cart }
+    {
+        let latest = self.next().key.cycle;
+        let quiet = self.sample_quietly(pins);
+        let mut watched = Watched {
+            samples: 1,
+            latest,
+            quiet,
+        };
+        while self.samples_below(end) {
+            let cycle = self.next().key.cycle;
+            let quiet = self.sample_quietly(pins);
+            watched.add(cycle, quiet);
+        }
+        watched
+    }
+
+    /// Whether the next event is a sample below a cycle.
+    #[tactic(auto, unfolding(crate::specs::States::next_of))]
+    fn samples_below(&self, end: u64) -> bool
+        ensures value { IsTrue result ↔ ((next_of self.now.state).sample ≡ true) × (self.now.state.next < end) }
+        ensures valid { IsChip68 self.now }
+    {
+        matches!(self.sequencer.stage, Stage::Sample) && self.sequencer.next < end
+    }
+}

@@ -1,0 +1,114 @@
+//! What the 68000 carries out: an instruction, a trace or an interrupt, up to its end or to an access.
+ghost use Rattle.std.specs.Prelude.{◌≡◌, ◌^◌, ◌<◌, ℕ, List, [], Some, length};
+ghost use Rattle.m68k_time.specs.Clocks.{clocks_of};
+ghost use Rattle.m68k_exec.specs.Access.Memory.{ram_after};
+ghost use Rattle.m68k_exec.specs.Sample.Caches.{IsCacheOf};
+ghost use Rattle.m68k_chip.specs.Events as events;
+ghost use Rattle.m68k_chip.specs.Events.{carried_out, end_of, went_on};
+ghost use Rattle.m68k_chip.specs.Steps.{IsForetold, IsTold, ended_by};
+ghost use Rattle.m68k_chip.specs.States.{state_of};
+
+use crate::sequencer::{STEP, Sequencer};
+use crate::stage::Stage;
+use m68k_exec::{DecodeCache, Finish, Progress, Step, foresee_cached};
+use m68k_time::clocks;
+use md_word::Request68;
+use md_word::clock::MAIN_CLOCK;
+use rom_header::Cart;
+
+/// Writes bytes into work RAM, the first of them first.
+fn store_all(writes: &[(u32, u8)], ram: &mut [u8; 65536])
+    ensures { ram.new ≡ ram_after ram.old writes.now }
+{
+    'writes: for (address, byte) in writes {
+        ram[(*address % 0x1_0000) as usize] = *byte;
+    }
+}
+
+impl Sequencer {
+    /// Goes to the access that waits for the next answer.
+    fn ask(&mut self, cause: u8, request: Request68)
+        requires start { self.old.start < 2 ^ 50 }
+        requires answers { length self.old.answers.items < 32 }
+        ensures state { (ram : List ℕ) → state_of self.new ram ≡ events.asking (state_of self.old ram) cause self.old.answers.items }
+        ensures request { self.new.request ≡ Some request }
+        ensures foreseen { self.new.foreseen ≡ self.old.foreseen }
+    {
+        self.next = self.start + STEP * (self.answers.len() as u64 + 1);
+        self.stage = Stage::Access;
+        self.cause = cause;
+        self.request = Some(request);
+    }
+
+    /// Ends what was carried out, from the registers that it left; what it wrote into work RAM is
+    /// stored elsewhere.
+    #[inline(always)]
+    fn finish(&mut self, finish: &Finish)
+        requires { self.old.start < 2 ^ 50 }
+        ensures { (ram : List ℕ) (writes : List (ℕ × ℕ)) → state_of self.new (ram_after ram writes)
+            ≡ events.finished (state_of self.old ram) (ended_by finish.now self.old.regs writes) }
+    {
+        let clocks = clocks(&finish.op, finish.spent);
+        let end = self.start + MAIN_CLOCK * u64::from(clocks);
+        self.stopped = finish.stopped;
+        self.trace = finish.trace;
+        self.halted = if finish.halted {
+            Some(self.start)
+        } else {
+            None
+        };
+        self.cause = 0;
+        self.answers.clear();
+        self.rest(end);
+    }
+
+    /// Continues with what is carried out, as far as the answers go.
+    #[tactic(auto, unfolding(crate::specs::Events::went_on))]
+    pub fn go_on(
+        &mut self,
+        cause: u8,
+        cart: &Cart,
+        ram: &mut [u8; 65536],
+        cache: &mut DecodeCache,
+        progress: &mut Progress,
+    )
+        requires start { self.old.start < 2 ^ 50 }
+        requires cache { IsCacheOf cart.now cache.old }
+        ensures cache { IsCacheOf cart.now cache.new }
+        ensures state { state_of self.new ram.new ≡ went_on cart.now (state_of self.old ram.old) cause self.old.answers.items }
+        ensures quiet { progress.new.writes.items ≡ [] → ram.new ≡ ram.old }
+        ensures told { IsTold (carried_out cart.now (state_of self.old ram.old) cause self.old.answers.items) self.new.request }
+        ensures foretold { IsForetold (carried_out cart.now (state_of self.old ram.old) cause self.old.answers.items) self.new.foreseen cart.now (state_of self.old ram.old) cause self.old.answers.items }
+    {
+        let mut step = Step::Need(Request68::Ack(0));
+        foresee_cached(
+            &mut self.regs,
+            cart,
+            ram,
+            &self.answers,
+            cause,
+            cache,
+            progress,
+            &mut step,
+            &mut self.foreseen,
+        );
+        match &step {
+            Step::Need(request) => self.ask(cause, *request),
+            Step::Done(finish) => {
+                store_all(progress.writes.as_slice(), ram);
+                self.finish(finish);
+            }
+        }
+    }
+
+    /// Ends what was carried out as it is predicted.
+    pub fn end_foreseen(&mut self)
+        requires { self.old.start < 2 ^ 50 }
+        ensures { (ram : List ℕ) → state_of self.new ram
+            ≡ events.finished (state_of self.old ram) (ended_by self.old.foreseen.finish self.old.foreseen.regs []) }
+    {
+        self.regs = self.foreseen.regs;
+        let finish = self.foreseen.finish;
+        self.finish(&finish);
+    }
+}

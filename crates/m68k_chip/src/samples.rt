@@ -1,0 +1,81 @@
+//! A sample of the interrupt level: what the 68000 finds there, and the event that follows.
+ghost use Rattle.std.specs.Prelude.{◌≡◌, ◌+◌, ◌*◌, ◌^◌, ◌<◌, ◌≤◌, ℕ, List, []};
+ghost use Rattle.m68k_exec.specs.Sample.Caches.{IsCacheOf};
+ghost use Rattle.m68k_chip.specs.Cases as cases;
+ghost use Rattle.m68k_chip.specs.Events as events;
+ghost use Rattle.m68k_chip.specs.Events.{begun};
+ghost use Rattle.m68k_chip.specs.Held.{IsForeseen, WaitsFor};
+ghost use Rattle.m68k_chip.specs.States.{state_of};
+
+use crate::case::Case;
+use crate::sequencer::{STEP, Sequencer};
+use m68k_exec::{DecodeCache, Progress};
+use rom_header::Cart;
+
+impl Sequencer {
+    /// What the next sample finds at this interrupt level.
+    #[tactic(auto, unfolding(crate::specs::Cases::case_of))]
+    pub fn case_at(&self, level: u8) -> Case
+        ensures { (ram : List ℕ) → result ≡ cases.case_of (state_of self.now ram) level }
+    {
+        let mask = self.regs.sr / 0x100 % 8;
+        if self.halted.is_some() {
+            Case::Halted
+        } else if self.trace {
+            Case::Trace
+        } else if mask < u16::from(level) {
+            Case::Interrupt(level)
+        } else if self.stopped {
+            Case::Stopped
+        } else {
+            Case::Instruction
+        }
+    }
+
+    /// Whether the next sample at this interrupt level does nothing, and those after it neither.
+    pub fn rests(&self, level: u8) -> bool
+        ensures { (ram : List ℕ) → result ≡ cases.is_rest (cases.case_of (state_of self.now ram) level) }
+    {
+        self.case_at(level).is_rest()
+    }
+
+    /// Does nothing at the next sample and at those below cycle `end` after it; answers how many samples
+    /// that were.
+    pub fn rest_ahead(&mut self, end: u64) -> u64
+        requires start { self.old.start < 2 ^ 50 }
+        requires end { end ≤ 2 ^ 50 }
+        ensures samples { result ≡ 1 + events.steps_to (self.old.start + events.step) end }
+        ensures state { (ram : List ℕ) → state_of self.new ram ≡ events.at_sample (state_of self.old ram)
+            (self.old.start + events.step + events.step * events.steps_to (self.old.start + events.step) end) }
+    {
+        let first = self.start + STEP;
+        let steps = end.saturating_sub(first).div_ceil(STEP);
+        self.rest_at_sample(first + STEP * steps);
+        1 + steps
+    }
+
+    /// Continues from a sample at this interrupt level to the next event.
+    #[tactic(auto, unfolding(crate::specs::Events::begun))]
+    pub fn begin(
+        &mut self,
+        level: u8,
+        cart: &Cart,
+        ram: &mut [u8; 65536],
+        cache: &mut DecodeCache,
+        progress: &mut Progress,
+    )
+        requires start { self.old.start < 2 ^ 50 }
+        requires answers { self.old.answers.items ≡ [] }
+        requires cache { IsCacheOf cart.now cache.old }
+        ensures cache { IsCacheOf cart.now cache.new }
+        ensures state { state_of self.new ram.new ≡ begun cart.now (state_of self.old ram.old) level }
+        ensures quiet { progress.new.writes.items ≡ [] → ram.new ≡ ram.old }
+        ensures waiting { WaitsFor self.new.stage cart.now (state_of self.new ram.new) self.new.request }
+        ensures foreseen { IsForeseen self.new.stage cart.now (state_of self.new ram.new) self.new.foreseen }
+    {
+        match self.case_at(level).cause() {
+            Some(cause) => self.go_on(cause, cart, ram, cache, progress),
+            None => self.wait(),
+        }
+    }
+}
