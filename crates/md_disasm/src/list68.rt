@@ -24,7 +24,7 @@ fn put_next(text: &mut String, first: bool, n: u8) -> Result<(), NoMemory>
     put_register(text, n)
 }
 
-/// Appends a register that is in a list, behind a slash where it is not the first. Tells whether there
+/// Appends a register that is in a list, after a slash where it is not the first. Answers whether there
 /// is still none.
 fn put_if_listed(
     text: &mut String,

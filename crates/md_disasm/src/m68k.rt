@@ -21,7 +21,7 @@ fn put_size(text: &mut String, size: Option<Size>) -> Result<(), NoMemory>
     }
 }
 
-/// Appends an operand behind its mark, where there is one.
+/// Appends an operand after its separator, where there is one.
 fn put_led(text: &mut String, mark: &str, operand: Operand68) -> Result<(), NoMemory>
     ensures { Appends result (string_bytes text.old) (string_bytes text.new) (texts.led mark.now operand) }
 {
@@ -45,7 +45,7 @@ fn put_row(text: &mut String, row: Syntax68) -> Result<(), NoMemory>
     put_led(text, ",", row.second)
 }
 
-/// The text of an instruction of the 68000 that stands at an address, of at most 68 characters.
+/// The text of an instruction of the 68000 at an address, of at most 68 characters.
 ///
 /// Names are those of the M68000 Programmer's Reference Manual, section 4, in lower case, with the
 /// letter of the size where the instruction has several, and the source stands first. A number has a

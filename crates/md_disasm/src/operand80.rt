@@ -42,7 +42,7 @@ pub enum Operand80 {
     ByteAndWord(u8, u16),
 }
 
-/// The register that the prefix stands for.
+/// The register that the prefix selects.
 pub(crate) fn register(index: Index) -> Pair
     ensures { result ≡ operands.register index }
 {

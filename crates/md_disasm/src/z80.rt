@@ -10,7 +10,7 @@ use md_word::NoMemory;
 use std::alloc::Global;
 use z80_decode::Decoded80;
 
-/// Appends an operand behind its mark, where there is one.
+/// Appends an operand after its separator, where there is one.
 fn put_led(text: &mut String, mark: &str, operand: Operand80) -> Result<(), NoMemory>
     ensures { Appends result (string_bytes text.old) (string_bytes text.new) (texts.led mark.now operand) }
 {
@@ -32,7 +32,7 @@ fn put_row(text: &mut String, row: Syntax80) -> Result<(), NoMemory>
     put_led(text, ",", row.second)
 }
 
-/// The text of an instruction of the Z80 that stands at an address, of at most 20 characters.
+/// The text of an instruction of the Z80 at an address, of at most 20 characters.
 ///
 /// Names and registers are those of Zilog UM0080, "Z80 Instruction Description", in lower case. A
 /// number has a dollar sign and all its hexadecimal digits, a displacement is an unsigned byte, and a

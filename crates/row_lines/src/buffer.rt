@@ -11,7 +11,7 @@ pub struct Buffer {
     held: Vec<u8>,
 }
 
-/// Tells `yes` where bytes are the same, and else how they differ.
+/// Answers `yes` where bytes are the same, and else how they differ.
 fn compare(alloc: Global, one: &[u8], other: &[u8], answer: &mut Answer) -> Result<(), RowError> {
     answer.say(compared(alloc, one, other, "yes")?.as_str())
 }
@@ -45,7 +45,7 @@ impl Buffer {
         Ok(self.bytes.extend_from_slice(bytes)?)
     }
 
-    /// Copies bytes behind its own.
+    /// Copies bytes after its own.
     pub fn append(&mut self, bytes: &[u8]) -> Result<(), RowError> {
         Ok(self.bytes.extend_from_slice(bytes)?)
     }
@@ -66,7 +66,7 @@ impl Buffer {
         compare(alloc, &self.bytes, &self.held, answer)
     }
 
-    /// Tells so many bytes from a place on, of those that are there.
+    /// Writes out so many bytes from an offset on, of those that are there.
     fn tell(&self, rest: &str, answer: &mut Answer) -> Result<(), RowError> {
         let [place, count, _, _] = arguments(rest, "dd")?;
         let behind = self.bytes.get(place as usize..).unwrap_or(&[]);
@@ -79,7 +79,7 @@ impl Buffer {
         Ok(())
     }
 
-    /// The cycle of a state, whose bytes are made of what stands behind it, if anything does.
+    /// The cycle of a state, whose bytes are made of what follows it, if anything does.
     pub fn cycle_of(&mut self, alloc: Global, rest: &str) -> Result<u32, RowError> {
         let (cycle, bytes) = rest.split_once(' ').unwrap_or((rest, ""));
         if !bytes.is_empty() {
@@ -95,7 +95,7 @@ impl Buffer {
     }
 
     /// Carries out a line about the bytes: `zeros LENGTH PLACE:BYTES..` makes bytes of 0 but for changes, `hold`
-    /// holds a copy aside; `length` tells how many there are, `bytes PLACE COUNT` some of them, `held` whether they
+    /// holds a copy aside; `length` answers how many there are, `bytes PLACE COUNT` some of them, `held` whether they
     /// are those that are held, and `same LENGTH PLACE:BYTES..` whether they are 0 but for changes.
     pub fn obey(
         &mut self,

@@ -8,7 +8,7 @@ pub fn place_of(text: &str) -> Result<usize, RowError> {
     usize::try_from(number(text)?).map_err(|_| RowError::NoSuchLine)
 }
 
-/// Puts an item behind those of a list.
+/// Appends an item to those of a list.
 pub fn push<T: Drop>(list: &mut Vec<T>, item: T) -> Result<(), AllocError> {
     Ok(list.push(item)?)
 }

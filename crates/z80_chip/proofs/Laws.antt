@@ -141,7 +141,7 @@ begun-ok v pins ok kind =
     let after : State80 = seen v.state pins in
     begun-case (case_of after pins) v.cart after (seen-at v.cart v.state pins (sampling v ok kind)) (runs after pins)
 
--- the end of what is carried out lies behind its accesses
+-- the end of what is carried out is after its accesses
 came-later : (cart : List ℕ) (state : State80) (cause : ℕ) (r : Result Ended Request80) → carried_out cart state cause ≡ r
     → ((ended : Ended) → r ≡ Ok ended → length state.answers ≤ ended.used) → state.start + 60 + 45 * length state.answers ≤ (came_to state cause r).next
 came-later cart state cause (Ok ended) e most =

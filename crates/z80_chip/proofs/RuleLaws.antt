@@ -247,7 +247,7 @@ mode_byte Mode0 = omega arith
 mode_byte Mode1 = omega arith
 mode_byte Mode2 = omega arith
 
--- what began below the cycle, or not behind the next event
+-- what began below the cycle, or not after the next event
 start_long : (stage : Stage) (at : ℕ) (cart : List ℕ) (state : State80) → at < 2 ^ 64 → state.next < 2 ^ 64 → IsAt stage cart state → BeganBelow stage at state.start → state.start < 2 ^ 64
 start_long Sample at cart state h next is below = let same = is.1 in omega (arith, same, next)
 start_long Access at cart state h next is below = omega (arith, h, below)

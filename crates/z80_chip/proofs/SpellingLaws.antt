@@ -53,7 +53,7 @@ whole_bytes at has state =
     ap (λ (l : List ℕ). l ++ spelling (store_fields true state.store)) (same_numbers at 0 has (is_some state.store) (numbers_of state))
     ∙ sym (spelling_append (number_fields 0 (is_some state.store) (numbers_of state)) (store_fields true state.store))
 
--- ---- RAM and bank register as they stand in the bytes
+-- ---- RAM and bank register as they are in the bytes
 
 abbrev there : List ℕ → Store
 there bytes = record { ram = take 0x2000 (drop 62 bytes); bank = number_at w16 8254 bytes }

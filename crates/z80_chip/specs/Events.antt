@@ -30,7 +30,7 @@ step = 45
 abbrev pub held : Option Store → Store
 held store = unwrap_or store (parcels.first)
 
--- what the sample of this cause comes to with the answers so far
+-- what the sample of this cause results in with the answers so far
 abbrev pub carried_out : List ℕ → State80 → ℕ → Result Ended Request80
 carried_out cart state cause =
     sampled cause state.regs (record { rom = cart; ram = (held state.store).ram; bank = (held state.store).bank; answers = state.answers })
@@ -85,7 +85,7 @@ abbrev pub ended_in : Result Ended Request80 → Option Ended
 ended_in (Ok ended) = Some ended
 ended_in (Err request) = None
 
--- what a finish tells, with the registers and what was done then
+-- what a finish reports, with the registers and what was done then
 abbrev pub ended_by : Option Finish80 → Regs80 → Done → Option Ended
 ended_by None regs done = None
 ended_by (Some finish) regs done = Some (record {
@@ -97,7 +97,7 @@ ended_by (Some finish) regs done = Some (record {
   after_ei = finish.after_ei;
 })
 
--- it goes on with what it carries out, as far as the answers go
+-- it continues what it carries out, as far as the answers go
 unfoldable pub went_on : List ℕ → State80 → ℕ → State80
 went_on cart state cause = came_to state cause (carried_out cart state cause)
 
@@ -137,7 +137,7 @@ pub record WentAhead (samples cycle : ℕ) (cart : List ℕ) (pins : Pins80) (be
 abbrev pub moved : State80 → AnswerValue80 → State80
 moved state answer = at_sample (record state { store = store_in answer }) (state.start + 105)
 
--- it goes on with one answer more
+-- it continues with one answer more
 abbrev pub went_on_with : List ℕ → State80 → ℕ → State80
 went_on_with cart state value = went_on cart (record state { answers = state.answers ++ value ∷ [] }) state.cause
 

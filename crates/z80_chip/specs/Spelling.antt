@@ -27,19 +27,19 @@ pub record Spells (cart : List ℕ) (at : ℕ) (bytes : List ℕ) (state : State
 abbrev pub IsLength : List ℕ → Type 0
 IsLength bytes = (length bytes ≡ 62) ⊎ (length bytes ≡ 8256)
 
--- bytes that keep no Z80 are refused at this place: by their length, or by the first rule that fails.
--- Of a wrong length the lesser one is the place, where more than 62 bytes are to be 8,256
+-- bytes that keep no Z80 are refused at this offset: by their length, or by the first rule that fails.
+-- Of a wrong length the lesser one is the offset, where more than 62 bytes are to be 8,256
 abbrev pub GoesWrongAt : List ℕ → ℕ → List ℕ → ℕ → Type 0
 GoesWrongAt cart at bytes place =
     ((length bytes ≢ 62) × (length bytes ≢ 8256) × (place ≡ min (length bytes) 8256)) ⊎ Breaks (chip_fields cart at) bytes place
 
--- RAM and bank register as they stand in the bytes
+-- RAM and bank register as they are in the bytes
 abbrev pub store_at : List ℕ → Option Store
 store_at bytes =
     if length bytes == 62 then None
     else Some (record { ram = take 0x2000 (drop 62 bytes); bank = number_at w16 8254 bytes })
 
--- the numbers that stand in the bytes, whose rules hold, RAM's set aside
+-- the numbers in the bytes, whose rules hold, RAM's set aside
 pub record IsRead (at : ℕ) (bytes : List ℕ) (numbers : Saved80) : Type 0 where
   pub sized : IsLength bytes
   pub stands : (holds : Bool) → Stand 0 (fields_by at holds (record { numbers = numbers; store = store_at bytes })) bytes

@@ -127,7 +127,7 @@ impl Sequencer {
     }
 }
 
-/// What a yield hands over: the parcel, which the Z80 has no longer.
+/// What a yield hands over: the parcel, which the Z80 no longer has.
 fn yield_parcel(parcel: &mut Option<Parcel>) -> Request80
     ensures request { request_value80_of result ≡ events.handing (option_map store_of parcel.old) }
     ensures none { parcel.new ≡ None }
@@ -138,7 +138,7 @@ fn yield_parcel(parcel: &mut Option<Parcel>) -> Request80
     }
 }
 
-/// The value that an answer tells.
+/// The value that an answer has; 0 where it has none.
 fn value_in(answer: &Answer80) -> u8
     ensures { result ≡ requests.value_in (answer_value80_of answer.now) }
 {
@@ -148,7 +148,7 @@ fn value_in(answer: &Answer80) -> u8
     }
 }
 
-/// What an answer gives back.
+/// The parcel that an answer gives back; None where it gives none.
 fn parcel_in(answer: Answer80) -> Option<Parcel>
     ensures { option_map store_of result ≡ requests.store_in (answer_value80_of answer) }
 {

@@ -10,8 +10,8 @@ use std::sync::Arc;
 use z80_exec::{DecodeCache80, Progress80};
 use z80_parcel::first;
 
-/// The Z80, with the cartridge, and with its RAM and bank register where it has them. It stands at
-/// its next event, and what it does without other chips belongs to the event before. Cycles are
+/// The Z80, with the cartridge, and with its RAM and bank register where it has them. It is
+/// always at its next event; what it does without other chips belongs to the event before. Cycles are
 /// master cycles, 15 a clock. Source: Zilog UM0080; the places of events and the bus request are this
 /// project's profile.
 #[derive(Drop)]
@@ -45,8 +45,8 @@ impl Chip80 {
     ghost use Rattle.z80_parcel.specs.Requests.{Fits, request_value80_of, answer_value80_of};
     ghost use Rattle.z80_chip.specs.States.{next_of, power_on};
 
-    /// The Z80 at power-on: its next event is a sample at cycle 0, and all is 0. It has its RAM. It is
-    /// refused where there is no memory for it.
+    /// The Z80 at power-on: its next event is a sample at cycle 0, and all is 0. It has its RAM. It
+    /// fails only where there is no memory for it.
     pub fn power_on(alloc: Global, cart: Arc<Cart>) -> Result<Chip80, NoMemory>
         ensures { IfOk result (λ chip. chip ≡ record { cart = arc_value cart; state = power_on }) }
     {
@@ -78,7 +78,7 @@ impl Chip80 {
     }
 
     /// The request of the access that is the next event: a read or a write, to hand its RAM over, or to
-    /// take it back. What a yield hands over the Z80 has no longer.
+    /// take it back. The Z80 no longer has what a yield hands over.
     pub fn request(&mut self) -> Request80
         requires { (next_of self.old.state).sample ≡ false }
         ensures request { request_value80_of result ≡ asked_of self.old.cart self.old.state }
@@ -88,7 +88,7 @@ impl Chip80 {
             .request(&self.cart, &mut self.parcel, &mut self.progress)
     }
 
-    /// Takes the answer to the access that is the next event, and goes on to the event after it. RAM
+    /// Takes the answer to the access that is the next event, and continues to the event after it. RAM
     /// and the bank register are written once all accesses of an instruction are answered, and not
     /// before. After a yield or a take the Z80 has what the answer gives back.
     pub fn answer(&mut self, answer: Answer80)
@@ -106,7 +106,7 @@ impl Chip80 {
         );
     }
 
-    /// Takes the sample that is the next event, and goes on to the event after it. First it looks at the
+    /// Takes the sample that is the next event, and continues to the event after it. First it looks at the
     /// reset. Then it hands its RAM over where the bus is requested, takes it back where that is
     /// over, does nothing where it has no RAM, is in reset or is halted, takes the interrupt, or
     /// carries out the instruction at the program counter, up to the first shared access if there is

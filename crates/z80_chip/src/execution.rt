@@ -44,7 +44,7 @@ impl Sequencer {
         self.wait(SUB_CLOCK * u64::from(finish.t));
     }
 
-    /// Ends what was carried out as it is foreseen.
+    /// Ends what was carried out as it was predicted.
     pub fn end_foreseen(&mut self)
         requires start { self.old.start < 2 ^ 50 }
         requires t { self.old.behind.end.finish.t ≤ 23 }
@@ -57,8 +57,8 @@ impl Sequencer {
         self.finish(&finish);
     }
 
-    /// Carries out an instruction or an interrupt as far as the answers go: its end, or none where it
-    /// waits for an answer, and then the registers stay.
+    /// Carries out an instruction or an interrupt as far as the answers go: its end. None where it
+    /// waits for an answer; the registers are then as before.
     fn step(
         &mut self,
         cause: u8,
@@ -92,7 +92,7 @@ impl Sequencer {
         }
     }
 
-    /// Goes on with what is carried out, as far as the answers go.
+    /// Continues what is carried out, as far as the answers go.
     #[tactic(auto, unfolding(crate::specs::Events::went_on))]
     fn go_on(
         &mut self,

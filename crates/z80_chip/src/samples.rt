@@ -68,7 +68,7 @@ impl Sequencer {
         }
     }
 
-    /// Goes on from a sample with these pins to the next event.
+    /// Continues from a sample with these pins to the next event.
     #[inline(always)]
     #[tactic(auto, unfolding(crate::specs::Events::begun))]
     pub fn begin(
@@ -110,7 +110,7 @@ impl Sequencer {
         steps
     }
 
-    /// Goes on from a sample with these pins; where the Z80 rests, from the samples below cycle `end`
+    /// Continues from a sample with these pins; where the Z80 rests, from the samples below cycle `end`
     /// after it too. Answers how many samples it took.
     pub fn begin_ahead(
         &mut self,

@@ -19,7 +19,7 @@ pub const FIRST_STEP: u64 = 60;
 /// no RAM.
 pub const STEP: u64 = 45;
 
-/// The registers of the Z80, and where it stands between two of its events.
+/// The registers of the Z80, and its state between two of its events. Cycles are master cycles.
 #[derive(Drop)]
 pub struct Sequencer {
     pub regs: Regs80,
@@ -38,7 +38,7 @@ pub struct Sequencer {
     pub cause: u8,
     /// What its accesses have answered so far.
     pub answers: ArrayVec<u8, 4>,
-    /// What comes behind the answer to the write that waits, where that is known.
+    /// What follows the answer to the write that waits, where it is predicted.
     pub behind: Behind,
 }
 

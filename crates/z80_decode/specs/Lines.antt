@@ -18,7 +18,7 @@ use Rattle.z80_decode.specs.declared.place8.Place8.TheVariants as places
 use Rattle.z80_decode.specs.declared.special.Special.TheVariants.{Interrupt, Refresh}
 use Rattle.z80_decode.specs.Fields.{upper, lower, paired, word, memory_of, register_of, place_of, pair_of, stacked_of, condition_of, bit_of}
 
--- an opcode with what stands around it: the register that HL is, and the two bytes of operands. The
+-- an opcode with its context: the register that HL is, and the two bytes of operands. The
 -- first is the displacement where HL is an index register
 pub record Code : Type 0 where
   pub index : Index

@@ -1,4 +1,4 @@
-/// Where an operand of 8 bits stands: a register, a byte of memory, or the instruction itself.
+/// The place of an operand of 8 bits: a register, a byte of memory, or the instruction itself.
 #[derive(Clone, Copy)]
 pub enum Place8 {
     A,

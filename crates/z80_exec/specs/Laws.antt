@@ -31,13 +31,13 @@ pub record SameBelow (count : ℕ) (one other : Memory) : Type 0 where
   pub enough : count ≤ length other.answers
   pub answers : (k : ℕ) → k < count → slice_index other.answers k ≡ slice_index one.answers k
 
--- where it comes to a value, it comes to the same with any answers in place of those that it did not
+-- where it results in a value, it results in the same with any answers in place of those that it did not
 -- take; and it takes no answer back
 pub record IgnoresLaterAnswers {A : Type 0} (act : Act A) : Type 0 where
   pub value : (one other : Memory) (before : Done) (x : A) (after : Done) → act one before ≡ Ok (x, after) → SameBelow after.used one other → act other before ≡ Ok (x, after)
   pub taken : (memory : Memory) (before : Done) (x : A) (after : Done) → act memory before ≡ Ok (x, after) → before.used ≤ after.used
 
--- each instruction; and a sample that comes to its end comes to the same with any answers in place
+-- each instruction; and a sample that ends results in the same with any answers in place
 -- of those that it did not take
 pub record SamplesIgnoreLaterAnswers : Type 0 where
   pub row : (op : Op80) (regs : Regs80) → IgnoresLaterAnswers (row op regs)
@@ -63,7 +63,7 @@ pub record RefreshRises : Type 0 where
       → (ended.regs.r / 0x80 ≡ regs.r / 0x80) × ((ended.regs.r % 0x80 ≡ (regs.r + 1) % 0x80) ⊎ (ended.regs.r % 0x80 ≡ (regs.r + 2) % 0x80))
   pub interrupt : (cause : ℕ) (regs : Regs80) (memory : Memory) (ended : Ended) → cause ≢ 0 → sampled cause regs memory ≡ Ok ended → ended.regs.r ≡ regs.r
 
--- a word that is pushed where RAM stands below the stack pointer, its high byte first, is popped again,
+-- a word that is pushed where RAM is below the stack pointer, its high byte first, is popped again,
 -- and the registers are as before
 abbrev pub PopsWhatWasPushed : Type 0
 PopsWhatWasPushed = (value : ℕ) (regs : Regs80) (memory : Memory) (before : Done) → value < 2 ^ 16 → regs.sp < 2 ^ 16

@@ -13,7 +13,7 @@ use crate::access::memory::{byte_seen, is_shared_read, is_shared_write, put_byte
 use crate::regs80::{high, low};
 use crate::{Around, Progress80, Waiting};
 
-/// A shared access: takes the next answer, or gives what waits for it.
+/// A shared access: takes the next answer. The error is the access that waits where there is none.
 #[tactic(auto, unfolding(crate::specs::Access::Actions::asked))]
 fn ask(waiting: Waiting, around: &Around, progress: &mut Progress80) -> Result<u8, Waiting>
     ensures value { Meets result (done_of progress.new) (actions.asked (request_of waiting) (memory_of around.now) (done_of progress.old)) }
@@ -28,7 +28,7 @@ fn ask(waiting: Waiting, around: &Around, progress: &mut Progress80) -> Result<u
     }
 }
 
-/// A shared write, whose answer tells nothing.
+/// A shared write, whose answer has no value. The error is the access that waits for it.
 #[tactic(auto, unfolding(crate::specs::Access::Actions::told))]
 fn tell(waiting: Waiting, around: &Around, progress: &mut Progress80) -> Result<(), Waiting>
     ensures value { Meets result (done_of progress.new) (actions.told (request_of waiting) (memory_of around.now) (done_of progress.old)) }

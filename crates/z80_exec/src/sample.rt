@@ -44,7 +44,7 @@ fn fetch(found: &CachedInstruction, regs: &mut Regs80)
     regs.r = risen(regs.r, found.rise);
 }
 
-/// Keeps what an instruction comes to behind the write that waits, where that is known.
+/// Keeps what an instruction results in after the write that waits, where that is known.
 #[inline(never)]
 fn foresee_finish(found: &CachedInstruction, foreseen: &mut Foreseen80)
     requires { found.now.short ≡ times.time_of found.now.decoded.op false }
@@ -63,7 +63,7 @@ fn foresee_finish(found: &CachedInstruction, foreseen: &mut Foreseen80)
     }
 }
 
-/// The clocks of an instruction; of two times the longer where it was taken or goes on.
+/// The clocks of an instruction; of two times the longer where it was taken or continues.
 #[inline(always)]
 fn time_of(found: &CachedInstruction, taken: bool) -> u32
     requires short { found.now.short ≡ times.time_of found.now.decoded.op false }

@@ -5,7 +5,7 @@ ghost use Rattle.z80_parcel.specs.Parcels.{IsStore, store_of};
 use md_word::{NoMemory, Parcel};
 use std::alloc::Global;
 
-/// The first address of the Z80 behind its RAM, which is repeated up to it.
+/// The first address of the Z80 after its RAM, which is repeated up to it.
 pub const RAM_END: u16 = 0x4000;
 
 /// Whether an address of the Z80 is the bank register's.
@@ -24,7 +24,7 @@ pub fn shift(bank: u16, value: u8) -> u16
     bank / 2 + u16::from(value % 2) * 0x100
 }
 
-/// Tells what holds of every parcel: its RAM has 8 KiB, and its bank register nine bits.
+/// Ensures what holds of every parcel: its RAM has 8 KiB, and its bank register nine bits.
 pub fn known(parcel: &Parcel)
     ensures { IsStore (store_of parcel.now) }
 {

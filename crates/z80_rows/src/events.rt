@@ -57,7 +57,7 @@ fn pins_of(text: &str) -> Result<Pins80, RowError> {
     })
 }
 
-/// The event behind a sample, or behind those up to a cycle: its cycle, and whether it is an access.
+/// The event after a sample, or after those up to a cycle: its cycle, and whether it is an access.
 pub fn sample(fixture: &mut Z80, words: &str) -> Result<String, RowError> {
     let (pins, end) = words.split_once(' ').unwrap_or((words, "0"));
     let alloc = fixture.alloc;

@@ -5,18 +5,18 @@ use row_lines::{RowError, byte, word};
 use std::alloc::{AllocError, Global};
 use z80_parcel::{RAM_END, first, store_byte};
 
-/// What stands before a sample.
+/// What is set up before a sample.
 #[derive(Drop)]
 pub struct Setting {
     pub parcel: Parcel,
     pub values: Values,
     /// 0 for an instruction, 1 for an interrupt.
     pub cause: u8,
-    /// Where the next byte of the instruction stands.
+    /// The address of the next byte of the instruction.
     pub next: u16,
 }
 
-/// The bytes of a cartridge whose byte k is the low byte of k + k / 100h, but for its mark at 100h.
+/// The bytes of a cartridge whose byte k is the low byte of k + k / 100h, but for its magic at 100h.
 fn image(alloc: Global) -> Result<Vec<u8>, AllocError> {
     let mut image = Vec::new(alloc);
     for k in 0..0x8200u32 {

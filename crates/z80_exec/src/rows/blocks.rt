@@ -27,7 +27,7 @@ pub fn repeats(block: Block) -> bool
     matches!(block, Block::IncrementRepeat | Block::DecrementRepeat)
 }
 
-/// Has an instruction that goes on be carried out again.
+/// Has an instruction that continues be carried out again.
 #[tactic(auto, unfolding(crate::specs::Rows::Blocks::going_on))]
 pub fn go_on(again: bool, regs: &mut Regs80) -> bool
     ensures { outcome_of result regs.new ≡ blocks.going_on again regs.old }

@@ -13,7 +13,7 @@ use crate::{Around, Foreseen80, Progress80, Regs80, Waiting};
 use z80_alu::special_loaded;
 use z80_decode::{Index, Pair, Place8, Special};
 
-/// Writes a byte. Where the write waits, and takes the next answer, the registers behind it are foreseen:
+/// Writes a byte. Where the write waits, and takes the next answer, the registers after it are predicted:
 /// those given.
 #[inline(always)]
 #[tactic(auto, using(crate::proofs::Foresight::nothing_waits))]
@@ -43,7 +43,7 @@ fn write_last(
     }
 }
 
-/// Puts a byte in its place. Where the write waits, the registers behind it are foreseen.
+/// Puts a byte in its place. Where the write waits, the registers after it are predicted.
 #[inline(always)]
 #[tactic(auto, using(crate::proofs::Foresight::nothing_waits), unfolding(crate::specs::Access::Operands::put, crate::specs::Access::Operands::put_memory))]
 fn put_last(

@@ -9,10 +9,10 @@ use crate::rows::control::disable;
 use crate::{Around, Progress80, Regs80, Waiting};
 use z80_decode::InterruptMode;
 
-/// Where an interrupt goes on in modes 0 and 1: the byte on the bus is FFh, which is RST 38h.
+/// Where an interrupt continues in modes 0 and 1: the byte on the bus is FFh, which is RST 38h.
 const RESTART: u16 = 0x38;
 
-/// Where an interrupt goes on, by its mode.
+/// Where an interrupt continues, by its mode. The error is the shared read that waits, of mode 2.
 #[tactic(auto, unfolding(crate::specs::Sample::Entries::target_of))]
 fn target_of(
     mode: InterruptMode,

@@ -140,7 +140,7 @@ pub fn interrupt_time(mode: InterruptMode) -> u32
     }
 }
 
-/// The clocks of an instruction; of two times the longer where it was taken or goes on.
+/// The clocks of an instruction; of two times the longer where it was taken or continues.
 #[inline(always)]
 pub fn time_of(op: Op80, taken: bool) -> u32
     ensures { result ≡ times.time_of op taken }
