@@ -39,13 +39,13 @@ impl Buffer {
         self.bytes = bytes;
     }
 
-    /// Copies bytes in place of its own.
+    /// Copies bytes in place of its own. It fails where there is no memory for it.
     pub fn copy(&mut self, bytes: &[u8]) -> Result<(), RowError> {
         self.bytes.clear();
         Ok(self.bytes.extend_from_slice(bytes)?)
     }
 
-    /// Copies bytes after its own.
+    /// Copies bytes after its own. It fails where there is no memory for it.
     pub fn append(&mut self, bytes: &[u8]) -> Result<(), RowError> {
         Ok(self.bytes.extend_from_slice(bytes)?)
     }
@@ -80,6 +80,7 @@ impl Buffer {
     }
 
     /// The cycle of a state, whose bytes are made of what follows it, if anything does.
+    /// `NoSuchLine` where the text is none.
     pub fn cycle_of(&mut self, alloc: Global, rest: &str) -> Result<u32, RowError> {
         let (cycle, bytes) = rest.split_once(' ').unwrap_or((rest, ""));
         if !bytes.is_empty() {
@@ -97,6 +98,7 @@ impl Buffer {
     /// Carries out a line about the bytes: `zeros LENGTH PLACE:BYTES..` makes bytes of 0 but for changes, `hold`
     /// holds a copy aside; `length` answers how many there are, `bytes PLACE COUNT` some of them, `held` whether they
     /// are those that are held, and `same LENGTH PLACE:BYTES..` whether they are 0 but for changes.
+    /// `NoSuchLine` for another line.
     pub fn obey(
         &mut self,
         alloc: Global,

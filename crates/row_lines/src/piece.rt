@@ -29,7 +29,7 @@ fn put_piece(alloc: Global, into: &mut [u8], piece: &str) -> Result<(), RowError
 }
 
 /// The bytes `LENGTH PLACE:BYTES ..`, or with `N*BYTES` for a piece: so many, of 0 where no piece is; a later piece
-/// overwrites an earlier one.
+/// overwrites an earlier one. `NoSuchLine` where the text is none, or the length is above 16 MiB.
 pub fn pieces(alloc: Global, text: &str) -> Result<Vec<u8>, RowError> {
     let (length, places) = text.split_once(' ').unwrap_or((text, ""));
     let length = number(length)?;
@@ -44,6 +44,7 @@ pub fn pieces(alloc: Global, text: &str) -> Result<Vec<u8>, RowError> {
 }
 
 /// The first place at which bytes differ from those that are wanted, or their lengths; `told` where they do not.
+/// It fails where there is no memory for the text.
 pub fn compared(alloc: Global, came: &[u8], wanted: &[u8], told: &str) -> Result<String, RowError> {
     let mut place = 0u64;
     for (one, other) in came.iter().zip(wanted.iter()) {

@@ -38,7 +38,7 @@ fn tell(waiting: Waiting, around: &Around, progress: &mut Progress80) -> Result<
     Ok(())
 }
 
-/// Reads the byte at an address.
+/// Reads the byte at an address. The error is the access that waits for its answer.
 #[tactic(auto, unfolding(crate::specs::Access::Actions::read))]
 pub fn read(at: u16, around: &Around, progress: &mut Progress80) -> Result<u8, Waiting>
     ensures value { Meets result (done_of progress.new) (actions.read at (memory_of around.now) (done_of progress.old)) }
@@ -51,7 +51,7 @@ pub fn read(at: u16, around: &Around, progress: &mut Progress80) -> Result<u8, W
     }
 }
 
-/// Writes the byte at an address.
+/// Writes the byte at an address. The error is the access that waits for its answer.
 #[tactic(auto, unfolding(crate::specs::Access::Actions::write))]
 pub fn write(at: u16, value: u8, around: &Around, progress: &mut Progress80) -> Result<(), Waiting>
     requires { array_vec_len progress.old.writes + 1 ≤ 4 }
@@ -66,6 +66,7 @@ pub fn write(at: u16, value: u8, around: &Around, progress: &mut Progress80) -> 
 }
 
 /// Reads the word at an address, its low byte first.
+/// The error is the access that waits for its answer.
 #[tactic(auto, unfolding(crate::specs::Access::Actions::read_word))]
 pub fn read_word(at: u16, around: &Around, progress: &mut Progress80) -> Result<u16, Waiting>
     ensures value { Meets result (done_of progress.new) (actions.read_word at (memory_of around.now) (done_of progress.old)) }
@@ -77,6 +78,7 @@ pub fn read_word(at: u16, around: &Around, progress: &mut Progress80) -> Result<
 }
 
 /// Writes the word at an address, its low byte first.
+/// The error is the access that waits for its answer.
 #[tactic(auto, unfolding(crate::specs::Access::Actions::write_word))]
 pub fn write_word(
     at: u16,

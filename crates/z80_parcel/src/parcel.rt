@@ -61,7 +61,7 @@ pub fn store_bytes(writes: &[(u16, u8)], parcel: &mut Parcel)
     }
 }
 
-/// The RAM at power-on.
+/// The RAM at power-on. It fails where there is no memory for it.
 fn zeroed(alloc: Global) -> Result<Box<[u8; 8192]>, NoMemory>
     ensures { IfOk result (λ ram. ram.value ≡ replicate 0x2000 0) }
 {
@@ -72,6 +72,7 @@ fn zeroed(alloc: Global) -> Result<Box<[u8; 8192]>, NoMemory>
 }
 
 /// The RAM and the bank register at power-on, whose bytes and bits are 0.
+/// It fails where there is no memory for it.
 pub fn first(alloc: Global) -> Result<Parcel, NoMemory>
     ensures ram { IfOk result (λ parcel. parcel.ram.value ≡ replicate 0x2000 0) }
     ensures bank { IfOk result (λ parcel. parcel.bank ≡ 0) }

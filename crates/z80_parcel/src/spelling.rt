@@ -34,6 +34,7 @@ pub fn put_store(parcel: &Option<Parcel>, into: &mut Vec<u8>)
 }
 
 /// A parcel of this RAM, which is copied, and this bank register, as a saved state keeps them.
+/// It fails where there is no memory for it.
 pub fn parcel_of(alloc: Global, ram: &[u8], bank: u16) -> Result<Parcel, NoMemory>
     requires length { length ram.now ≡ 0x2000 }
     requires nine { bank < 512 }

@@ -28,6 +28,7 @@ fn write_of(text: &str) -> Result<(u16, u8), RowError> {
 }
 
 /// RAM and the bank register after writes, each by itself, which follow what is set up.
+/// `NoSuchLine` where a word is none.
 pub fn store(alloc: Global, words: &str) -> Result<String, RowError> {
     let (before, words) = words.split_once(' ').ok_or(RowError::NoSuchLine)?;
     let mut parcel = Setting::read(alloc, before)?.parcel;
@@ -39,7 +40,7 @@ pub fn store(alloc: Global, words: &str) -> Result<String, RowError> {
     Ok(tell_memory(alloc, &parcel)?)
 }
 
-/// The registers that a reset changes.
+/// The registers that a reset changes; `NoSuchLine` where a word is none.
 pub fn reset(alloc: Global, words: &str) -> Result<String, RowError> {
     let setting = Setting::read(alloc, words)?;
     let mut regs = registers_of(&setting.values);
@@ -50,6 +51,7 @@ pub fn reset(alloc: Global, words: &str) -> Result<String, RowError> {
 }
 
 /// The byte that IN loads into a register and the flags after it, of the byte and the flags before it.
+/// `NoSuchLine` where a word is none.
 pub fn input(alloc: Global, words: &str) -> Result<String, RowError> {
     let (value, flags) = words.split_once(' ').ok_or(RowError::NoSuchLine)?;
     let out = compute(Task80::In, 0xaa, byte(value)?, byte(flags)?);

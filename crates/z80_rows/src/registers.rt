@@ -21,7 +21,7 @@ pub const USUAL: Values = [
     0, 0, 0,
 ];
 
-/// Sets the register of this name.
+/// Sets the register of this name; `NoSuchLine` where none has it.
 pub fn set(values: &mut Values, name: &str, value: u16) -> Result<(), RowError> {
     for place in 0..16 {
         if NAMES[place] == name {
@@ -98,7 +98,7 @@ fn tell_one(text: &mut String, place: usize, value: u16) -> Result<(), AllocErro
     }
 }
 
-/// Writes out the registers that are not as is usual.
+/// Writes out the registers that are not as is usual. It fails where there is no memory for it.
 pub fn tell(text: &mut String, values: &Values, usual: &Values) -> Result<(), AllocError> {
     for place in 0..16 {
         if values[place] != usual[place] {

@@ -67,6 +67,7 @@ fn tell_finish(
 }
 
 /// What a sample results in, which runs with no answer, one, and so on, where its shared reads answer as is wanted.
+/// `NoSuchName` where it has not ended after five answers.
 pub fn sample(
     alloc: Global,
     cart: &Cart,

@@ -31,7 +31,7 @@ fn image(alloc: Global) -> Result<Vec<u8>, AllocError> {
     Ok(image)
 }
 
-/// That cartridge.
+/// That cartridge. It fails where there is no memory for it.
 pub fn cartridge(alloc: Global) -> Result<Cart, RowError> {
     let image = image(alloc)?;
     Cart::accept(alloc, image).map_err(|_| RowError::Memory)
@@ -39,7 +39,7 @@ pub fn cartridge(alloc: Global) -> Result<Cart, RowError> {
 
 impl Setting {
     /// What words say: bytes of an instruction, registers, bytes of RAM `@1000=58`, the bank register `BANK=` and
-    /// the cause `CAUSE=`.
+    /// the cause `CAUSE=`. `NoSuchLine` where a word is none, or a register does not fit.
     pub fn read(alloc: Global, words: &str) -> Result<Setting, RowError> {
         let parcel = first(alloc).map_err(|_| RowError::Memory)?;
         let mut setting = Setting {

@@ -28,7 +28,7 @@ fn target_of(
     }
 }
 
-/// Begins an interrupt.
+/// Begins an interrupt. The error is the access that waits for its answer.
 #[tactic(auto, unfolding(crate::specs::Sample::Entries::enter))]
 pub fn enter(around: &Around, regs: &mut Regs80, progress: &mut Progress80) -> Result<(), Waiting>
     requires { array_vec_len progress.old.writes + 2 ≤ 4 }
