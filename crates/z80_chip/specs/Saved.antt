@@ -11,7 +11,7 @@ use Rattle.z80_decode.specs.declared.interrupt_mode.InterruptMode.{InterruptMode
 use Rattle.z80_decode.specs.declared.interrupt_mode.InterruptMode.TheVariants.{Mode0, Mode1, Mode2}
 use Rattle.z80_exec.specs.declared.regs80.Regs80.{Regs80}
 use Rattle.z80_exec.specs.Sample.Samples.{Ended}
-use Rattle.z80_parcel.specs.Parcels.{Store}
+use Rattle.z80_parcel.specs.Parcels.{Store, banks}
 use Rattle.z80_parcel.specs.Spelling.{store_fields}
 use Rattle.z80_chip.specs.Events.{carried_out, first_step, step}
 use Rattle.z80_chip.specs.States.{State80}
@@ -182,7 +182,7 @@ is_waiting cart state =
 -- the Z80 has a bank register, of nine bits
 abbrev pub is_bank_right : Option Store → Bool
 is_bank_right None = false
-is_bank_right (Some store) = nat_lt store.bank 512
+is_bank_right (Some store) = nat_lt store.bank banks
 
 -- at an access, over a bank register of nine bits
 abbrev pub asks_more : List ℕ → Kept80 → Bool

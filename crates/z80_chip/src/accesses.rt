@@ -1,6 +1,7 @@
 //! The accesses of the Z80: what each asks for, and what its answer leads to.
-ghost use Rattle.std.specs.Prelude.{◌≡◌, ◌+◌, ◌*◌, ◌^◌, ◌<◌, ◌≤◌, ℕ, List, [], length, IfSome, IsSome, true, Option, Some, None, option_map, is_some};
+ghost use Rattle.std.specs.Prelude.{◌≡◌, ◌+◌, ◌*◌, ◌<◌, ◌≤◌, ℕ, List, [], length, IfSome, IsSome, true, Option, Some, None, option_map, is_some};
 ghost use Rattle.arrayvec.specs.ArrayVec.{array_vec_len};
+ghost use Rattle.md_word.specs.Clock.{cycle_limit};
 ghost use Rattle.md_word.specs.declared.sub_bus.Parcel.{Parcel as Held};
 ghost use Rattle.z80_chip.specs.Events as events;
 ghost use Rattle.z80_chip.specs.Events.{answered, asked_of, carried_out, handed, went_on};
@@ -18,7 +19,7 @@ use rom_header::Cart;
 use z80_exec::{DecodeCache80, Progress80, Step80, go};
 
 /// The master cycles from the sample that saw the request change to the sample after it.
-const MOVE: u64 = 105;
+const MOVE_STEP: u64 = 105;
 
 impl Sequencer {
     /// The request of the access that is the next event. A yield hands over the RAM.
@@ -84,7 +85,7 @@ impl Sequencer {
         cache: &mut DecodeCache80,
         progress: &mut Progress80,
     )
-        requires start { self.old.start < 2 ^ 50 }
+        requires start { self.old.start < cycle_limit }
         requires few { array_vec_len self.old.answers < 4 }
         requires ram { events.HasRam self.old.stage (state_of self.old parcel.old) }
         requires foreseen { IsForeseen self.old.stage cart.now (state_of self.old parcel.old) self.old.behind }
@@ -96,7 +97,7 @@ impl Sequencer {
             Stage::Access => self.take_value(value_in(&answer), cart, parcel, cache, progress),
             Stage::Yield | Stage::Take => {
                 *parcel = parcel_in(answer);
-                self.wait(MOVE);
+                self.wait(MOVE_STEP);
             }
         }
     }
@@ -110,7 +111,7 @@ impl Sequencer {
         cache: &mut DecodeCache80,
         progress: &mut Progress80,
     )
-        requires start { self.old.start < 2 ^ 50 }
+        requires start { self.old.start < cycle_limit }
         requires few { array_vec_len self.old.answers < 4 }
         requires ram { IsSome parcel.old }
         requires foretells { Foretells self.old.behind cart.now (state_of self.old parcel.old) self.old.cause }

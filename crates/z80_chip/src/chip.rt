@@ -1,4 +1,5 @@
-ghost use Rattle.std.specs.Prelude.{◌≡◌, ◌+◌, ◌^◌, ◌<◌, ◌≤◌, ◌↔◌, true, false, IfOk, IsTrue};
+ghost use Rattle.std.specs.Prelude.{◌≡◌, ◌+◌, ◌<◌, ◌≤◌, ◌↔◌, true, false, IfOk, IsTrue};
+ghost use Rattle.md_word.specs.Clock.{cycle_limit};
 
 use crate::sequencer::Sequencer;
 use crate::stage::Stage;
@@ -93,7 +94,7 @@ impl Chip80 {
     /// before. After a yield or a take the Z80 has what the answer gives back.
     pub fn answer(&mut self, answer: Answer80)
         requires asking { (next_of self.old.state).sample ≡ false }
-        requires far { self.old.state.next < 2 ^ 50 }
+        requires far { self.old.state.next < cycle_limit }
         requires fits { Fits (asked_of self.old.cart self.old.state) (answer_value80_of answer) }
         ensures { self.new ≡ record self.old { state = answered self.old.cart self.old.state (answer_value80_of answer) } }
     {
@@ -113,7 +114,7 @@ impl Chip80 {
     /// one.
     pub fn sample(&mut self, pins: Pins80)
         requires sampling { (next_of self.old.state).sample ≡ true }
-        requires far { self.old.state.next < 2 ^ 50 }
+        requires far { self.old.state.next < cycle_limit }
         ensures { self.new ≡ record self.old { state = begun self.old.cart self.old.state pins } }
     {
         self.sequencer.begin(
@@ -129,8 +130,8 @@ impl Chip80 {
     /// below cycle `end`, up to the first access; answers how many that were.
     pub fn sample_ahead(&mut self, pins: &Pins80, end: u64) -> u64
         requires sampling { (next_of self.old.state).sample ≡ true }
-        requires far { self.old.state.next < 2 ^ 50 }
-        requires end { end ≤ 2 ^ 50 }
+        requires far { self.old.state.next < cycle_limit }
+        requires end { end ≤ cycle_limit }
         ensures state { WentAhead result end self.old.cart pins.now self.old.state self.new.state }
         ensures all { is_rest (case_of self.old.state pins.now) ≡ true → end ≤ self.new.state.next }
         ensures cart { self.new.cart ≡ self.old.cart }
@@ -147,10 +148,10 @@ impl Chip80 {
     /// pins below cycle `end` too; answers how many that were.
     fn rest_ahead(&mut self, pins: &Pins80, end: u64) -> u64
         requires sampling { (next_of self.old.state).sample ≡ true }
-        requires far { self.old.state.next < 2 ^ 50 }
-        requires end { end ≤ 2 ^ 50 }
+        requires far { self.old.state.next < cycle_limit }
+        requires end { end ≤ cycle_limit }
         ensures state { WentAhead result end self.old.cart pins.now self.old.state self.new.state }
-        ensures few { result ≤ 2 ^ 50 + 1 }
+        ensures few { result ≤ cycle_limit + 1 }
         ensures all { is_rest (case_of self.old.state pins.now) ≡ true → end ≤ self.new.state.next }
         ensures cart { self.new.cart ≡ self.old.cart }
     {

@@ -1,5 +1,6 @@
 //! What the Z80 carries out: an instruction or an interrupt, up to its end or to an access.
-ghost use Rattle.std.specs.Prelude.{◌≡◌, ◌+◌, ◌*◌, ◌^◌, ◌<◌, ◌≤◌, ℕ, List, [], length, IfSome, IsSome, true, Option, Some, None, option_map, is_some};
+ghost use Rattle.std.specs.Prelude.{◌≡◌, ◌+◌, ◌*◌, ◌<◌, ◌≤◌, ℕ, List, [], length, IfSome, IsSome, true, Option, Some, None, option_map, is_some};
+ghost use Rattle.md_word.specs.Clock.{cycle_limit};
 ghost use Rattle.md_word.specs.declared.sub_bus.Parcel.{Parcel as Held};
 ghost use Rattle.z80_chip.specs.Events as events;
 ghost use Rattle.z80_chip.specs.Events.{carried_out, went_on};
@@ -20,7 +21,7 @@ use z80_parcel::store_bytes;
 impl Sequencer {
     /// Goes to the access that waits for the next answer.
     fn ask(&mut self, cause: u8)
-        requires { self.old.start < 2 ^ 50 }
+        requires { self.old.start < cycle_limit }
         ensures state { (parcel : Option Held) → state_of self.new parcel ≡ events.asking (state_of self.old parcel) cause }
         ensures behind { self.new.behind ≡ self.old.behind }
     {
@@ -32,7 +33,7 @@ impl Sequencer {
     /// Ends what was carried out, from the registers that it left; what it wrote into RAM and the
     /// bank register is stored elsewhere.
     fn finish(&mut self, finish: &Finish80)
-        requires start { self.old.start < 2 ^ 50 }
+        requires start { self.old.start < cycle_limit }
         requires t { finish.now.t ≤ 23 }
         ensures state { (parcel : Option Held) → state_of self.new parcel ≡ events.ended_at (state_of self.old parcel) finish.now }
         ensures stage { self.new.stage ≡ stages.Sample }
@@ -46,7 +47,7 @@ impl Sequencer {
 
     /// Ends what was carried out as it was predicted.
     pub fn end_foreseen(&mut self)
-        requires start { self.old.start < 2 ^ 50 }
+        requires start { self.old.start < cycle_limit }
         requires t { self.old.behind.end.finish.t ≤ 23 }
         ensures state { (parcel : Option Held) → state_of self.new parcel
             ≡ events.ended_at (record (state_of self.old parcel) { regs = self.old.behind.end.regs }) self.old.behind.end.finish }
@@ -102,7 +103,7 @@ impl Sequencer {
         cache: &mut DecodeCache80,
         progress: &mut Progress80,
     )
-        requires { self.old.start < 2 ^ 50 }
+        requires { self.old.start < cycle_limit }
         ensures state { state_of self.new (Some parcel.new) ≡ went_on cart.now (state_of self.old (Some parcel.old)) cause }
         ensures foreseen { IsForeseen self.new.stage cart.now (state_of self.new (Some parcel.new)) self.new.behind }
     {
@@ -125,7 +126,7 @@ impl Sequencer {
         cache: &mut DecodeCache80,
         progress: &mut Progress80,
     )
-        requires start { self.old.start < 2 ^ 50 }
+        requires start { self.old.start < cycle_limit }
         requires ram { IsSome parcel.old }
         ensures state { state_of self.new parcel.new ≡ went_on cart.now (state_of self.old parcel.old) cause }
         ensures foreseen { IsForeseen self.new.stage cart.now (state_of self.new parcel.new) self.new.behind }

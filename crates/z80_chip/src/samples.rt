@@ -1,5 +1,6 @@
 //! A sample of the pins: what the Z80 finds there, and the event that follows.
 ghost use Rattle.std.specs.Prelude.{◌≡◌, ◌+◌, ◌*◌, ◌^◌, ◌<◌, ◌≤◌, ℕ, List, [], IfSome, IsSome, true, Option, Some, None, is_some};
+ghost use Rattle.md_word.specs.Clock.{cycle_limit};
 ghost use Rattle.md_word.specs.declared.sub_bus.Parcel.{Parcel as Held};
 ghost use Rattle.z80_chip.specs.Cases as cases;
 ghost use Rattle.z80_chip.specs.Events as events;
@@ -79,7 +80,7 @@ impl Sequencer {
         cache: &mut DecodeCache80,
         progress: &mut Progress80,
     )
-        requires start { self.old.start < 2 ^ 50 }
+        requires start { self.old.start < cycle_limit }
         requires answers { self.old.answers.items ≡ [] }
         ensures state { state_of self.new parcel.new ≡ begun cart.now (state_of self.old parcel.old) pins.now }
         ensures foreseen { IsForeseen self.new.stage cart.now (state_of self.new parcel.new) self.new.behind }
@@ -97,10 +98,10 @@ impl Sequencer {
 
     /// Rests on, to the first sample at cycle `end` or later; answers how many samples it passes over.
     fn rest_to(&mut self, end: u64) -> u64
-        requires start { self.old.start < 2 ^ 50 + 2 ^ 6 }
-        requires end { end ≤ 2 ^ 50 }
+        requires start { self.old.start < cycle_limit + 2 ^ 6 }
+        requires end { end ≤ cycle_limit }
         ensures steps { result ≡ events.steps_to self.old.start end }
-        ensures few { result ≤ 2 ^ 50 }
+        ensures few { result ≤ cycle_limit }
         ensures stage { self.new.stage ≡ stages.Sample }
         ensures state { (parcel : Option Held) → state_of self.new parcel
             ≡ events.waited (state_of self.old parcel) (events.step * events.steps_to self.old.start end) }
@@ -121,12 +122,12 @@ impl Sequencer {
         cache: &mut DecodeCache80,
         progress: &mut Progress80,
     ) -> u64
-        requires start { self.old.start < 2 ^ 50 }
-        requires end { end ≤ 2 ^ 50 }
+        requires start { self.old.start < cycle_limit }
+        requires end { end ≤ cycle_limit }
         requires answers { self.old.answers.items ≡ [] }
         ensures state { WentAhead result end cart.now pins.now (state_of self.old parcel.old) (state_of self.new parcel.new) }
         ensures foreseen { IsForeseen self.new.stage cart.now (state_of self.new parcel.new) self.new.behind }
-        ensures few { result ≤ 2 ^ 50 + 1 }
+        ensures few { result ≤ cycle_limit + 1 }
         ensures all { cases.is_rest (cases.case_of (state_of self.old parcel.old) pins.now) ≡ true → end ≤ self.new.next }
     {
         let rests = self.case_at(pins, parcel).is_rest();

@@ -1,4 +1,5 @@
 ghost use Rattle.std.specs.Prelude.{◌≡◌, ◌+◌, ◌^◌, ◌<◌, Option, option_map, []};
+ghost use Rattle.md_word.specs.Clock.{cycle_limit};
 ghost use Rattle.md_word.specs.declared.sub_bus.Parcel.{Parcel as Held};
 ghost use Rattle.z80_chip.specs.Events as events;
 ghost use Rattle.z80_chip.specs.declared.stage.Stage.TheVariants as stages;
@@ -8,6 +9,7 @@ ghost use Rattle.z80_parcel.specs.Parcels.{Store, store_of};
 use crate::behind::Behind;
 use crate::stage::Stage;
 use arrayvec::ArrayVec;
+use md_word::clock::SUB_GAP;
 use z80_decode::InterruptMode;
 use z80_exec::Regs80;
 
@@ -17,7 +19,7 @@ pub const FIRST_STEP: u64 = 60;
 
 /// The master cycles from one access to the next, and for which a Z80 waits that is in reset or has
 /// no RAM.
-pub const STEP: u64 = 45;
+pub const STEP: u64 = SUB_GAP;
 
 /// The registers of the Z80, and its state between two of its events. Cycles are master cycles.
 #[derive(Drop)]
@@ -94,7 +96,7 @@ impl Sequencer {
 
     /// Goes to a yield or a take.
     pub fn go_to(&mut self, stage: Stage)
-        requires { self.old.start < 2 ^ 50 }
+        requires { self.old.start < cycle_limit }
         ensures state { (parcel : Option Held) → state_of self.new parcel ≡ events.moving (state_of self.old parcel) stage }
         ensures stage { self.new.stage ≡ stage }
     {

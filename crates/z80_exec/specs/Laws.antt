@@ -9,6 +9,7 @@ use Rattle.z80_decode.specs.declared.interrupt_mode.InterruptMode.TheVariants.{M
 use Rattle.z80_decode.specs.declared.op80.Op80.TheVariants as ops
 use Rattle.z80_decode.specs.declared.op80.Op80.{Op80}
 use Rattle.z80_decode.specs.declared.special.Special.TheVariants.{Refresh}
+use Rattle.z80_parcel.specs.Parcels.{ram_size}
 use Rattle.z80_exec.specs.Access.Actions.{Act, Done, ◌>>=◌}
 use Rattle.z80_exec.specs.Access.Conditions.{holds}
 use Rattle.z80_exec.specs.Access.Memory.{Memory, instruction_bytes, is_ram}
@@ -67,7 +68,7 @@ pub record RefreshRises : Type 0 where
 -- and the registers are as before
 abbrev pub PopsWhatWasPushed : Type 0
 PopsWhatWasPushed = (value : ℕ) (regs : Regs80) (memory : Memory) (before : Done) → value < 2 ^ 16 → regs.sp < 2 ^ 16
-    → IsTrue (is_ram (down regs.sp)) → IsTrue (is_ram (down (down regs.sp))) → length memory.ram ≡ 0x2000
+    → IsTrue (is_ram (down regs.sp)) → IsTrue (is_ram (down (down regs.sp))) → length memory.ram ≡ ram_size
     → (push value regs >>= pop) memory before
     ≡ Ok (record { value = value; regs = regs }, record before { writes = (before.writes ++ (down regs.sp, high value) ∷ []) ++ (down (down regs.sp), low value) ∷ [] })
 
@@ -75,11 +76,11 @@ PopsWhatWasPushed = (value : ℕ) (regs : Regs80) (memory : Memory) (before : Do
 -- before the call, and to those before the interrupt with interrupts disabled. In RAM
 pub record ReturnsToTheCaller : Type 0 where
   pub call : (target : ℕ) (regs : Regs80) (memory : Memory) (before : Done) → regs.pc < 2 ^ 16 → regs.sp < 2 ^ 16
-      → IsTrue (is_ram (down regs.sp)) → IsTrue (is_ram (down (down regs.sp))) → length memory.ram ≡ 0x2000
+      → IsTrue (is_ram (down regs.sp)) → IsTrue (is_ram (down (down regs.sp))) → length memory.ram ≡ ram_size
       → (call target regs >>= (λ outcome. return_from outcome.regs)) memory before
       ≡ Ok (taken regs, record before { writes = (before.writes ++ (down regs.sp, high regs.pc) ∷ []) ++ (down (down regs.sp), low regs.pc) ∷ [] })
   pub interrupt : (regs : Regs80) (memory : Memory) (before : Done) → (regs.mode ≡ Mode0) ⊎ (regs.mode ≡ Mode1) → regs.pc < 2 ^ 16 → regs.sp < 2 ^ 16
-      → IsTrue (is_ram (down regs.sp)) → IsTrue (is_ram (down (down regs.sp))) → length memory.ram ≡ 0x2000
+      → IsTrue (is_ram (down regs.sp)) → IsTrue (is_ram (down (down regs.sp))) → length memory.ram ≡ ram_size
       → (enter regs >>= return_from) memory before
       ≡ Ok (taken (disabled regs), record before { writes = (before.writes ++ (down regs.sp, high regs.pc) ∷ []) ++ (down (down regs.sp), low regs.pc) ∷ [] })
 
