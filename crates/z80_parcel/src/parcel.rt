@@ -5,10 +5,12 @@ ghost use Rattle.z80_parcel.specs.Parcels.{IsStore, store_of};
 use md_word::{NoMemory, Parcel};
 use std::alloc::Global;
 
-/// The first address of the Z80 after its RAM, which is repeated up to it.
+/// The first address of the Z80 after its RAM, which is repeated up to it. Source: Genesis Technical
+/// Overview, the memory map of the Z80; the repeats are this project's profile.
 pub const RAM_END: u16 = 0x4000;
 
-/// Whether an address of the Z80 is the bank register's.
+/// Whether an address of the Z80 is the bank register's. Source: Genesis Technical Overview, the
+/// memory map of the Z80.
 pub fn is_bank(at: u16) -> bool
     ensures { result ≡ parcels.is_bank at }
 {
