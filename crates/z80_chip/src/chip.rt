@@ -107,11 +107,10 @@ impl Chip80 {
         );
     }
 
-    /// Takes the sample that is the next event, and continues to the event after it. First it looks at the
-    /// reset. Then it hands its RAM over where the bus is requested, takes it back where that is
-    /// over, does nothing where it has no RAM, is in reset or is halted, takes the interrupt, or
-    /// carries out the instruction at the program counter, up to the first shared access if there is
-    /// one.
+    /// Takes the sample that is the next event, and continues to the event after it. First it looks at
+    /// the reset. Then it hands its RAM over where the bus is requested, or takes it back where that is
+    /// over. It does nothing where it has no RAM, is in reset or is halted. Else it takes the interrupt
+    /// or carries out the instruction at the program counter, up to the first shared access if any.
     pub fn sample(&mut self, pins: Pins80)
         requires sampling { (next_of self.old.state).sample ≡ true }
         requires far { self.old.state.next < cycle_limit }
