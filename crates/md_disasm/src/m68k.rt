@@ -49,7 +49,7 @@ fn put_row(text: &mut String, row: Syntax68) -> Result<(), NoMemory>
 /// The text of an instruction of the 68000 at an address, of at most 68 characters.
 ///
 /// Names are those of the M68000 Programmer's Reference Manual, section 4, in lower case, with the
-/// letter of the size where the instruction has several, and the source stands first. A number has a
+/// letter of the size where the instruction has several, and the source is first. A number has a
 /// dollar sign and all its hexadecimal digits, a displacement is an unsigned number, and a branch
 /// shows the address that it goes to. What is no instruction is `dc.w` with its first word. It
 /// fails only where there is no memory for the text.

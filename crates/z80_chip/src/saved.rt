@@ -85,7 +85,7 @@ impl Saved80 {
         }
     }
 
-    /// The numbers in the bytes, little-endian.
+    /// The numbers in the bytes, big-endian.
     #[tactic(auto, unfolding(md_fields::specs::Places::Stand))]
     pub fn read(bytes: &[u8]) -> Saved80
         requires { 62 ≤ length bytes.now }
