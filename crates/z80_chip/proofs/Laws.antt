@@ -11,7 +11,7 @@ use Rattle.z80_exec.specs.Sample.Samples.{Ended}
 use Rattle.z80_exec.specs.Sample.Entries.{after_reset}
 use Rattle.z80_exec.proofs.Bounds.Samples as samples
 use Rattle.z80_parcel.proofs.Writes.{bank_fits, ram_fits}
-use Rattle.z80_parcel.specs.Parcels.{IsStore, Store, written}
+use Rattle.z80_parcel.specs.Parcels.{IsStore, Store, ram_size, written}
 use Rattle.z80_parcel.specs.Requests.{Byte, Fits, Nothing, Returned, AnswerValue80, store_in, value_in}
 use Rattle.z80_chip.specs.Cases.{RunsWithRam, bus_case, case_of, is_reset, running_case, seen}
 use Rattle.z80_chip.specs.Events.{answered, answered_at, asked_at, asked_of, begun, begun_as, came_to, carried_out, first_step, handed, handing, held, kept_at, moved, moving, step, waited, went_on, went_on_with}
@@ -267,7 +267,7 @@ pub power_on-ok : (cart : List ℕ) → IsImage cart → IsChip80 (of cart power
 unfolding power_on
 power_on-ok cart image = record {
   image = image;
-  store = record { ram = length-replicate {A = ℕ} 0x2000 0; bank = lit< tt };
+  store = record { ram = length-replicate {A = ℕ} ram_size 0; bank = lit< tt };
   stands = (record { cause = refl; answers = refl }, refl);
 }
 

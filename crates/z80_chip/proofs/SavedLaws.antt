@@ -26,10 +26,11 @@ use Rattle.z80_chip.specs.States.{State80}
 use Rattle.z80_chip.specs.declared.saved.Saved80.{Saved80}
 use Rattle.z80_chip.specs.declared.stage.Stage.{Stage}
 use Rattle.z80_chip.specs.declared.stage.Stage.TheVariants.{Sample, Access, Yield, Take}
+use Rattle.z80_chip.specs.Spelling.{ram_offset}
 use Rattle.z80_chip.proofs.Laws.{of}
 
 -- RAM and bank register that follow the numbers are the only ones
-same_store : (p q : Bool) (s t : Option Store) (bytes : List ℕ) → Stand 62 (store_fields p s) bytes → Stand 62 (store_fields q t) bytes → s ≡ t
+same_store : (p q : Bool) (s t : Option Store) (bytes : List ℕ) → Stand ram_offset (store_fields p s) bytes → Stand ram_offset (store_fields q t) bytes → s ≡ t
 unfolding Stand
 same_store p q None None bytes at other = refl
 same_store p q None (Some t) bytes at other = absurd (omega (arith, at, other.1.1))
