@@ -3,9 +3,10 @@
 use Rattle.std.proofs.Common.{List, [], ◌∷◌, ◌≡◌, refl}
 use Rattle.md_word.specs.declared.task.Task.TheVariants as tasks
 use Rattle.md_word.specs.declared.size.Size.TheVariants.{Byte, Word, Long}
+use Rattle.md_word.specs.Patterns.{all}
 use Rattle.m68k_decode.specs.Rows.{Immediate, CompareImmediate, ImmediateToCcr, ImmediateToSr, BitByRegister, BitByNumber, MovepToRegister, MovepToMemory, Move, Movea, Unary, MoveFromSr, MoveToCcr, MoveToSr, Nbcd, Swap, Ext, Pea, MovemToMemory, MovemToRegisters, Tst, Tas, Illegal, Trap, Link, Unlk, MoveToUsp, MoveFromUsp, Reset, Nop, Stop, Rte, Rts, Trapv, Rtr, Jsr, Jmp, Lea, Chk, Quick, Scc, Dbcc, Bra, Bsr, Bcc, Moveq, Divu, Divs, Decimal, Extended, ToRegister, ToMemory, ToAddress, Cmp, Cmpa, Eor, Cmpm, Mulu, Muls, ExgData, ExgAddress, ExgMixed, ShiftByNumber, ShiftByRegister, ShiftMemory}
 use Rattle.m68k_decode.specs.Addressing.{any, data_mode, control, alterable, data_alterable, memory_alterable, data_but_immediate, control_alterable_or_predecrement, control_or_postincrement}
-use Rattle.m68k_decode.specs.Lines.{TableLine, all, sized, on, sized_on, words_on, moved_to, byte_moved_to, conditional, lines_0, lines_1, lines_2, lines_3, lines_4, lines_5, lines_6, lines_7, lines_8, lines_9, lines_b, lines_c, lines_d, lines_e}
+use Rattle.m68k_decode.specs.Lines.{TableLine, sized, on, sized_on, words_on, moved_to, byte_moved_to, conditional, lines_0, lines_1, lines_2, lines_3, lines_4, lines_5, lines_6, lines_7, lines_8, lines_9, lines_b, lines_c, lines_d, lines_e}
 
 unfoldable pub masks_0 : List TableLine
 masks_0 =

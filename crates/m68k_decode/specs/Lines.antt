@@ -1,7 +1,8 @@
 -- The instructions of the MC68000 by the first digit of their first word: a pattern, the addressing
 -- modes that the instruction allows there, and the instruction.
 -- M68000 Programmer's Reference Manual, section 4, and section 8, table 8-2 (operation code map).
-use Rattle.std.specs.Prelude.{ℕ, Bool, true, not, List, [], ◌∷◌, ◌+◌, ◌*◌, ◌/◌, ◌%◌, ◌==◌, ◌&&◌, nat_le, if◌then◌else◌, map, filter, codes, bit_and}
+use Rattle.std.specs.Prelude.{ℕ, Bool, not, List, [], ◌∷◌, ◌/◌, ◌%◌, ◌==◌, ◌&&◌, nat_le, if◌then◌else◌, map, filter, codes, bit_and}
+use Rattle.md_word.specs.Patterns.{all, bits_of, mask_of}
 use Rattle.md_word.specs.declared.task.Task.TheVariants as tasks
 use Rattle.md_word.specs.declared.size.Size.TheVariants.{Byte, Word, Long}
 use Rattle.m68k_decode.specs.Rows.{Row, Immediate, CompareImmediate, ImmediateToCcr, ImmediateToSr, BitByRegister, BitByNumber, MovepToRegister, MovepToMemory, Move, Movea, Unary, MoveFromSr, MoveToCcr, MoveToSr, Nbcd, Swap, Ext, Pea, MovemToMemory, MovemToRegisters, Tst, Tas, Illegal, Trap, Link, Unlk, MoveToUsp, MoveFromUsp, Reset, Nop, Stop, Rte, Rts, Trapv, Rtr, Jsr, Jmp, Lea, Chk, Quick, Scc, Dbcc, Bra, Bsr, Bcc, Moveq, Divu, Divs, Decimal, Extended, ToRegister, ToMemory, ToAddress, Cmp, Cmpa, Eor, Cmpm, Mulu, Muls, ExgData, ExgAddress, ExgMixed, ShiftByNumber, ShiftByRegister, ShiftMemory}
@@ -15,23 +16,9 @@ pub record TableLine : Type 0 where
   pub allowed : ℕ → Bool
   pub row : Row
 
--- a pattern as text: 0 and 1 stand for themselves, a letter for any bit, a blank for nothing
-abbrev pub mask_of : List ℕ → ℕ → ℕ
-mask_of [] so_far = so_far
-mask_of (c ∷ cs) so_far = mask_of cs (if c == 32 then so_far else (if nat_le c 49 then (so_far * 2 + 1) else (so_far * 2)))
-
--- the fixed bits of a pattern
-abbrev pub bits_of : List ℕ → ℕ → ℕ
-bits_of [] so_far = so_far
-bits_of (c ∷ cs) so_far = bits_of cs (if c == 32 then so_far else (if c == 49 then (so_far * 2 + 1) else (so_far * 2)))
-
 -- the line of a pattern, what it allows, and its row
 abbrev pub line : List ℕ → (ℕ → Bool) → Row → TableLine
 line pattern allowed row = record { mask = mask_of pattern 0; bits = bits_of pattern 0; allowed = allowed; row = row }
-
--- what is allowed of the rest of a word: all of it
-abbrev pub all : ℕ → Bool
-all w = true
 
 -- a size in bits 7 and 6
 abbrev pub sized : ℕ → Bool

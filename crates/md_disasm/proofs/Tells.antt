@@ -1,4 +1,4 @@
--- A text tells what it is the text of: the digits of a number, and an operand of 8 bits of the Z80.
+-- A text determines what it is the text of: the digits of a number, and an operand of 8 bits of the Z80.
 use Rattle.std.proofs.Common.{◌≡◌, ℕ, ◌+◌, ◌-◌, ◌*◌, ◌/◌, ◌%◌, ◌^◌, ◌<◌, ◌==◌, Bool, true, List, nat_lt, if◌then◌else◌, refl, sym, ap, ◌∙◌, arith, ap₂}
 use Rattle.std.specs.Prelude.{slice_index_or, false}
 use Rattle.std.specs.Fmt.{digit_glyph}

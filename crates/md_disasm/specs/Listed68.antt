@@ -2,7 +2,7 @@
 use Rattle.std.specs.Prelude.{ℕ, zero, suc, Bool, true, ◌&&◌, not, if◌then◌else◌, List, [], ◌++◌, codes}
 use Rattle.md_disasm.specs.Operands68.{is_listed, register_name}
 
--- a register of a list, behind a slash where it is not the first
+-- a register of a list, after a slash where it is not the first
 abbrev pub next : Bool → ℕ → List ℕ
 next first n = (if first then [] else codes "/") ++ register_name n
 

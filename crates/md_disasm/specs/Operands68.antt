@@ -14,7 +14,7 @@ use Rattle.md_disasm.specs.Digits.{marked_digit, marked_byte, marked_word, marke
 use Rattle.md_disasm.specs.declared.operand68.Operand68.{Operand68}
 use Rattle.md_disasm.specs.declared.operand68.Operand68.TheVariants as operands
 
--- a condition as it stands in Bcc, DBcc and Scc
+-- a condition as it is written in Bcc, DBcc and Scc
 abbrev pub condition_name : Condition → List ℕ
 condition_name conditions.True = codes "t"
 condition_name conditions.False = codes "f"
@@ -41,7 +41,7 @@ register_name n = marked_digit (if nat_lt n 8 then codes "d" else codes "a") (n 
 unfoldable pub index_text : ℕ → Bool → List ℕ
 index_text index long = register_name index ++ (if long then codes ".l)" else codes ".w)")
 
--- a number that stands in the instruction, by its size
+-- a number in the instruction, by its size
 abbrev pub number_text : Size → ℕ → List ℕ
 number_text Byte n = marked_byte (codes "#$") (n % 0x100) []
 number_text Word n = marked_word (codes "#$") (n % 0x1_0000) []
@@ -63,7 +63,7 @@ mode_text size (modes.PcDisplaced displacement) = marked_word (codes "$") displa
 mode_text size (modes.PcIndexed index long displacement) = marked_byte (codes "$") displacement (codes "(pc,") ++ index_text index long
 mode_text size (modes.Immediate n) = number_text size n
 
--- the bit of a list that stands for a register; −(An) turns the list round
+-- the bit of a list that means a register; −(An) reverses the list
 abbrev pub bit_for : Bool → ℕ → ℕ
 bit_for turned n = if turned then 15 - n else n
 

@@ -20,7 +20,7 @@ use Rattle.md_disasm.specs.Digits.{marked_byte, marked_word}
 use Rattle.md_disasm.specs.declared.operand80.Operand80.{Operand80}
 use Rattle.md_disasm.specs.declared.operand80.Operand80.TheVariants as operands
 
--- the register that the prefix stands for
+-- the register that the prefix selects
 abbrev pub register : Index → Pair
 register indexes.Hl = pairs.Hl
 register indexes.Ix = pairs.Ix

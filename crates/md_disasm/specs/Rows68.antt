@@ -49,7 +49,7 @@ abbrev pub distance : Displacement → ℕ
 distance (displacements.Byte displacement) = extended Byte displacement
 distance (displacements.Word displacement) = extended Word displacement
 
--- the address that a branch goes to: the displacement counts from behind the first word
+-- the address that a branch goes to: the displacement counts from after the first word
 unfoldable pub target : ℕ → Displacement → ℕ
 target at displacement = (at + 2 + distance displacement) % 0x1_0000_0000
 

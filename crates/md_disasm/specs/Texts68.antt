@@ -1,6 +1,6 @@
 -- The text of an instruction of the 68000.
 -- M68000 Programmer's Reference Manual, section 4: the name, the letter of the size, a space, and the
--- operands with a comma between them; this project's profile writes no space behind the comma.
+-- operands with a comma between them; this project's profile writes no space after the comma.
 use Rattle.std.specs.Prelude.{ℕ, List, [], ◌++◌, codes, Option, Some, None}
 use Rattle.md_word.specs.declared.size.Size.{Size}
 use Rattle.m68k_decode.specs.declared.decoded.Decoded.{Decoded}
@@ -15,7 +15,7 @@ abbrev pub size_text : Option Size → List ℕ
 size_text None = []
 size_text (Some size) = size_name size
 
--- an operand behind its mark, where there is one
+-- an operand after its separator, where there is one
 abbrev pub led : List ℕ → Operand68 → List ℕ
 led mark operands.Nothing = []
 led mark operand = mark ++ operand_text operand

@@ -29,14 +29,14 @@ fn digit(n: u8) -> &'static str
     }
 }
 
-/// Appends the last digit of a number.
+/// Appends the last digit of a number. It fails where there is no memory for it.
 fn put_digit(text: &mut String, n: u8) -> Result<(), NoMemory>
     ensures { Appends result (string_bytes text.old) (string_bytes text.new) (digits.one_digit n) }
 {
     text.push_str(digit(n))
 }
 
-/// Appends the two digits of a byte.
+/// Appends the two digits of a byte. It fails where there is no memory for it.
 #[tactic(auto, unfolding(crate::specs::Digits::two_digits))]
 fn put_byte(text: &mut String, n: u8) -> Result<(), NoMemory>
     ensures { Appends result (string_bytes text.old) (string_bytes text.new) (digits.two_digits n) }
@@ -45,7 +45,7 @@ fn put_byte(text: &mut String, n: u8) -> Result<(), NoMemory>
     put_digit(text, n)
 }
 
-/// Appends the four digits of a word.
+/// Appends the four digits of a word. It fails where there is no memory for it.
 #[tactic(auto, unfolding(crate::specs::Digits::four_digits))]
 fn put_word(text: &mut String, n: u16) -> Result<(), NoMemory>
     ensures { Appends result (string_bytes text.old) (string_bytes text.new) (digits.four_digits n) }
@@ -54,7 +54,7 @@ fn put_word(text: &mut String, n: u16) -> Result<(), NoMemory>
     put_byte(text, (n & 0xff) as u8)
 }
 
-/// Appends the eight digits of a long.
+/// Appends the eight digits of a long. It fails where there is no memory for it.
 #[tactic(auto, unfolding(crate::specs::Digits::eight_digits))]
 fn put_long(text: &mut String, n: u32) -> Result<(), NoMemory>
     ensures { Appends result (string_bytes text.old) (string_bytes text.new) (digits.eight_digits n) }
@@ -63,7 +63,7 @@ fn put_long(text: &mut String, n: u32) -> Result<(), NoMemory>
     put_word(text, (n & 0xffff) as u16)
 }
 
-/// Appends the last digit of a number between two texts.
+/// Appends the last digit of a number between two texts. It fails where there is no memory for it.
 #[tactic(auto, unfolding(crate::specs::Digits::marked_digit))]
 pub fn put_marked_digit(text: &mut String, before: &str, n: u8, after: &str) -> Result<(), NoMemory>
     ensures { Appends result (string_bytes text.old) (string_bytes text.new) (digits.marked_digit before.now n after.now) }
@@ -73,7 +73,7 @@ pub fn put_marked_digit(text: &mut String, before: &str, n: u8, after: &str) -> 
     text.push_str(after)
 }
 
-/// Appends the two digits of a byte between two texts.
+/// Appends the two digits of a byte between two texts. It fails where there is no memory for it.
 #[tactic(auto, unfolding(crate::specs::Digits::marked_byte))]
 pub fn put_marked_byte(text: &mut String, before: &str, n: u8, after: &str) -> Result<(), NoMemory>
     ensures { Appends result (string_bytes text.old) (string_bytes text.new) (digits.marked_byte before.now n after.now) }
@@ -83,7 +83,7 @@ pub fn put_marked_byte(text: &mut String, before: &str, n: u8, after: &str) -> R
     text.push_str(after)
 }
 
-/// Appends the four digits of a word between two texts.
+/// Appends the four digits of a word between two texts. It fails where there is no memory for it.
 #[tactic(auto, unfolding(crate::specs::Digits::marked_word))]
 pub fn put_marked_word(text: &mut String, before: &str, n: u16, after: &str) -> Result<(), NoMemory>
     ensures { Appends result (string_bytes text.old) (string_bytes text.new) (digits.marked_word before.now n after.now) }
@@ -93,7 +93,7 @@ pub fn put_marked_word(text: &mut String, before: &str, n: u16, after: &str) -> 
     text.push_str(after)
 }
 
-/// Appends the eight digits of a long between two texts.
+/// Appends the eight digits of a long between two texts. It fails where there is no memory for it.
 #[tactic(auto, unfolding(crate::specs::Digits::marked_long))]
 pub fn put_marked_long(text: &mut String, before: &str, n: u32, after: &str) -> Result<(), NoMemory>
     ensures { Appends result (string_bytes text.old) (string_bytes text.new) (digits.marked_long before.now n after.now) }

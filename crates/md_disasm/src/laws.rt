@@ -1,4 +1,4 @@
-//! Laws of texts, as calls that do nothing and stand for what they ensure.
+//! Laws of texts, as calls that do nothing but ensure them.
 
 ghost use Rattle.std.specs.Prelude.{◌≡◌, ◌^◌, ◌<◌, ℕ};
 ghost use Rattle.z80_decode.specs.declared.place8.Place8.{Place8};
@@ -6,7 +6,7 @@ ghost use Rattle.md_disasm.specs.Digits.{two_digits, four_digits, eight_digits};
 ghost use Rattle.md_disasm.specs.Operands80.{place_text};
 ghost use Rattle.md_disasm.specs.Told.{IsByteOrWord};
 
-/// The digits of a number tell it: those of a byte, of a word and of a long.
+/// The digits of a number determine it: those of a byte, of a word and of a long.
 pub fn digits_are_told()
     ensures byte { (a b : ℕ) → a < 2 ^ 8 → b < 2 ^ 8 → two_digits a ≡ two_digits b → a ≡ b }
     ensures word { (a b : ℕ) → a < 2 ^ 16 → b < 2 ^ 16 → four_digits a ≡ four_digits b → a ≡ b }

@@ -17,6 +17,7 @@ fn is_listed(turned: bool, list: u16, n: u8) -> bool
 }
 
 /// Appends a register, and a slash before it where it is not the first.
+/// It fails where there is no memory for it.
 fn put_next(text: &mut String, first: bool, n: u8) -> Result<(), NoMemory>
     ensures { Appends result (string_bytes text.old) (string_bytes text.new) (next first n) }
 {
@@ -24,8 +25,8 @@ fn put_next(text: &mut String, first: bool, n: u8) -> Result<(), NoMemory>
     put_register(text, n)
 }
 
-/// Appends a register that is in a list, behind a slash where it is not the first. Tells whether there
-/// is still none.
+/// Appends a register that is in a list, after a slash where it is not the first. Answers whether there
+/// is still none. It fails where there is no memory for it.
 fn put_if_listed(
     text: &mut String,
     turned: bool,
@@ -45,7 +46,7 @@ fn put_if_listed(
     }
 }
 
-/// Appends the registers of a list that has some.
+/// Appends the registers of a list that has some. It fails where there is no memory for it.
 fn put_listed(text: &mut String, turned: bool, list: u16) -> Result<(), NoMemory>
     ensures { Appends result (string_bytes text.old) (string_bytes text.new) (listed turned list 16) }
 {
@@ -57,6 +58,7 @@ fn put_listed(text: &mut String, turned: bool, list: u16) -> Result<(), NoMemory
 }
 
 /// Appends the registers of a list from D0 to A7, or `none`.
+/// It fails where there is no memory for it.
 #[tactic(auto, using(crate::proofs::Lists68::all_listed), unfolding(crate::specs::Operands68::list_text))]
 pub(crate) fn put_list(text: &mut String, turned: bool, list: u16) -> Result<(), NoMemory>
     ensures { Appends result (string_bytes text.old) (string_bytes text.new) (operands.list_text turned list) }

@@ -11,7 +11,7 @@ use m68k_decode::Decoded;
 use md_word::{NoMemory, Size};
 use std::alloc::Global;
 
-/// Appends the letter of a size, where there is one.
+/// Appends the letter of a size, where there is one. It fails where there is no memory for it.
 fn put_size(text: &mut String, size: Option<Size>) -> Result<(), NoMemory>
     ensures { Appends result (string_bytes text.old) (string_bytes text.new) (texts.size_text size) }
 {
@@ -21,7 +21,8 @@ fn put_size(text: &mut String, size: Option<Size>) -> Result<(), NoMemory>
     }
 }
 
-/// Appends an operand behind its mark, where there is one.
+/// Appends an operand after its separator, where there is one.
+/// It fails where there is no memory for it.
 fn put_led(text: &mut String, mark: &str, operand: Operand68) -> Result<(), NoMemory>
     ensures { Appends result (string_bytes text.old) (string_bytes text.new) (texts.led mark.now operand) }
 {
@@ -34,7 +35,7 @@ fn put_led(text: &mut String, mark: &str, operand: Operand68) -> Result<(), NoMe
     }
 }
 
-/// Appends the text of a row.
+/// Appends the text of a row. It fails where there is no memory for it.
 fn put_row(text: &mut String, row: Syntax68) -> Result<(), NoMemory>
     ensures { Appends result (string_bytes text.old) (string_bytes text.new) (texts.row_text (shown68 row)) }
 {
@@ -45,13 +46,13 @@ fn put_row(text: &mut String, row: Syntax68) -> Result<(), NoMemory>
     put_led(text, ",", row.second)
 }
 
-/// The text of an instruction of the 68000 that stands at an address, of at most 68 characters.
+/// The text of an instruction of the 68000 at an address, of at most 68 characters.
 ///
 /// Names are those of the M68000 Programmer's Reference Manual, section 4, in lower case, with the
-/// letter of the size where the instruction has several, and the source stands first. A number has a
+/// letter of the size where the instruction has several, and the source is first. A number has a
 /// dollar sign and all its hexadecimal digits, a displacement is an unsigned number, and a branch
-/// shows the address that it goes to. What is no instruction is `dc.w` with its first word. It is an
-/// error only where memory is wanting.
+/// shows the address that it goes to. What is no instruction is `dc.w` with its first word. It
+/// fails only where there is no memory for the text.
 pub fn text68(alloc: Global, op: &Decoded, at: u32) -> Result<String, NoMemory>
     ensures text { IfOk result (λ text. string_bytes text ≡ texts.text_of op.now at) }
     ensures short { IfOk result (λ text. length (string_bytes text) ≤ 68) }

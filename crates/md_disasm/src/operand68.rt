@@ -13,7 +13,7 @@ use md_word::{Mode, NoMemory, Size};
 pub enum Operand68 {
     /// No operand.
     Nothing,
-    /// An addressing mode, with the size of a number that stands in the instruction.
+    /// An addressing mode, with the size of a number in the instruction.
     Place(Size, Mode),
     /// A data register.
     Data(u8),
@@ -32,7 +32,7 @@ pub enum Operand68 {
     Target(u32),
     /// The word of what is no instruction.
     Opcode(u16),
-    /// A list of registers, and whether it is turned round: then bit 0 stands for A7.
+    /// A list of registers, and whether it is reversed: then bit 0 is A7.
     Registers(bool, u16),
 }
 
@@ -59,7 +59,7 @@ pub(crate) fn condition_name(condition: Condition) -> &'static str
     }
 }
 
-/// Appends the name of a register of sixteen.
+/// Appends the name of a register of sixteen. It fails where there is no memory for it.
 #[tactic(auto, unfolding(crate::specs::Operands68::register_name))]
 pub(crate) fn put_register(text: &mut String, n: u8) -> Result<(), NoMemory>
     ensures { Appends result (string_bytes text.old) (string_bytes text.new) (operands.register_name n) }
@@ -68,7 +68,7 @@ pub(crate) fn put_register(text: &mut String, n: u8) -> Result<(), NoMemory>
     put_marked_digit(text, letter, n & 7, "")
 }
 
-/// Appends an index register, and the bracket behind it.
+/// Appends an index register, and the bracket after it. It fails where there is no memory for it.
 #[tactic(auto, unfolding(crate::specs::Operands68::index_text))]
 fn put_index(text: &mut String, index: u8, long: bool) -> Result<(), NoMemory>
     ensures { Appends result (string_bytes text.old) (string_bytes text.new) (operands.index_text index long) }
@@ -77,7 +77,7 @@ fn put_index(text: &mut String, index: u8, long: bool) -> Result<(), NoMemory>
     text.push_str(if long { ".l)" } else { ".w)" })
 }
 
-/// Appends a number that stands in the instruction.
+/// Appends a number in the instruction. It fails where there is no memory for it.
 fn put_number(text: &mut String, size: Size, n: u32) -> Result<(), NoMemory>
     ensures { Appends result (string_bytes text.old) (string_bytes text.new) (operands.number_text size n) }
 {
@@ -124,7 +124,7 @@ fn put_pc_indexed(
     put_index(text, index, long)
 }
 
-/// Appends the text of an addressing mode.
+/// Appends the text of an addressing mode. It fails where there is no memory for it.
 fn put_mode(text: &mut String, size: Size, mode: Mode) -> Result<(), NoMemory>
     ensures { Appends result (string_bytes text.old) (string_bytes text.new) (operands.mode_text size mode) }
 {
@@ -148,7 +148,7 @@ fn put_mode(text: &mut String, size: Size, mode: Mode) -> Result<(), NoMemory>
     }
 }
 
-/// Appends the text of an operand.
+/// Appends the text of an operand. It fails where there is no memory for it.
 pub(crate) fn put_operand(text: &mut String, operand: Operand68) -> Result<(), NoMemory>
     ensures { Appends result (string_bytes text.old) (string_bytes text.new) (operands.operand_text operand) }
 {

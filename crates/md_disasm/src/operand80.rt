@@ -42,7 +42,7 @@ pub enum Operand80 {
     ByteAndWord(u8, u16),
 }
 
-/// The register that the prefix stands for.
+/// The register that the prefix selects.
 pub(crate) fn register(index: Index) -> Pair
     ensures { result ≡ operands.register index }
 {
@@ -116,7 +116,7 @@ fn mode_name(mode: InterruptMode) -> &'static str
     }
 }
 
-/// Appends the text of an operand of 8 bits.
+/// Appends the text of an operand of 8 bits. It fails where there is no memory for it.
 fn put_place(text: &mut String, place: Place8) -> Result<(), NoMemory>
     ensures { Appends result (string_bytes text.old) (string_bytes text.new) (operands.place_text place) }
 {
@@ -142,7 +142,7 @@ fn put_place(text: &mut String, place: Place8) -> Result<(), NoMemory>
     }
 }
 
-/// Appends three bytes.
+/// Appends three bytes. It fails where there is no memory for it.
 fn put_bytes(text: &mut String, first: u8, second: u8, third: u8) -> Result<(), NoMemory>
     ensures { Appends result (string_bytes text.old) (string_bytes text.new) (operands.bytes_text first second third) }
 {
@@ -152,13 +152,14 @@ fn put_bytes(text: &mut String, first: u8, second: u8, third: u8) -> Result<(), 
 }
 
 /// Appends a byte and the two bytes of a number of 16 bits, the low one first.
+/// It fails where there is no memory for it.
 fn put_byte_and_word(text: &mut String, byte: u8, word: u16) -> Result<(), NoMemory>
     ensures { Appends result (string_bytes text.old) (string_bytes text.new) (operands.operand_text (variants.ByteAndWord byte word)) }
 {
     put_bytes(text, byte, (word & 0xff) as u8, (word >> 8) as u8)
 }
 
-/// Appends the register of 16 bits in brackets.
+/// Appends the register of 16 bits in brackets. It fails where there is no memory for it.
 fn put_at_register(text: &mut String, pair: Pair) -> Result<(), NoMemory>
     ensures { Appends result (string_bytes text.old) (string_bytes text.new) (operands.operand_text (variants.AtRegister pair)) }
 {
@@ -167,7 +168,7 @@ fn put_at_register(text: &mut String, pair: Pair) -> Result<(), NoMemory>
     text.push_str(")")
 }
 
-/// Appends the text of an operand.
+/// Appends the text of an operand. It fails where there is no memory for it.
 pub(crate) fn put_operand(text: &mut String, operand: Operand80) -> Result<(), NoMemory>
     ensures { Appends result (string_bytes text.old) (string_bytes text.new) (operands.operand_text operand) }
 {

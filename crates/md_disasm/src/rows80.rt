@@ -47,7 +47,7 @@ fn change(task: Task80, place: Place8) -> Syntax80
     }
 }
 
-/// LD dd,(nn) with the prefix ED. That of HL has a shorter form, whose text stands for that alone.
+/// LD dd,(nn) with the prefix ED. That of HL has a shorter form, whose text means that alone.
 fn load_extended(pair: Pair, address: u16) -> Syntax80
     ensures { shown80 result ≡ rows.load_extended pair address }
 {
@@ -57,7 +57,7 @@ fn load_extended(pair: Pair, address: u16) -> Syntax80
     }
 }
 
-/// LD (nn),dd with the prefix ED. That of HL has a shorter form, whose text stands for that alone.
+/// LD (nn),dd with the prefix ED. That of HL has a shorter form, whose text means that alone.
 fn store_extended(address: u16, pair: Pair) -> Syntax80
     ensures { shown80 result ≡ rows.store_extended address pair }
 {

@@ -8,9 +8,9 @@ use md_word::Size;
 /// The syntax of an instruction of the 68000 in its assembler.
 #[derive(Clone, Copy)]
 pub(crate) struct Syntax68 {
-    /// The name up to its ending.
+    /// The name without its suffix.
     pub stem: &'static str,
-    /// The ending of the name: a condition, or the letter of a form.
+    /// The suffix of the name: a condition, or the letter of a form.
     pub ending: &'static str,
     pub size: Option<Size>,
     pub first: Operand68,

@@ -4,6 +4,7 @@ pub mod Coding
 pub mod Fields
 pub mod Keys
 pub mod Modes
+pub mod Patterns
 pub mod Width
 pub mod Map
 pub mod Region

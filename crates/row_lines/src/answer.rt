@@ -35,7 +35,7 @@ impl Answer {
         Ok(())
     }
 
-    /// Adds a word.
+    /// Adds a word. As the calls that follow it fails where there is no memory for it.
     pub fn say(&mut self, word: &str) -> Result<(), RowError> {
         self.space()?;
         Ok(self.text.push_str(word)?)

@@ -11,7 +11,7 @@ pub struct Buffer {
     held: Vec<u8>,
 }
 
-/// Tells `yes` where bytes are the same, and else how they differ.
+/// Answers `yes` where bytes are the same, and else how they differ.
 fn compare(alloc: Global, one: &[u8], other: &[u8], answer: &mut Answer) -> Result<(), RowError> {
     answer.say(compared(alloc, one, other, "yes")?.as_str())
 }
@@ -39,13 +39,13 @@ impl Buffer {
         self.bytes = bytes;
     }
 
-    /// Copies bytes in place of its own.
+    /// Copies bytes in place of its own. It fails where there is no memory for it.
     pub fn copy(&mut self, bytes: &[u8]) -> Result<(), RowError> {
         self.bytes.clear();
         Ok(self.bytes.extend_from_slice(bytes)?)
     }
 
-    /// Copies bytes behind its own.
+    /// Copies bytes after its own. It fails where there is no memory for it.
     pub fn append(&mut self, bytes: &[u8]) -> Result<(), RowError> {
         Ok(self.bytes.extend_from_slice(bytes)?)
     }
@@ -66,7 +66,7 @@ impl Buffer {
         compare(alloc, &self.bytes, &self.held, answer)
     }
 
-    /// Tells so many bytes from a place on, of those that are there.
+    /// Writes out so many bytes from an offset on, of those that are there.
     fn tell(&self, rest: &str, answer: &mut Answer) -> Result<(), RowError> {
         let [place, count, _, _] = arguments(rest, "dd")?;
         let behind = self.bytes.get(place as usize..).unwrap_or(&[]);
@@ -79,7 +79,8 @@ impl Buffer {
         Ok(())
     }
 
-    /// The cycle of a state, whose bytes are made of what stands behind it, if anything does.
+    /// The cycle of a state, whose bytes are made of what follows it, if anything does.
+    /// `NoSuchLine` where the text is none.
     pub fn cycle_of(&mut self, alloc: Global, rest: &str) -> Result<u32, RowError> {
         let (cycle, bytes) = rest.split_once(' ').unwrap_or((rest, ""));
         if !bytes.is_empty() {
@@ -95,8 +96,9 @@ impl Buffer {
     }
 
     /// Carries out a line about the bytes: `zeros LENGTH PLACE:BYTES..` makes bytes of 0 but for changes, `hold`
-    /// holds a copy aside; `length` tells how many there are, `bytes PLACE COUNT` some of them, `held` whether they
+    /// holds a copy aside; `length` answers how many there are, `bytes PLACE COUNT` some of them, `held` whether they
     /// are those that are held, and `same LENGTH PLACE:BYTES..` whether they are 0 but for changes.
+    /// `NoSuchLine` for another line.
     pub fn obey(
         &mut self,
         alloc: Global,

@@ -30,7 +30,7 @@ fn begin<R: Print, F: Fixture>(
     tally.note_step(rt, "its begin", fixture.begin())
 }
 
-/// Takes a line, which is a row of its own unless a head stands above it in its file. Tells whether one does behind it.
+/// Takes a line, which is a row of its own unless a header is above it in its file. Answers whether one is after it.
 fn take<R: Print, F: Fixture>(
     rt: &R,
     alloc: Global,

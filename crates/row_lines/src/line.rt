@@ -10,7 +10,7 @@ pub enum Line<'a> {
     Question(&'a str, &'a str),
 }
 
-/// A line without its remark, which begins behind two spaces with `# `.
+/// A line without its remark, which begins after two spaces with `# `.
 fn without_remark(text: &str) -> &str {
     match text.split_once("  # ") {
         Some((said, _)) => said.trim_end(),
@@ -19,7 +19,7 @@ fn without_remark(text: &str) -> &str {
 }
 
 /// What a line says. `row NAME` is the head of a row, ` -> ` parts a question from the answer that is wanted, and
-/// `#` at the beginning, or behind two spaces and before one, begins a remark.
+/// `#` at the beginning, or after two spaces and before one, begins a remark.
 pub fn line_of(text: &str) -> Line<'_> {
     if text.is_empty() || text.starts_with('#') {
         return Line::Nothing;

@@ -1,7 +1,7 @@
 use crate::row_error::RowError;
 use std::alloc::Global;
 
-/// A number in decimal or, behind `0x`, in hexadecimal; `NoSuchLine` where the text is none below 2^64.
+/// A number in decimal or, after `0x`, in hexadecimal; `NoSuchLine` where the text is none below 2^64.
 pub fn number(text: &str) -> Result<u64, RowError> {
     let read = match text.strip_prefix("0x") {
         Some(digits) => u64::from_str_radix(digits, 16),

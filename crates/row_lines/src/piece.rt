@@ -15,7 +15,7 @@ fn put_bytes(into: &mut [u8], place: u64, values: &[u8]) -> Result<(), RowError>
     Ok(())
 }
 
-/// Puts `BYTES`, or `N*BYTES` so many times, over what stands from a place on; `NoSuchLine` where the text is neither
+/// Puts `BYTES`, or `N*BYTES` so many times, over what is there from an offset on; `NoSuchLine` where the text is neither
 /// or there is no room.
 pub fn put(alloc: Global, into: &mut [u8], place: u64, text: &str) -> Result<(), RowError> {
     let values = repeats(alloc, text)?;
@@ -28,8 +28,8 @@ fn put_piece(alloc: Global, into: &mut [u8], piece: &str) -> Result<(), RowError
     put(alloc, into, number(place)?, text)
 }
 
-/// The bytes `LENGTH PLACE:BYTES ..`, or with `N*BYTES` for a piece: so many, of 0 where no piece stands; a later piece
-/// stands over an earlier one.
+/// The bytes `LENGTH PLACE:BYTES ..`, or with `N*BYTES` for a piece: so many, of 0 where no piece is; a later piece
+/// overwrites an earlier one. `NoSuchLine` where the text is none, or the length is above 16 MiB.
 pub fn pieces(alloc: Global, text: &str) -> Result<Vec<u8>, RowError> {
     let (length, places) = text.split_once(' ').unwrap_or((text, ""));
     let length = number(length)?;
@@ -44,6 +44,7 @@ pub fn pieces(alloc: Global, text: &str) -> Result<Vec<u8>, RowError> {
 }
 
 /// The first place at which bytes differ from those that are wanted, or their lengths; `told` where they do not.
+/// It fails where there is no memory for the text.
 pub fn compared(alloc: Global, came: &[u8], wanted: &[u8], told: &str) -> Result<String, RowError> {
     let mut place = 0u64;
     for (one, other) in came.iter().zip(wanted.iter()) {

@@ -8,7 +8,7 @@ pub fn place_of(text: &str) -> Result<usize, RowError> {
     usize::try_from(number(text)?).map_err(|_| RowError::NoSuchLine)
 }
 
-/// Puts an item behind those of a list.
+/// Appends an item to those of a list. It fails where there is no memory for it.
 pub fn push<T: Drop>(list: &mut Vec<T>, item: T) -> Result<(), AllocError> {
     Ok(list.push(item)?)
 }
@@ -23,7 +23,7 @@ fn add(alloc: Global, into: &mut Vec<u8>, word: &str) -> Result<(), RowError> {
     Ok(())
 }
 
-/// The bytes of words that blanks part, each `BYTES` or `N*BYTES`.
+/// The bytes of words that blanks part, each `BYTES` or `N*BYTES`; `NoSuchLine` where one is neither.
 pub fn repeats(alloc: Global, text: &str) -> Result<Vec<u8>, RowError> {
     let mut built = Vec::new(alloc);
     for word in text.split_whitespace() {
@@ -33,6 +33,7 @@ pub fn repeats(alloc: Global, text: &str) -> Result<Vec<u8>, RowError> {
 }
 
 /// What is wanted where bytes are those of its words; else the first place at which they are not.
+/// `NoSuchLine` where the words are none.
 pub fn repeated(alloc: Global, came: &[u8], wanted: &str) -> Result<String, RowError> {
     compared(alloc, came, &repeats(alloc, wanted)?, wanted)
 }

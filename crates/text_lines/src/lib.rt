@@ -1,6 +1,11 @@
-//! The lines of a text.
+//! The lines of a text, and words of digits.
 #![tactic(auto)]
 
+mod digits;
 mod lines;
 
+pub use digits::{
+    are_decimal, are_hexadecimal, are_lower_hexadecimal, is_hexadecimal, is_lower_hexadecimal,
+    read_decimal,
+};
 pub use lines::first_line;

@@ -1,4 +1,4 @@
--- A byte comes back after eight rotates: shown by computing them for all bytes.
+-- A byte returns after eight rotates: shown by computing them for all bytes.
 use Rattle.std.proofs.Common.{◌≡◌, ℕ, map, refl, arith}
 use Rattle.md_word.proofs.Agree.{range, same_at}
 use Rattle.md_word.specs.declared.task80.Task80.TheVariants as tasks

@@ -43,10 +43,10 @@ worth_of Bit7 = 128
 unfoldable pub bit_tested : Bit → ℕ → Flags80 → Out80
 bit_tested bit b flags = told b (record flags { z = b / worth_of bit % 2 == 0; h = true; n = false })
 
--- RES: the bit is 0, and F as it stands
+-- RES: the bit is 0, and F as it was
 unfoldable pub bit_reset : Bit → ℕ → ℕ → Out80
 bit_reset bit b f = record { value = bit_and b (0xff - worth_of bit); f = f }
 
--- SET: the bit is 1, and F as it stands
+-- SET: the bit is 1, and F as it was
 unfoldable pub bit_set : Bit → ℕ → ℕ → Out80
 bit_set bit b f = record { value = bit_or b (worth_of bit); f = f }

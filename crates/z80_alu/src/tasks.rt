@@ -14,7 +14,7 @@ use crate::{Flags80, Out80, Task80};
 ///
 /// INC, DEC, the rotates and shifts of the prefix CB, BIT, RES, SET and IN work on the operand;
 /// RLCA and its kin, DAA, CPL, NEG, SCF and CCF on the accumulator; the others on both. CP and BIT
-/// leave the value as it was. RES and SET leave F as it stands; the others write bits 5 and 3 of it
+/// leave the value as it was. RES and SET leave F as it is; the others write bits 5 and 3 of it
 /// as 0. Flags that the manual calls unknown stay.
 ///
 /// Source: Zilog UM0080, "Z80 Instruction Description".

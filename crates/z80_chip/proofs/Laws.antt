@@ -11,10 +11,10 @@ use Rattle.z80_exec.specs.Sample.Samples.{Ended}
 use Rattle.z80_exec.specs.Sample.Entries.{after_reset}
 use Rattle.z80_exec.proofs.Bounds.Samples as samples
 use Rattle.z80_parcel.proofs.Writes.{bank_fits, ram_fits}
-use Rattle.z80_parcel.specs.Parcels.{IsStore, Store, written}
+use Rattle.z80_parcel.specs.Parcels.{IsStore, Store, ram_size, written}
 use Rattle.z80_parcel.specs.Requests.{Byte, Fits, Nothing, Returned, AnswerValue80, store_in, value_in}
 use Rattle.z80_chip.specs.Cases.{RunsWithRam, bus_case, case_of, is_reset, running_case, seen}
-use Rattle.z80_chip.specs.Events.{answered, answered_at, asked_at, asked_of, begun, begun_as, came_to, carried_out, handed, handing, held, kept_at, moved, moving, waited, went_on, went_on_with}
+use Rattle.z80_chip.specs.Events.{answered, answered_at, asked_at, asked_of, begun, begun_as, came_to, carried_out, first_step, handed, handing, held, kept_at, moved, moving, step, waited, went_on, went_on_with}
 use Rattle.z80_chip.specs.Validity.{Chip80Value, IsAsking, IsAt, IsBetween, IsChip80}
 use Rattle.z80_chip.specs.States.{State80, is_sample, next_of, power_on}
 use Rattle.z80_chip.specs.declared.case.Case.{Case}
@@ -129,10 +129,10 @@ moving-ok cart state at Take either = record { image = at.image; store = at.stor
 begun-case : (case : Case) (cart : List ℕ) (state : State80) → StandsAtSample cart state → RunsWithRam case (is_some state.store) → IsChip80 (of cart (begun_as case cart state))
 begun-case cases.Yield cart state at runs = moving-ok cart state at Yield (inl refl)
 begun-case cases.Take cart state at runs = moving-ok cart state at Take (inr refl)
-begun-case cases.Suspended cart state at runs = waited-ok cart state 45 at
-begun-case cases.InReset cart state at runs = waited-ok cart state 45 at
+begun-case cases.Suspended cart state at runs = waited-ok cart state step at
+begun-case cases.InReset cart state at runs = waited-ok cart state step at
 begun-case cases.Interrupt cart state at runs = went-ok cart state 1 (record { image = at.image; store = at.store; has = runs })
-begun-case cases.Halted cart state at runs = waited-ok cart state 60 at
+begun-case cases.Halted cart state at runs = waited-ok cart state first_step at
 begun-case cases.Instruction cart state at runs = went-ok cart state 0 (record { image = at.image; store = at.store; has = runs })
 
 pub begun-ok : (v : Chip80Value) (pins : Pins80) → IsChip80 v → (next_of v.state).sample ≡ true → IsChip80 (of v.cart (begun v.cart v.state pins))
@@ -141,23 +141,23 @@ begun-ok v pins ok kind =
     let after : State80 = seen v.state pins in
     begun-case (case_of after pins) v.cart after (seen-at v.cart v.state pins (sampling v ok kind)) (runs after pins)
 
--- the end of what is carried out lies behind its accesses
+-- the end of what is carried out is after its accesses
 came-later : (cart : List ℕ) (state : State80) (cause : ℕ) (r : Result Ended Request80) → carried_out cart state cause ≡ r
-    → ((ended : Ended) → r ≡ Ok ended → length state.answers ≤ ended.used) → state.start + 60 + 45 * length state.answers ≤ (came_to state cause r).next
+    → ((ended : Ended) → r ≡ Ok ended → length state.answers ≤ ended.used) → state.start + first_step + step * length state.answers ≤ (came_to state cause r).next
 came-later cart state cause (Ok ended) e most =
     let time = samples.covers cause state.regs _ ended e in
     let used = most ended refl in
     omega (arith, time, used)
 came-later cart state cause (Err request) e most = omega arith
 
-went-later : (cart : List ℕ) (state : State80) (cause : ℕ) → state.answers ≡ [] → state.start + 60 ≤ (went_on cart state cause).next
+went-later : (cart : List ℕ) (state : State80) (cause : ℕ) → state.answers ≡ [] → state.start + first_step ≤ (went_on cart state cause).next
 unfolding went_on
 went-later cart state cause none =
     let zero : length state.answers ≡ 0 = ap length none in
     let late = came-later cart state cause (carried_out cart state cause) refl (λ ended is. omega (arith, zero)) in
     omega (arith, late)
 
-begun-late : (case : Case) (cart : List ℕ) (state : State80) → StandsAtSample cart state → state.next + 45 ≤ (begun_as case cart state).next
+begun-late : (case : Case) (cart : List ℕ) (state : State80) → StandsAtSample cart state → state.next + step ≤ (begun_as case cart state).next
 begun-late cases.Yield cart state at = let e = at.start in omega (arith, e)
 begun-late cases.Take cart state at = let e = at.start in omega (arith, e)
 begun-late cases.Suspended cart state at = let e = at.start in omega (arith, e)
@@ -166,11 +166,11 @@ begun-late cases.Interrupt cart state at = let e = at.start in let late = went-l
 begun-late cases.Halted cart state at = let e = at.start in omega (arith, e)
 begun-late cases.Instruction cart state at = let e = at.start in let late = went-later cart state 0 at.answers in omega (arith, e, late)
 
-pub begun-later : (v : Chip80Value) (pins : Pins80) → IsChip80 v → (next_of v.state).sample ≡ true → v.state.next + 45 ≤ (begun v.cart v.state pins).next
+pub begun-later : (v : Chip80Value) (pins : Pins80) → IsChip80 v → (next_of v.state).sample ≡ true → v.state.next + step ≤ (begun v.cart v.state pins).next
 unfolding begun
 begun-later v pins ok kind =
     let after : State80 = seen v.state pins in
-    subst (λ (n : ℕ). n + 45 ≤ (begun_as (case_of after pins) v.cart after).next) (seen-stays v.state pins)
+    subst (λ (n : ℕ). n + step ≤ (begun_as (case_of after pins) v.cart after).next) (seen-stays v.state pins)
     (begun-late (case_of after pins) v.cart after (seen-at v.cart v.state pins (sampling v ok kind)))
 
 -- never more than three answers are kept
@@ -241,7 +241,7 @@ takes-more cart state x request ended asks e =
       | inr less ↦ absurd (different ended request (sym (samples.same_sample state.cause state.regs _ _ ended e (answers-same cart (held state.store).ram (held state.store).bank state.answers x ended.used less)) ∙ asks))
     ]
 
-asked-late : (v : Chip80Value) (answer : AnswerValue80) → IsAsking v.cart v.state → v.state.next + 45 ≤ (went_on_with v.cart v.state (value_in answer)).next
+asked-late : (v : Chip80Value) (answer : AnswerValue80) → IsAsking v.cart v.state → v.state.next + step ≤ (went_on_with v.cart v.state (value_in answer)).next
 unfolding went_on
 asked-late v answer a =
     let x : ℕ = value_in answer in
@@ -252,13 +252,13 @@ asked-late v answer a =
     (λ ended is. (let taken = takes-more v.cart v.state x a.request ended a.asked is in omega (arith, taken, counted))) in
     omega (arith, place, late, counted)
 
-late-by : (stage : Stage) (v : Chip80Value) (answer : AnswerValue80) → IsAt stage v.cart v.state → is_sample stage ≡ false → v.state.next + 45 ≤ (answered_at stage v.cart v.state answer).next
+late-by : (stage : Stage) (v : Chip80Value) (answer : AnswerValue80) → IsAt stage v.cart v.state → is_sample stage ≡ false → v.state.next + step ≤ (answered_at stage v.cart v.state answer).next
 late-by Sample v answer at kind = cc
 late-by Access v answer at kind = asked-late v answer at
 late-by Yield v answer at kind = let e = at.1 in omega (arith, e)
 late-by Take v answer at kind = let e = at.1 in omega (arith, e)
 
-pub answered-later : (v : Chip80Value) (answer : AnswerValue80) → IsChip80 v → (next_of v.state).sample ≡ false → v.state.next + 45 ≤ (answered v.cart v.state answer).next
+pub answered-later : (v : Chip80Value) (answer : AnswerValue80) → IsChip80 v → (next_of v.state).sample ≡ false → v.state.next + step ≤ (answered v.cart v.state answer).next
 unfolding answered next_of
 answered-later v answer ok kind = late-by v.state.stage v answer ok.stands kind
 
@@ -267,7 +267,7 @@ pub power_on-ok : (cart : List ℕ) → IsImage cart → IsChip80 (of cart power
 unfolding power_on
 power_on-ok cart image = record {
   image = image;
-  store = record { ram = length-replicate {A = ℕ} 0x2000 0; bank = lit< tt };
+  store = record { ram = length-replicate {A = ℕ} ram_size 0; bank = lit< tt };
   stands = (record { cause = refl; answers = refl }, refl);
 }
 

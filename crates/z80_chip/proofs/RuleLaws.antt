@@ -17,7 +17,7 @@ use Rattle.z80_decode.specs.declared.interrupt_mode.InterruptMode.{InterruptMode
 use Rattle.z80_decode.specs.declared.interrupt_mode.InterruptMode.TheVariants.{Mode0, Mode1, Mode2}
 use Rattle.z80_exec.specs.Sample.Samples.{Ended}
 use Rattle.z80_exec.specs.declared.regs80.Regs80.{Regs80}
-use Rattle.z80_parcel.specs.Parcels.{IsStore, Store}
+use Rattle.z80_parcel.specs.Parcels.{IsStore, Store, banks}
 use Rattle.z80_parcel.specs.Spelling.{store_fields}
 use Rattle.z80_chip.specs.Events.{carried_out, first_step, step}
 use Rattle.z80_chip.specs.Rules.{AreFit, BeganBelow, HasRules, FitsHolder}
@@ -121,7 +121,7 @@ mode_small Mode2 = refl
 store_holds : (store : Option Store) → IfSome store IsStore → AllHold (store_fields true store)
 unfolding AllHold
 store_holds None ok = tt
-store_holds (Some store) ok = (refl, (lt-ltb store.bank 512 ok.bank, tt))
+store_holds (Some store) ok = (refl, (lt-ltb store.bank banks ok.bank, tt))
 
 holding : (at : ℕ) (v : Chip80Value) → IsChip80 v → HasRules v.cart at v.state → at ≤ v.state.next → AllHold (fields_by at true (kept_of v.state))
 unfolding AllHold
@@ -247,7 +247,7 @@ mode_byte Mode0 = omega arith
 mode_byte Mode1 = omega arith
 mode_byte Mode2 = omega arith
 
--- what began below the cycle, or not behind the next event
+-- what began below the cycle, or not after the next event
 start_long : (stage : Stage) (at : ℕ) (cart : List ℕ) (state : State80) → at < 2 ^ 64 → state.next < 2 ^ 64 → IsAt stage cart state → BeganBelow stage at state.start → state.start < 2 ^ 64
 start_long Sample at cart state h next is below = let same = is.1 in omega (arith, same, next)
 start_long Access at cart state h next is below = omega (arith, h, below)

@@ -26,17 +26,18 @@ use Rattle.z80_chip.specs.States.{State80}
 use Rattle.z80_chip.specs.declared.saved.Saved80.{Saved80}
 use Rattle.z80_chip.specs.declared.stage.Stage.{Stage}
 use Rattle.z80_chip.specs.declared.stage.Stage.TheVariants.{Sample, Access, Yield, Take}
+use Rattle.z80_chip.specs.Spelling.{ram_offset}
 use Rattle.z80_chip.proofs.Laws.{of}
 
--- RAM and bank register that stand behind the numbers are the only ones
-same_store : (p q : Bool) (s t : Option Store) (bytes : List ℕ) → Stand 62 (store_fields p s) bytes → Stand 62 (store_fields q t) bytes → s ≡ t
+-- RAM and bank register that follow the numbers are the only ones
+same_store : (p q : Bool) (s t : Option Store) (bytes : List ℕ) → Stand ram_offset (store_fields p s) bytes → Stand ram_offset (store_fields q t) bytes → s ≡ t
 unfolding Stand
 same_store p q None None bytes at other = refl
 same_store p q None (Some t) bytes at other = absurd (omega (arith, at, other.1.1))
 same_store p q (Some s) None bytes at other = absurd (omega (arith, at.1.1, other))
 same_store p q (Some s) (Some t) bytes at other = λ i. Some (record { ram = (at.0 ∙ sym other.0) i; bank = (at.1.0 ∙ sym other.1.0) i })
 
--- the numbers that stand in bytes are the only ones
+-- the numbers in the bytes are the only ones
 pub only_one : (cart : List ℕ) (at : ℕ) (bytes : List ℕ) (s t : Kept80) → Stand 0 (chip_fields cart at s) bytes → Stand 0 (chip_fields cart at t) bytes → s ≡ t
 unfolding Stand
 only_one cart at bytes s t p0 q0 =

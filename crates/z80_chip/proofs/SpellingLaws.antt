@@ -9,10 +9,10 @@ use Rattle.md_fields.specs.Items.{IsRight, Keeps}
 use Rattle.md_fields.specs.Places.{IsBytes, Stand, number_at}
 use Rattle.md_fields.proofs.Items.{kept, same}
 use Rattle.md_fields.proofs.Standing.{long_as, long_as_sized}
-use Rattle.z80_parcel.specs.Parcels.{IsStore, Store}
+use Rattle.z80_parcel.specs.Parcels.{IsStore, Store, banks, ram_size}
 use Rattle.z80_parcel.specs.Spelling.{store_fields}
 use Rattle.z80_chip.specs.Saved.{Kept80, asks_more, chip_fields, fields_by, is_bank_right, kept_of, number_fields, numbers_of, state_from}
-use Rattle.z80_chip.specs.Spelling.{GoesWrongAt, IsLength, IsRead, Spells, chip_bytes, spelled_size, store_at}
+use Rattle.z80_chip.specs.Spelling.{GoesWrongAt, IsLength, IsRead, Spells, bank_offset, chip_bytes, full_size, ram_offset, spelled_size, store_at}
 use Rattle.z80_chip.specs.States.{State80}
 use Rattle.z80_chip.specs.declared.saved.Saved80.{Saved80}
 use Rattle.z80_chip.proofs.SavedLaws.{Rules, kept_back, only_one, rules_of, state_again}
@@ -25,22 +25,22 @@ unfolding sizes
 size_by at holds s None = refl
 size_by at holds s (Some store) = refl
 
-pub number_size : (at : ℕ) (has : Bool) (s : Saved80) → sizes (number_fields at has s) ≡ 62
+pub number_size : (at : ℕ) (has : Bool) (s : Saved80) → sizes (number_fields at has s) ≡ ram_offset
 unfolding sizes
 number_size at has s = refl
 
-pub least : (has : Bool) → 62 ≤ spelled_size has
+pub least : (has : Bool) → ram_offset ≤ spelled_size has
 least true = omega arith
 least false = omega arith
 
-pub most : (has : Bool) → spelled_size has ≤ 8256
+pub most : (has : Bool) → spelled_size has ≤ full_size
 most true = omega arith
 most false = omega arith
 
-pub tail_size : (store : Option Store) → IfSome store IsStore → 62 + length (spelling (store_fields true store)) ≡ spelled_size (is_some store)
+pub tail_size : (store : Option Store) → IfSome store IsStore → ram_offset + length (spelling (store_fields true store)) ≡ spelled_size (is_some store)
 unfolding AreSized sizes spelling
 tail_size None ok = refl
-tail_size (Some store) ok = ap (λ (n : ℕ). 62 + n) (long_as_sized (store_fields true (Some store)) (ok.ram, (tt, tt)))
+tail_size (Some store) ok = ap (λ (n : ℕ). ram_offset + n) (long_as_sized (store_fields true (Some store)) (ok.ram, (tt, tt)))
 
 -- ---- the bytes of a state
 
@@ -53,35 +53,35 @@ whole_bytes at has state =
     ap (λ (l : List ℕ). l ++ spelling (store_fields true state.store)) (same_numbers at 0 has (is_some state.store) (numbers_of state))
     ∙ sym (spelling_append (number_fields 0 (is_some state.store) (numbers_of state)) (store_fields true state.store))
 
--- ---- RAM and bank register as they stand in the bytes
+-- ---- RAM and bank register as they are in the bytes
 
 abbrev there : List ℕ → Store
-there bytes = record { ram = take 0x2000 (drop 62 bytes); bank = number_at w16 8254 bytes }
+there bytes = record { ram = take ram_size (drop ram_offset bytes); bank = number_at w16 bank_offset bytes }
 
-tail_by : (short holds : Bool) (bytes : List ℕ) → (short ≡ true → length bytes ≡ 62) → (short ≡ false → length bytes ≡ 8256)
-    → Stand 62 (store_fields holds (cond short None (Some (there bytes)))) bytes
+tail_by : (short holds : Bool) (bytes : List ℕ) → (short ≡ true → length bytes ≡ ram_offset) → (short ≡ false → length bytes ≡ full_size)
+    → Stand ram_offset (store_fields holds (cond short None (Some (there bytes)))) bytes
 unfolding Stand
 tail_by true holds bytes one other = one refl
 tail_by false holds bytes one other = (refl, (refl, other refl))
 
-long_by : (n : ℕ) → (n ≡ 62) ⊎ (n ≡ 8256) → eqb n 62 ≡ false → n ≡ 8256
-long_by n (inl e) f = absurd (let g : eqb 62 62 ≡ false = subst (λ (m : ℕ). eqb m 62 ≡ false) e f in cc)
+long_by : (n : ℕ) → (n ≡ ram_offset) ⊎ (n ≡ full_size) → eqb n ram_offset ≡ false → n ≡ full_size
+long_by n (inl e) f = absurd (let g : eqb ram_offset ram_offset ≡ false = subst (λ (m : ℕ). eqb m ram_offset ≡ false) e f in cc)
 long_by n (inr e) f = e
 
 pub stands_by : (at : ℕ) (bytes : List ℕ) (s : Saved80) → IsLength bytes
-    → ((at : ℕ) (has : Bool) (rest : List Field) → Stand 62 rest bytes → Stand 0 (number_fields at has s ++ rest) bytes)
+    → ((at : ℕ) (has : Bool) (rest : List Field) → Stand ram_offset rest bytes → Stand 0 (number_fields at has s ++ rest) bytes)
     → (holds : Bool) → Stand 0 (fields_by at holds (record { numbers = s; store = store_at bytes })) bytes
 stands_by at bytes s sized reading holds =
     reading at (is_some (store_at bytes)) (store_fields holds (store_at bytes))
-    (tail_by (eqb (length bytes) 62) holds bytes (λ e. eqb-true (length bytes) 62 e) (λ e. long_by (length bytes) sized e))
+    (tail_by (eqb (length bytes) ram_offset) holds bytes (λ e. eqb-true (length bytes) ram_offset e) (λ e. long_by (length bytes) sized e))
 
 has_by : (short : Bool) (store : Store) → not short ≡ is_some (cond short None (Some store))
 has_by true store = refl
 has_by false store = refl
 
 -- there is RAM where the bytes are not the fewer
-pub has_store : (bytes : List ℕ) → not (eqb (length bytes) 62) ≡ is_some (store_at bytes)
-has_store bytes = has_by (eqb (length bytes) 62) (there bytes)
+pub has_store : (bytes : List ℕ) → not (eqb (length bytes) ram_offset) ≡ is_some (store_at bytes)
+has_store bytes = has_by (eqb (length bytes) ram_offset) (there bytes)
 
 -- ---- refusals
 
@@ -99,7 +99,7 @@ breaks_number cart at bytes s place fits stands e =
     })
 
 wrong_behind : (at : ℕ) (holds : Bool) (s : Saved80) (store : Option Store) → first_wrong 0 (number_fields at (is_some store) s) ≡ None
-    → first_wrong 0 (fields_by at holds (record { numbers = s; store = store })) ≡ first_wrong 62 (store_fields holds store)
+    → first_wrong 0 (fields_by at holds (record { numbers = s; store = store })) ≡ first_wrong ram_offset (store_fields holds store)
 wrong_behind at holds s store e =
     first_append 0 (number_fields at (is_some store) s) (store_fields holds store)
     ∙ ap (λ (f : Option ℕ). or_else f (first_wrong (0 + sizes (number_fields at (is_some store) s)) (store_fields holds store))) e
@@ -110,7 +110,7 @@ asks_none : (cart : List ℕ) (k : Kept80) → is_bank_right k.store ≡ false �
 asks_none cart k e =
     rw (e, and-false (eqb k.numbers.stage 1)) refl
 
-bank_wrong : (holds : Bool) (store : Store) → holds ≡ true → ltb store.bank 512 ≡ false → first_wrong 62 (store_fields holds (Some store)) ≡ Some 8254
+bank_wrong : (holds : Bool) (store : Store) → holds ≡ true → ltb store.bank banks ≡ false → first_wrong ram_offset (store_fields holds (Some store)) ≡ Some bank_offset
 unfolding first_wrong
 bank_wrong true store h e = rw e refl
 bank_wrong false store h e = absurd cc
@@ -119,7 +119,7 @@ bank_wrong false store h e = absurd cc
 pub breaks_bank : (cart : List ℕ) (at : ℕ) (bytes : List ℕ) (s : Saved80) → IsBytes bytes
     → ((holds : Bool) → Stand 0 (fields_by at holds (record { numbers = s; store = store_at bytes })) bytes)
     → first_wrong 0 (number_fields at (is_some (store_at bytes)) s) ≡ None
-    → eqb (length bytes) 62 ≡ false → ltb (number_at w16 8254 bytes) 512 ≡ false → GoesWrongAt cart at bytes 8254
+    → eqb (length bytes) ram_offset ≡ false → ltb (number_at w16 bank_offset bytes) banks ≡ false → GoesWrongAt cart at bytes bank_offset
 breaks_bank cart at bytes s fits stands e long wrong =
     let k : Kept80 = record { numbers = s; store = store_at bytes } in
     let is : store_at bytes ≡ Some (there bytes) = ap (λ (b : Bool). cond b None (Some (there bytes))) long in
@@ -128,20 +128,20 @@ breaks_bank cart at bytes s fits stands e long wrong =
       saved = k;
       keeps = kept (chip_fields cart at) bytes k fits (stands (asks_more cart k));
       first = wrong_behind at (asks_more cart k) s (store_at bytes) e
-          ∙ ap (λ (o : Option Store). first_wrong 62 (store_fields (asks_more cart k) o)) is
+          ∙ ap (λ (o : Option Store). first_wrong ram_offset (store_fields (asks_more cart k) o)) is
           ∙ bank_wrong (asks_more cart k) (there bytes) none wrong;
     })
 
-right_by : (short : Bool) (store : Store) → (short ≡ false → ltb store.bank 512 ≡ true) → first_wrong 62 (store_fields true (cond short None (Some store))) ≡ None
+right_by : (short : Bool) (store : Store) → (short ≡ false → ltb store.bank banks ≡ true) → first_wrong ram_offset (store_fields true (cond short None (Some store))) ≡ None
 unfolding first_wrong
 right_by true store h = refl
 right_by false store h = rw (h refl) refl
 
 -- all rules hold but RAM's
 pub right_numbers : (at : ℕ) (bytes : List ℕ) (s : Saved80) → first_wrong 0 (number_fields at (is_some (store_at bytes)) s) ≡ None
-    → (eqb (length bytes) 62 ≡ false → ltb (number_at w16 8254 bytes) 512 ≡ true)
+    → (eqb (length bytes) ram_offset ≡ false → ltb (number_at w16 bank_offset bytes) banks ≡ true)
     → first_wrong 0 (fields_by at true (record { numbers = s; store = store_at bytes })) ≡ None
-right_numbers at bytes s e h = wrong_behind at true s (store_at bytes) e ∙ right_by (eqb (length bytes) 62) (there bytes) h
+right_numbers at bytes s e h = wrong_behind at true s (store_at bytes) e ∙ right_by (eqb (length bytes) ram_offset) (there bytes) h
 
 -- ---- what is read
 
@@ -151,16 +151,16 @@ read_of bytes s = record { numbers = s; store = store_at bytes }
 pub read_rules : (at : ℕ) (bytes : List ℕ) (s : Saved80) → IsRead at bytes s → Rules at true (read_of bytes s)
 read_rules at bytes s is = rules_of at true (read_of bytes s) is.right
 
-ok_by : (short : Bool) (store : Store) → AllHold (store_fields true (cond short None (Some store))) → (short ≡ false → length store.ram ≡ 0x2000)
+ok_by : (short : Bool) (store : Store) → AllHold (store_fields true (cond short None (Some store))) → (short ≡ false → length store.ram ≡ ram_size)
     → IfSome (cond short None (Some store)) IsStore
 unfolding AllHold
 ok_by true store all ram = tt
-ok_by false store all ram = record { ram = ram refl; bank = ltb-true store.bank 512 all.1.0 }
+ok_by false store all ram = record { ram = ram refl; bank = ltb-true store.bank banks all.1.0 }
 
 pub read_store : (at : ℕ) (bytes : List ℕ) (s : Saved80) → IsRead at bytes s → IfSome (store_at bytes) IsStore
 read_store at bytes s is =
-    ok_by (eqb (length bytes) 62) (there bytes) (read_rules at bytes s is).store
-    (λ short. (let long = long_by (length bytes) is.sized short in omega (arith, length-take 0x2000 (drop 62 bytes), length-drop 62 bytes, long)))
+    ok_by (eqb (length bytes) ram_offset) (there bytes) (read_rules at bytes s is).store
+    (λ short. (let long = long_by (length bytes) is.sized short in omega (arith, length-take ram_size (drop ram_offset bytes), length-drop ram_offset bytes, long)))
 
 pub read_keeps : (cart : List ℕ) (at : ℕ) (bytes : List ℕ) (s : Saved80) → IsBytes bytes → IsRead at bytes s → Keeps (chip_fields cart at) bytes (read_of bytes s)
 read_keeps cart at bytes s fits is = kept (chip_fields cart at) bytes (read_of bytes s) fits (is.stands (asks_more cart (read_of bytes s)))
@@ -169,13 +169,13 @@ pub read_right : (cart : List ℕ) (at : ℕ) (bytes : List ℕ) (s : Saved80) �
 read_right cart at bytes s is asks = subst (λ (b : Bool). first_wrong 0 (fields_by at b (read_of bytes s)) ≡ None) (sym asks) is.right
 
 ram_wrong : (cart : List ℕ) (s : Saved80) (store : Option Store) → asks_more cart (record { numbers = s; store = store }) ≡ false
-    → first_wrong 62 (store_fields (asks_more cart (record { numbers = s; store = store })) store) ≡ Some 62
+    → first_wrong ram_offset (store_fields (asks_more cart (record { numbers = s; store = store })) store) ≡ Some ram_offset
 unfolding first_wrong
 ram_wrong cart s None e = absurd (let t = asks_none cart (record { numbers = s; store = None }) refl in cc)
 ram_wrong cart s (Some store) e = rw e refl
 
 -- RAM's rule fails
-pub breaks_ram : (cart : List ℕ) (at : ℕ) (bytes : List ℕ) (s : Saved80) → IsBytes bytes → IsRead at bytes s → asks_more cart (read_of bytes s) ≡ false → GoesWrongAt cart at bytes 62
+pub breaks_ram : (cart : List ℕ) (at : ℕ) (bytes : List ℕ) (s : Saved80) → IsBytes bytes → IsRead at bytes s → asks_more cart (read_of bytes s) ≡ false → GoesWrongAt cart at bytes ram_offset
 breaks_ram cart at bytes s fits is asks =
     let k : Kept80 = read_of bytes s in
     let parts = none_of 0 (number_fields at (is_some k.store) s) (store_fields true k.store) is.right in
@@ -204,7 +204,7 @@ pub no_other : (cart : List ℕ) (at : ℕ) (bytes : List ℕ) (k : Kept80) (sta
 no_other cart at bytes k state keeps p =
     ap (λ (x : Kept80). state_from x.numbers x.store) (same (chip_fields cart at) bytes (only_one cart at bytes) k (kept_of state) keeps p.keeps) ∙ state_again state
 
-no_length : (n : ℕ) (has : Bool) → n ≡ spelled_size has → (n ≡ 62 → ⊥) → (n ≡ 8256 → ⊥) → ⊥
+no_length : (n : ℕ) (has : Bool) → n ≡ spelled_size has → (n ≡ ram_offset → ⊥) → (n ≡ full_size → ⊥) → ⊥
 no_length n true e short long = long e
 no_length n false e short long = short e
 

@@ -1,4 +1,4 @@
--- What a step comes to, by whether it ended.
+-- What a step results in, by whether it ended.
 use Rattle.std.proofs.Common.{◌≡◌, ℕ, Some, None, Result, Ok, Err, refl, ap}
 use Rattle.md_word.specs.declared.sub_bus.Request80.{Request80}
 use Rattle.z80_exec.specs.Sample.Samples.{Ended}

@@ -1,6 +1,7 @@
 -- What an event of the Z80 leaves, and what it asks for. Cycles are master cycles, of which a clock
 -- has 15. Zilog UM0080, "CPU Timing"; the places of events are this project's profile.
 use Rattle.std.specs.Prelude.{◌≡◌, IsSome, ℕ, zero, suc, ◌+◌, ◌-◌, ◌*◌, ◌/◌, ◌%◌, ◌<◌, ◌≤◌, min, List, [], ◌∷◌, ◌++◌, length, Option, Some, None, option_map, unwrap_or, Result, Ok, Err}
+use Rattle.md_word.specs.Clock.{sub_clock, sub_gap}
 use Rattle.md_word.specs.declared.pins.Pins80.{Pins80}
 use Rattle.md_word.specs.declared.sub_bus.Request80.{Request80}
 use Rattle.z80_exec.specs.Access.Actions.{Done}
@@ -24,13 +25,13 @@ first_step = 60
 
 -- from one access to the next; also the time for which a Z80 waits that is in reset or has no RAM
 abbrev pub step : ℕ
-step = 45
+step = sub_gap
 
 -- RAM and bank register; where the Z80 has none, any
 abbrev pub held : Option Store → Store
 held store = unwrap_or store (parcels.first)
 
--- what the sample of this cause comes to with the answers so far
+-- what the sample of this cause results in with the answers so far
 abbrev pub carried_out : List ℕ → State80 → ℕ → Result Ended Request80
 carried_out cart state cause =
     sampled cause state.regs (record { rom = cart; ram = (held state.store).ram; bank = (held state.store).bank; answers = state.answers })
@@ -68,12 +69,12 @@ left_by state ended = record state {
 
 -- after a sample whose accesses are all answered: what it left, at the next sample
 abbrev pub finished : State80 → Ended → State80
-finished state ended = at_sample (left_by state ended) (state.start + 15 * ended.t)
+finished state ended = at_sample (left_by state ended) (state.start + sub_clock * ended.t)
 
 -- the same but for the registers, RAM and bank register, which are left elsewhere
 abbrev pub ended_at : State80 → Finish80 → State80
 ended_at state finish =
-    at_sample (record state { halted = finish.halted; after_ei = finish.after_ei; cause = 0; answers = [] }) (state.start + 15 * finish.t)
+    at_sample (record state { halted = finish.halted; after_ei = finish.after_ei; cause = 0; answers = [] }) (state.start + sub_clock * finish.t)
 
 -- after what was carried out: at its end, or at the access that waits
 abbrev pub came_to : State80 → ℕ → Result Ended Request80 → State80
@@ -85,7 +86,7 @@ abbrev pub ended_in : Result Ended Request80 → Option Ended
 ended_in (Ok ended) = Some ended
 ended_in (Err request) = None
 
--- what a finish tells, with the registers and what was done then
+-- what a finish reports, with the registers and what was done then
 abbrev pub ended_by : Option Finish80 → Regs80 → Done → Option Ended
 ended_by None regs done = None
 ended_by (Some finish) regs done = Some (record {
@@ -97,7 +98,7 @@ ended_by (Some finish) regs done = Some (record {
   after_ei = finish.after_ei;
 })
 
--- it goes on with what it carries out, as far as the answers go
+-- it continues what it carries out, as far as the answers go
 unfoldable pub went_on : List ℕ → State80 → ℕ → State80
 went_on cart state cause = came_to state cause (carried_out cart state cause)
 
@@ -132,12 +133,15 @@ pub record WentAhead (samples cycle : ℕ) (cart : List ℕ) (pins : Pins80) (be
   pub below : (k : ℕ) → 1 ≤ k → k < samples → (begun_after k cart before pins).next < cycle
   pub is : after ≡ begun_after samples cart before pins
 
--- after a yield or a take: the Z80 has what the answer gives back, and samples 105 cycles after it
--- saw the request change
-abbrev pub moved : State80 → AnswerValue80 → State80
-moved state answer = at_sample (record state { store = store_in answer }) (state.start + 105)
+-- from the sample that saw the request change to the sample after it
+abbrev pub move_step : ℕ
+move_step = 105
 
--- it goes on with one answer more
+-- after a yield or a take: the Z80 has what the answer gives back, and samples
+abbrev pub moved : State80 → AnswerValue80 → State80
+moved state answer = at_sample (record state { store = store_in answer }) (state.start + move_step)
+
+-- it continues with one answer more
 abbrev pub went_on_with : List ℕ → State80 → ℕ → State80
 went_on_with cart state value = went_on cart (record state { answers = state.answers ++ value ∷ [] }) state.cause
 

@@ -11,7 +11,7 @@ use Rattle.z80_decode.specs.declared.interrupt_mode.InterruptMode.{InterruptMode
 use Rattle.z80_decode.specs.declared.interrupt_mode.InterruptMode.TheVariants.{Mode0, Mode1, Mode2}
 use Rattle.z80_exec.specs.declared.regs80.Regs80.{Regs80}
 use Rattle.z80_exec.specs.Sample.Samples.{Ended}
-use Rattle.z80_parcel.specs.Parcels.{Store}
+use Rattle.z80_parcel.specs.Parcels.{Store, banks}
 use Rattle.z80_parcel.specs.Spelling.{store_fields}
 use Rattle.z80_chip.specs.Events.{carried_out, first_step, step}
 use Rattle.z80_chip.specs.States.{State80}
@@ -182,15 +182,15 @@ is_waiting cart state =
 -- the Z80 has a bank register, of nine bits
 abbrev pub is_bank_right : Option Store → Bool
 is_bank_right None = false
-is_bank_right (Some store) = nat_lt store.bank 512
+is_bank_right (Some store) = nat_lt store.bank banks
 
 -- at an access, over a bank register of nine bits
 abbrev pub asks_more : List ℕ → Kept80 → Bool
 asks_more cart k =
     if (k.numbers.stage == 1) && is_bank_right k.store then is_waiting cart (state_from k.numbers k.store) else true
 
--- the fields in their order, and their rules; the last stands for whether RAM and bank register
--- follow, which the number of bytes tells
+-- the fields in their order, and their rules; the last is whether RAM and bank register
+-- follow, which the number of bytes shows
 abbrev pub number_fields : ℕ → Bool → Saved80 → List Field
 number_fields at has s =
     quad s.next (is_soon s.next at)
@@ -226,6 +226,6 @@ number_fields at has s =
 abbrev pub fields_by : ℕ → Bool → Kept80 → List Field
 fields_by at holds k = number_fields at (is_some k.store) k.numbers ++ store_fields holds k.store
 
--- what stands in a saved state, by the cartridge's image and the cycle of the state
+-- the fields in a saved state, by the cartridge's image and the cycle of the state
 abbrev pub chip_fields : List ℕ → ℕ → Kept80 → List Field
 chip_fields cart at k = fields_by at (asks_more cart k) k

@@ -4,15 +4,27 @@ use Rattle.std.specs.Int.{w16}
 use Rattle.md_fields.specs.Fields.{first_wrong, spelling}
 use Rattle.md_fields.specs.Items.{Breaks, IsRight, Keeps}
 use Rattle.md_fields.specs.Places.{Stand, number_at}
-use Rattle.z80_parcel.specs.Parcels.{Store}
+use Rattle.z80_parcel.specs.Parcels.{Store, ram_size}
 use Rattle.z80_chip.specs.Saved.{chip_fields, fields_by, kept_of}
 use Rattle.z80_chip.specs.States.{State80}
 use Rattle.z80_chip.specs.declared.saved.Saved80.{Saved80}
 
--- how many bytes there are without RAM and bank register, and with them
+-- how many bytes there are without RAM and bank register; else RAM begins there
+abbrev pub ram_offset : ℕ
+ram_offset = 62
+
+-- where the bank register is
+abbrev pub bank_offset : ℕ
+bank_offset = 8254
+
+-- how many bytes there are with RAM and bank register
+abbrev pub full_size : ℕ
+full_size = 8256
+
+-- how many bytes there are, by whether RAM and bank register follow
 abbrev pub spelled_size : Bool → ℕ
-spelled_size false = 62
-spelled_size true = 8256
+spelled_size false = ram_offset
+spelled_size true = full_size
 
 -- the bytes that keep a state; the rules, and so the cartridge and the cycle, have no part in them
 abbrev pub chip_bytes : State80 → List ℕ
@@ -25,21 +37,21 @@ pub record Spells (cart : List ℕ) (at : ℕ) (bytes : List ℕ) (state : State
 
 -- as many bytes as there can be
 abbrev pub IsLength : List ℕ → Type 0
-IsLength bytes = (length bytes ≡ 62) ⊎ (length bytes ≡ 8256)
+IsLength bytes = (length bytes ≡ ram_offset) ⊎ (length bytes ≡ full_size)
 
--- bytes that keep no Z80 are refused at this place: by their length, or by the first rule that fails.
--- Of a wrong length the lesser one is the place, where more than 62 bytes are to be 8,256
+-- bytes that keep no Z80 are refused at this offset: by their length, or by the first rule that fails.
+-- Of a wrong length the lesser one is the offset, where more than 62 bytes are to be 8,256
 abbrev pub GoesWrongAt : List ℕ → ℕ → List ℕ → ℕ → Type 0
 GoesWrongAt cart at bytes place =
-    ((length bytes ≢ 62) × (length bytes ≢ 8256) × (place ≡ min (length bytes) 8256)) ⊎ Breaks (chip_fields cart at) bytes place
+    ((length bytes ≢ ram_offset) × (length bytes ≢ full_size) × (place ≡ min (length bytes) full_size)) ⊎ Breaks (chip_fields cart at) bytes place
 
--- RAM and bank register as they stand in the bytes
+-- RAM and bank register as they are in the bytes
 abbrev pub store_at : List ℕ → Option Store
 store_at bytes =
-    if length bytes == 62 then None
-    else Some (record { ram = take 0x2000 (drop 62 bytes); bank = number_at w16 8254 bytes })
+    if length bytes == ram_offset then None
+    else Some (record { ram = take ram_size (drop ram_offset bytes); bank = number_at w16 bank_offset bytes })
 
--- the numbers that stand in the bytes, whose rules hold, RAM's set aside
+-- the numbers in the bytes, whose rules hold, RAM's set aside
 pub record IsRead (at : ℕ) (bytes : List ℕ) (numbers : Saved80) : Type 0 where
   pub sized : IsLength bytes
   pub stands : (holds : Bool) → Stand 0 (fields_by at holds (record { numbers = numbers; store = store_at bytes })) bytes

@@ -4,13 +4,13 @@ ghost use Rattle.md_word.specs.declared.sub_bus.Request80.TheVariants as request
 use md_word::Request80;
 use z80_exec::Foreseen80;
 
-/// A write that waits for its answer, where what comes behind it is known.
+/// A write that waits for its answer, where what follows it is predicted.
 #[derive(Clone, Copy)]
 pub struct Behind {
     /// The address of the write, and the byte.
     pub address: u16,
     pub value: u8,
-    /// What comes behind it.
+    /// What follows it.
     pub end: Foreseen80,
 }
 

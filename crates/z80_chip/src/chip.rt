@@ -1,4 +1,5 @@
-ghost use Rattle.std.specs.Prelude.{◌≡◌, ◌+◌, ◌^◌, ◌<◌, ◌≤◌, ◌↔◌, true, false, IfOk, IsTrue};
+ghost use Rattle.std.specs.Prelude.{◌≡◌, ◌+◌, ◌<◌, ◌≤◌, ◌↔◌, true, false, IfOk, IsTrue};
+ghost use Rattle.md_word.specs.Clock.{cycle_limit};
 
 use crate::sequencer::Sequencer;
 use crate::stage::Stage;
@@ -10,8 +11,8 @@ use std::sync::Arc;
 use z80_exec::{DecodeCache80, Progress80};
 use z80_parcel::first;
 
-/// The Z80, with the cartridge, and with its RAM and bank register where it has them. It stands at
-/// its next event, and what it does without other chips belongs to the event before. Cycles are
+/// The Z80, with the cartridge, and with its RAM and bank register where it has them. It is
+/// always at its next event; what it does without other chips belongs to the event before. Cycles are
 /// master cycles, 15 a clock. Source: Zilog UM0080; the places of events and the bus request are this
 /// project's profile.
 #[derive(Drop)]
@@ -45,8 +46,8 @@ impl Chip80 {
     ghost use Rattle.z80_parcel.specs.Requests.{Fits, request_value80_of, answer_value80_of};
     ghost use Rattle.z80_chip.specs.States.{next_of, power_on};
 
-    /// The Z80 at power-on: its next event is a sample at cycle 0, and all is 0. It has its RAM. It is
-    /// refused where there is no memory for it.
+    /// The Z80 at power-on: its next event is a sample at cycle 0, and all is 0. It has its RAM. It
+    /// fails only where there is no memory for it.
     pub fn power_on(alloc: Global, cart: Arc<Cart>) -> Result<Chip80, NoMemory>
         ensures { IfOk result (λ chip. chip ≡ record { cart = arc_value cart; state = power_on }) }
     {
@@ -78,7 +79,7 @@ impl Chip80 {
     }
 
     /// The request of the access that is the next event: a read or a write, to hand its RAM over, or to
-    /// take it back. What a yield hands over the Z80 has no longer.
+    /// take it back. The Z80 no longer has what a yield hands over.
     pub fn request(&mut self) -> Request80
         requires { (next_of self.old.state).sample ≡ false }
         ensures request { request_value80_of result ≡ asked_of self.old.cart self.old.state }
@@ -88,12 +89,12 @@ impl Chip80 {
             .request(&self.cart, &mut self.parcel, &mut self.progress)
     }
 
-    /// Takes the answer to the access that is the next event, and goes on to the event after it. RAM
+    /// Takes the answer to the access that is the next event, and continues to the event after it. RAM
     /// and the bank register are written once all accesses of an instruction are answered, and not
     /// before. After a yield or a take the Z80 has what the answer gives back.
     pub fn answer(&mut self, answer: Answer80)
         requires asking { (next_of self.old.state).sample ≡ false }
-        requires far { self.old.state.next < 2 ^ 50 }
+        requires far { self.old.state.next < cycle_limit }
         requires fits { Fits (asked_of self.old.cart self.old.state) (answer_value80_of answer) }
         ensures { self.new ≡ record self.old { state = answered self.old.cart self.old.state (answer_value80_of answer) } }
     {
@@ -106,14 +107,13 @@ impl Chip80 {
         );
     }
 
-    /// Takes the sample that is the next event, and goes on to the event after it. First it looks at the
-    /// reset. Then it hands its RAM over where the bus is requested, takes it back where that is
-    /// over, does nothing where it has no RAM, is in reset or is halted, takes the interrupt, or
-    /// carries out the instruction at the program counter, up to the first shared access if there is
-    /// one.
+    /// Takes the sample that is the next event, and continues to the event after it. First it looks at
+    /// the reset. Then it hands its RAM over where the bus is requested, or takes it back where that is
+    /// over. It does nothing where it has no RAM, is in reset or is halted. Else it takes the interrupt
+    /// or carries out the instruction at the program counter, up to the first shared access if any.
     pub fn sample(&mut self, pins: Pins80)
         requires sampling { (next_of self.old.state).sample ≡ true }
-        requires far { self.old.state.next < 2 ^ 50 }
+        requires far { self.old.state.next < cycle_limit }
         ensures { self.new ≡ record self.old { state = begun self.old.cart self.old.state pins } }
     {
         self.sequencer.begin(
@@ -129,8 +129,8 @@ impl Chip80 {
     /// below cycle `end`, up to the first access; answers how many that were.
     pub fn sample_ahead(&mut self, pins: &Pins80, end: u64) -> u64
         requires sampling { (next_of self.old.state).sample ≡ true }
-        requires far { self.old.state.next < 2 ^ 50 }
-        requires end { end ≤ 2 ^ 50 }
+        requires far { self.old.state.next < cycle_limit }
+        requires end { end ≤ cycle_limit }
         ensures state { WentAhead result end self.old.cart pins.now self.old.state self.new.state }
         ensures all { is_rest (case_of self.old.state pins.now) ≡ true → end ≤ self.new.state.next }
         ensures cart { self.new.cart ≡ self.old.cart }
@@ -147,10 +147,10 @@ impl Chip80 {
     /// pins below cycle `end` too; answers how many that were.
     fn rest_ahead(&mut self, pins: &Pins80, end: u64) -> u64
         requires sampling { (next_of self.old.state).sample ≡ true }
-        requires far { self.old.state.next < 2 ^ 50 }
-        requires end { end ≤ 2 ^ 50 }
+        requires far { self.old.state.next < cycle_limit }
+        requires end { end ≤ cycle_limit }
         ensures state { WentAhead result end self.old.cart pins.now self.old.state self.new.state }
-        ensures few { result ≤ 2 ^ 50 + 1 }
+        ensures few { result ≤ cycle_limit + 1 }
         ensures all { is_rest (case_of self.old.state pins.now) ≡ true → end ≤ self.new.state.next }
         ensures cart { self.new.cart ≡ self.old.cart }
     {

@@ -2,12 +2,16 @@
 //! what other chips share, or the handing over of its RAM.
 #![tactic(auto)]
 
+mod accesses;
 mod behind;
 mod case;
 mod chip;
+mod execution;
 mod known;
 mod need;
+mod numbers;
 mod resuming;
+mod samples;
 mod saved;
 mod sequencer;
 mod spelling;

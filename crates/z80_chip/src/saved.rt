@@ -1,6 +1,5 @@
-ghost use Rattle.std.specs.Prelude.{◌≡◌, ◌+◌, ◌≤◌, ◌++◌, ℕ, Bool, List, Option, Some, false, true, length, map, option_map, take, drop};
+ghost use Rattle.std.specs.Prelude.{◌≡◌, ◌+◌, ◌≤◌, ◌++◌, ℕ, Bool, List, Option, Some, false, true, length, map, option_map};
 ghost use Rattle.md_fields.specs.Fields.{AreSized, Field as Entry, seen};
-ghost use Rattle.md_fields.specs.Padding as padding;
 ghost use Rattle.md_fields.specs.Places.{Stand};
 ghost use Rattle.md_word.specs.declared.sub_bus.Parcel.{Parcel as Held};
 ghost use Rattle.z80_chip.specs.Saved as rules;
@@ -8,17 +7,13 @@ ghost use Rattle.z80_chip.specs.States.{state_of};
 ghost use Rattle.z80_parcel.specs.Parcels.{store_of};
 
 use crate::behind::Behind;
+use crate::numbers::{ACCESS, four_at, mode_number, mode_of, padded, stage_number, stage_of};
 use crate::resuming::first_answers;
 use crate::sequencer::{FIRST_STEP, STEP, Sequencer};
-use crate::stage::Stage;
 use md_fields::{Field, are_zeros, is_after, is_soon, u8_at, u16_at, u64_at};
 use md_word::Parcel;
 use rom_header::Cart;
-use z80_decode::InterruptMode;
 use z80_exec::Regs80;
-
-/// The stage of an access.
-const ACCESS: u8 = 1;
 
 /// The numbers that a saved state keeps of the Z80, whatever they are, in their order. Cycles are
 /// master cycles.
@@ -90,7 +85,7 @@ impl Saved80 {
         }
     }
 
-    /// The numbers that stand in the bytes.
+    /// The numbers in the bytes, big-endian.
     #[tactic(auto, unfolding(md_fields::specs::Places::Stand))]
     pub fn read(bytes: &[u8]) -> Saved80
         requires { 62 ≤ length bytes.now }
@@ -259,66 +254,4 @@ impl Saved80 {
             Some(parcel) => self.stage != ACCESS || self.sequencer().is_waiting(cart, parcel),
         }
     }
-}
-
-fn stage_number(stage: Stage) -> u8
-    ensures { result ≡ rules.stage_number stage }
-{
-    match stage {
-        Stage::Sample => 0,
-        Stage::Access => ACCESS,
-        Stage::Yield => 2,
-        Stage::Take => 3,
-    }
-}
-
-fn stage_of(number: u8) -> Stage
-    ensures { result ≡ rules.stage_of number }
-{
-    match number {
-        0 => Stage::Sample,
-        1 => Stage::Access,
-        2 => Stage::Yield,
-        _ => Stage::Take,
-    }
-}
-
-fn mode_number(mode: InterruptMode) -> u8
-    ensures { result ≡ rules.mode_number mode }
-{
-    match mode {
-        InterruptMode::Mode0 => 0,
-        InterruptMode::Mode1 => 1,
-        InterruptMode::Mode2 => 2,
-    }
-}
-
-fn mode_of(number: u8) -> InterruptMode
-    ensures { result ≡ rules.mode_of number }
-{
-    match number {
-        0 => InterruptMode::Mode0,
-        1 => InterruptMode::Mode1,
-        _ => InterruptMode::Mode2,
-    }
-}
-
-/// The answers, and 0 in the places that are not used.
-fn padded(answers: &[u8]) -> [u8; 4]
-    requires { length answers.now ≤ 4 }
-    ensures { result ≡ padding.padded 4 answers.now }
-{
-    let mut all = [0; 4];
-    all[..answers.len()].copy_from_slice(answers);
-    all
-}
-
-/// Four bytes from a place on.
-fn four_at(bytes: &[u8], place: usize) -> [u8; 4]
-    requires { place + 4 ≤ length bytes.now }
-    ensures { result ≡ take 4 (drop place bytes.now) }
-{
-    let mut four = [0; 4];
-    four.copy_from_slice(&bytes[place..place + 4]);
-    four
 }

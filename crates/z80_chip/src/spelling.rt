@@ -15,10 +15,10 @@ use std::sync::Arc;
 use z80_exec::{DecodeCache80, Progress80};
 use z80_parcel::{BANKS, parcel_of, put_store};
 
-/// How many bytes of a saved state keep a Z80 without its RAM, and where its RAM stands else.
+/// How many bytes of a saved state keep a Z80 without its RAM; else the offset of its RAM.
 const RAM: usize = 62;
 
-/// Where the bank register stands.
+/// The offset of the bank register.
 const BANK: usize = 8_254;
 
 /// How many bytes keep a Z80 with its RAM.
@@ -29,7 +29,7 @@ impl Chip80 {
 
     /// Appends the bytes of a saved state that keep this Z80: 62, and where it has its RAM, this and
     /// the bank register, 8,256 in all. There is room for them. They are read again where no event
-    /// stands below the cycle, and the rules hold there.
+    /// is below the cycle, and the rules hold there.
     pub fn spell(&self, at: u64, into: &mut Vec<u8>)
         requires { vec_len into.old + spelled_size (is_some self.now.state.store) ≤ vec_capacity into.old }
         ensures bytes { into.new.items ≡ into.old.items ++ chip_bytes self.now.state }
@@ -45,8 +45,8 @@ impl Chip80 {
         put_store(&self.parcel, into);
     }
 
-    /// Tells that the bytes of this Z80 are read again, where no event stands below a cycle and the rules hold
-    /// there.
+    /// Ensures that the bytes of this Z80 are read again, where no event is below a cycle and the rules
+    /// hold there.
     pub fn is_read_again(&self)
         ensures { (at : ℕ) → at ≤ self.now.state.next → HasRules self.now.cart at self.now.state → Spells self.now.cart at (chip_bytes self.now.state) self.now.state }
     {
@@ -56,11 +56,12 @@ impl Chip80 {
         let _ = &self.parcel;
     }
 
-    /// The Z80 that the bytes of a saved state at a cycle keep, over its cartridge. Bytes that are
-    /// neither 62 nor 8,256 are refused at the lesser of their number and 8,256, others at the place of
-    /// the first field whose rule fails. An access and a yield without RAM, a take with it, and an
-    /// access of what does not ask for one more answer are refused at 62, where RAM begins. RAM is
-    /// copied.
+    /// The Z80 that the bytes of a saved state at a cycle keep, over its cartridge. RAM is copied.
+    /// `Rule` has the offset of the first byte that is invalid. Bytes that are neither 62 nor 8,256
+    /// are refused at the lesser of their number and 8,256, others at the first field whose rule
+    /// fails. An access and a yield without RAM are refused at 62, where RAM begins; so are a take
+    /// with it, and an access that does not ask for one more answer. `NoMemory` comes only where
+    /// there is no memory for RAM or for the cache of decoded instructions.
     pub fn unspell(alloc: Global, bytes: &[u8], at: u64, cart: Arc<Cart>) -> Result<Chip80, Unspell>
         ensures found { IfOk result (λ chip. (chip.cart ≡ arc_value cart) × Spells (arc_value cart) at bytes.now chip.state) }
         ensures recent { IfOk result (λ chip. HasRules (arc_value cart) at chip.state) }
@@ -94,8 +95,8 @@ impl Chip80 {
     }
 }
 
-/// The numbers that the bytes keep, where all rules hold but that of RAM, which is not looked at;
-/// else the place of the refusal.
+/// The numbers that the bytes keep, where all rules hold but that of RAM, which is not looked at.
+/// The error is the offset at which the bytes are refused.
 fn checked(bytes: &[u8], at: u64) -> Result<Saved80, usize>
     ensures found { IfOk result (λ saved. IsRead at bytes.now saved) }
     ensures refused { IfErr result (λ place. (cart : List ℕ) → GoesWrongAt cart at bytes.now place) }
@@ -114,7 +115,8 @@ fn checked(bytes: &[u8], at: u64) -> Result<Saved80, usize>
     Ok(saved)
 }
 
-/// RAM and bank register as they stand in the bytes, where they do.
+/// RAM and bank register as they are in the bytes; None where the bytes have neither. It fails
+/// where there is no memory for RAM.
 fn parcel_at(alloc: Global, bytes: &[u8]) -> Result<Option<Parcel>, NoMemory>
     requires length { IsLength bytes.now }
     requires nine { IfSome (store_at bytes.now) IsStore }

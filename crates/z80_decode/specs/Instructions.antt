@@ -24,8 +24,8 @@ lines_of Extended = extended_lines
 lines_of Indexed = indexed_lines
 lines_of IndexedBits = indexed_bit_lines
 
--- where an instruction is looked up: the page, the opcode with what stands around it, and how many
--- bytes stand before its operands, or hold a displacement before its opcode
+-- where an instruction is looked up: the page, the opcode with its context, and how many
+-- bytes are before its operands, or hold a displacement before its opcode
 pub record OpcodeEntry : Type 0 where
   pub page : Page
   pub code : Code
@@ -37,7 +37,7 @@ abbrev pub entry : Page → ℕ → Index → ℕ → ℕ → ℕ → OpcodeEntr
 entry page before index opcode first second =
     record { page = page; code = record { index = index; opcode = opcode; first = first; second = second }; before = before }
 
--- after DD or FD; after DD CB and FD CB the displacement stands before the opcode
+-- after DD or FD; after DD CB and FD CB the displacement is before the opcode
 abbrev pub prefixed : Index → ℕ → ℕ → ℕ → OpcodeEntry
 prefixed index b1 b2 b3 =
     if b1 == 0xcb then entry IndexedBits 4 index b3 b2 0 else
@@ -56,7 +56,7 @@ entry_of b0 b1 b2 b3 =
 unfoldable pub rows_of : OpcodeEntry → List TableLine
 rows_of e = matching (lines_of e.page) e.code.opcode
 
--- where an opcode matches no line: after DD and FD the prefix stands alone, and after ED the opcode
+-- where an opcode matches no line: after DD and FD the prefix is alone, and after ED the opcode
 -- is none
 abbrev pub unmatched : Page → Code → Decoded80
 unmatched Indexed code = record { op = ops.LonePrefix code.index; length = 1 }

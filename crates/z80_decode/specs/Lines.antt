@@ -2,7 +2,8 @@
 -- what it allows, the bytes of operands that follow it, and the operation.
 -- Zilog UM0080, "Z80 Instruction Description", in the order of its groups; for the halves of IX and
 -- IY, SLL, and DD CB and FD CB with a register's code, this project's profile.
-use Rattle.std.specs.Prelude.{ℕ, Bool, true, not, List, [], ◌∷◌, ◌+◌, ◌*◌, ◌==◌, ◌&&◌, ◌||◌, nat_le, if◌then◌else◌, filter, codes, bit_and}
+use Rattle.std.specs.Prelude.{ℕ, Bool, not, List, [], ◌∷◌, ◌+◌, ◌*◌, ◌==◌, ◌&&◌, ◌||◌, filter, codes, bit_and}
+use Rattle.md_word.specs.Patterns.{all, bits_of, mask_of}
 use Rattle.md_word.specs.declared.task80.Task80.TheVariants as tasks
 use Rattle.z80_decode.specs.declared.block.Block.TheVariants as blocks
 use Rattle.z80_decode.specs.declared.condition.Condition.TheVariants.{NonZero, Zero, NonCarry, Carry}
@@ -17,7 +18,7 @@ use Rattle.z80_decode.specs.declared.place8.Place8.TheVariants as places
 use Rattle.z80_decode.specs.declared.special.Special.TheVariants.{Interrupt, Refresh}
 use Rattle.z80_decode.specs.Fields.{upper, lower, paired, word, memory_of, register_of, place_of, pair_of, stacked_of, condition_of, bit_of}
 
--- an opcode with what stands around it: the register that HL is, and the two bytes of operands. The
+-- an opcode with its context: the register that HL is, and the two bytes of operands. The
 -- first is the displacement where HL is an index register
 pub record Code : Type 0 where
   pub index : Index
@@ -33,25 +34,10 @@ pub record TableLine : Type 0 where
   pub operands : ℕ
   pub op : Code → Op80
 
--- the bits that a pattern fixes: as text, 0 and 1 stand for themselves, a letter for any bit, a
--- blank for nothing
-abbrev pub mask_of : List ℕ → ℕ → ℕ
-mask_of [] so_far = so_far
-mask_of (c ∷ cs) so_far = mask_of cs (if c == 32 then so_far else (if nat_le c 49 then (so_far * 2 + 1) else (so_far * 2)))
-
--- what a pattern fixes them to; every other bit is 0
-abbrev pub bits_of : List ℕ → ℕ → ℕ
-bits_of [] so_far = so_far
-bits_of (c ∷ cs) so_far = bits_of cs (if c == 32 then so_far else (if c == 49 then (so_far * 2 + 1) else (so_far * 2)))
-
 -- a line whose pattern is text, with so many bytes of operands
 abbrev pub line : List ℕ → (ℕ → Bool) → ℕ → (Code → Op80) → TableLine
 line pattern allowed operands op =
     record { mask = mask_of pattern 0; bits = bits_of pattern 0; allowed = allowed; operands = operands; op = op }
-
--- what is allowed of an opcode: all of it
-abbrev pub all : ℕ → Bool
-all w = true
 
 -- a register in bits 5 to 3, not (HL)
 abbrev pub upper_register : ℕ → Bool

@@ -179,7 +179,7 @@ control index w first second =
     if lower w == 6 then plain 1 (ops.Arithmetic (arithmetic (upper w)) (places.Number first)) else
     plain 0 (ops.Restart (8 * upper w))
 
--- an opcode that no CB or ED stands before, by bits 7 and 6
+-- an opcode without CB or ED before it, by bits 7 and 6
 unfoldable pub by_opcode : Index → ℕ → ℕ → ℕ → Decoded80
 by_opcode index w first second =
     if w / 64 == 0 then low_group index w first second else

@@ -1,4 +1,6 @@
 /// How a block instruction steps through memory, and whether it repeats: I, D, IR, DR.
+///
+/// Source: Zilog UM0080, "Exchange, Block Transfer, and Search Group".
 #[derive(Clone, Copy)]
 pub enum Block {
     /// One step up.

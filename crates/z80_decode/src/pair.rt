@@ -1,4 +1,4 @@
-/// A register of 16 bits.
+/// A register of 16 bits. Source: Zilog UM0080, "CPU Register".
 #[derive(Clone, Copy)]
 pub enum Pair {
     Bc,

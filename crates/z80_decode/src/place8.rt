@@ -1,4 +1,7 @@
-/// Where an operand of 8 bits stands: a register, a byte of memory, or the instruction itself.
+/// The place of an operand of 8 bits: a register, a byte of memory, or the instruction itself.
+///
+/// Source: Zilog UM0080, "Z80 Instruction Description"; the halves of IX and IY are this project's
+/// profile.
 #[derive(Clone, Copy)]
 pub enum Place8 {
     A,

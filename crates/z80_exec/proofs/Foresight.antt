@@ -1,4 +1,4 @@
--- What comes behind a write that waits for its answer.
+-- What follows a write that waits for its answer.
 use Rattle.std.proofs.Common.{◌≡◌, ℕ, ◌+◌, ◌≤◌, ◌∙◌, true, false, nat_lt, List, [], ◌∷◌, length, length-append, slice_index, Result, Ok, Err, refl, sym, ap, arith}
 use Rattle.std.proofs.lemmas.Bool.Decides.{nat_tests}
 use Rattle.std.proofs.lemmas.List.{get_or_append_left}
@@ -25,7 +25,7 @@ use Rattle.z80_exec.specs.declared.sample.step.Step80.TheVariants as steps
 use Rattle.z80_exec.proofs.Bounds.Accesses.{answered}
 use Rattle.z80_exec.proofs.Bounds.Rows as rows
 
--- where nothing is known nothing is foreseen
+-- where nothing is known nothing is predicted
 pub nothing_foreseen : {A : Type 0} (result : Result A Waiting) (foreseen : Foreseen80) (act : Act Outcome) (memory : Memory) (done : Done) → foreseen.known ≡ false → Foresees result foreseen act memory done
 nothing_foreseen (Ok x) foreseen act memory done none = none
 nothing_foreseen (Err waiting) foreseen act memory done none = λ known. absurd (let no_way = sym none ∙ known in cc)

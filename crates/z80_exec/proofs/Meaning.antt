@@ -19,6 +19,7 @@ use Rattle.z80_exec.specs.Access.Parts as parts
 use Rattle.z80_exec.specs.Access.Parts.{down}
 use Rattle.z80_exec.specs.Laws.{PopsWhatWasPushed}
 use Rattle.z80_parcel.proofs.Writes.{ram_fits}
+use Rattle.z80_parcel.specs.Parcels.{ram_size}
 use Rattle.z80_exec.specs.Rows.Calls as calls
 use Rattle.z80_exec.specs.Rows.Control as control
 use Rattle.z80_exec.specs.Sample.Entries as entries
@@ -103,9 +104,9 @@ unfolding operands.pop actions.read_word
 popped_again regs at memory done low high h k lower upper =
     rw (ram_read at memory done h, ram_read (next at) memory done k, lower, upper) refl
 
-back : (value : ℕ) (regs other : Regs80) (memory : Memory) (before : Done) → value < 2 ^ 16 → regs.sp < 2 ^ 16 → IsTrue (is_ram (down regs.sp)) → IsTrue (is_ram (down (down regs.sp))) → length memory.ram ≡ 0x2000 → operands.pop (record other { sp = down (down regs.sp) }) memory (two_of value regs before) ≡ Ok (record { value = value; regs = record other { sp = regs.sp } }, two_of value regs before)
+back : (value : ℕ) (regs other : Regs80) (memory : Memory) (before : Done) → value < 2 ^ 16 → regs.sp < 2 ^ 16 → IsTrue (is_ram (down regs.sp)) → IsTrue (is_ram (down (down regs.sp))) → length memory.ram ≡ ram_size → operands.pop (record other { sp = down (down regs.sp) }) memory (two_of value regs before) ≡ Ok (record { value = value; regs = record other { sp = regs.sp } }, two_of value regs before)
 back value regs other memory before fits pointer h k long =
-    let length_left : length (ram_after memory.ram before.writes) ≡ 0x2000 = ram_fits memory.ram before.writes ∙ long in
+    let length_left : length (ram_after memory.ram before.writes) ≡ ram_size = ram_fits memory.ram before.writes ∙ long in
     let upper : next (down (down regs.sp)) ≡ down regs.sp = omega arith in
     let apart : ram_place (down regs.sp) ≢ ram_place (down (down regs.sp)) = omega arith in
     let memories = both value regs memory before h k in
@@ -124,13 +125,13 @@ again value regs memory before fits pointer h k long =
     rw (pushed value regs memory before h k) (back value regs regs memory before fits pointer h k long)
 
 -- a call, and RET
-pub called : (target : ℕ) (regs : Regs80) (memory : Memory) (before : Done) → regs.pc < 2 ^ 16 → regs.sp < 2 ^ 16 → IsTrue (is_ram (down regs.sp)) → IsTrue (is_ram (down (down regs.sp))) → length memory.ram ≡ 0x2000 → (calls.call target regs >>= (λ outcome. calls.return_from outcome.regs)) memory before ≡ Ok (taken regs, two_of regs.pc regs before)
+pub called : (target : ℕ) (regs : Regs80) (memory : Memory) (before : Done) → regs.pc < 2 ^ 16 → regs.sp < 2 ^ 16 → IsTrue (is_ram (down regs.sp)) → IsTrue (is_ram (down (down regs.sp))) → length memory.ram ≡ ram_size → (calls.call target regs >>= (λ outcome. calls.return_from outcome.regs)) memory before ≡ Ok (taken regs, two_of regs.pc regs before)
 unfolding calls.call calls.return_from
 called target regs memory before fits pointer h k long =
     rw (pushed regs.pc regs memory before h k) (rw (back regs.pc regs (record regs { pc = target }) memory before fits pointer h k long) refl)
 
 -- an interrupt, and RET
-interrupted : (regs : Regs80) (memory : Memory) (before : Done) → entries.target_of regs.mode regs.i ≡ actions.give 0x38 → regs.pc < 2 ^ 16 → regs.sp < 2 ^ 16 → IsTrue (is_ram (down regs.sp)) → IsTrue (is_ram (down (down regs.sp))) → length memory.ram ≡ 0x2000 → (entries.enter regs >>= calls.return_from) memory before ≡ Ok (taken (control.disabled regs), two_of regs.pc regs before)
+interrupted : (regs : Regs80) (memory : Memory) (before : Done) → entries.target_of regs.mode regs.i ≡ actions.give 0x38 → regs.pc < 2 ^ 16 → regs.sp < 2 ^ 16 → IsTrue (is_ram (down regs.sp)) → IsTrue (is_ram (down (down regs.sp))) → length memory.ram ≡ ram_size → (entries.enter regs >>= calls.return_from) memory before ≡ Ok (taken (control.disabled regs), two_of regs.pc regs before)
 unfolding entries.enter calls.return_from control.disabled
 interrupted regs memory before target fits pointer h k long =
     rw (pushed regs.pc (record regs { iff1 = false; iff2 = false }) memory before h k) (rw target (rw (back regs.pc regs (record regs { iff1 = false; iff2 = false; pc = 0x38 }) memory before fits pointer h k long) refl))
@@ -141,6 +142,6 @@ at_38 Mode0 page h = refl
 at_38 Mode1 page h = refl
 at_38 Mode2 page h = elim h [ inl e ↦ absurd (cc) | inr e ↦ absurd (cc) ]
 
-pub came_back : (regs : Regs80) (memory : Memory) (before : Done) → (regs.mode ≡ Mode0) ⊎ (regs.mode ≡ Mode1) → regs.pc < 2 ^ 16 → regs.sp < 2 ^ 16 → IsTrue (is_ram (down regs.sp)) → IsTrue (is_ram (down (down regs.sp))) → length memory.ram ≡ 0x2000 → (entries.enter regs >>= calls.return_from) memory before ≡ Ok (taken (control.disabled regs), two_of regs.pc regs before)
+pub came_back : (regs : Regs80) (memory : Memory) (before : Done) → (regs.mode ≡ Mode0) ⊎ (regs.mode ≡ Mode1) → regs.pc < 2 ^ 16 → regs.sp < 2 ^ 16 → IsTrue (is_ram (down regs.sp)) → IsTrue (is_ram (down (down regs.sp))) → length memory.ram ≡ ram_size → (entries.enter regs >>= calls.return_from) memory before ≡ Ok (taken (control.disabled regs), two_of regs.pc regs before)
 came_back regs memory before which fits pointer h k long =
     interrupted regs memory before (at_38 regs.mode regs.i which) fits pointer h k long

@@ -47,7 +47,7 @@ use Rattle.z80_exec.specs.Sample.Samples as samples
 use Rattle.z80_exec.specs.Sample.Samples.{Ended, entered, fetched, finished_by, nothing}
 use Rattle.z80_exec.specs.declared.regs80.Regs80.{Regs80}
 
--- where it comes to a value, that value keeps this
+-- where it results in a value, that value keeps this
 abbrev pub Fine : {A : Type 0} → (A → Type 0) → Result (A × Done) Request80 → Type 0
 Fine ok (Ok x) = ok x.0
 Fine ok (Err request) = Unit {0}

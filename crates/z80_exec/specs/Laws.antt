@@ -9,6 +9,7 @@ use Rattle.z80_decode.specs.declared.interrupt_mode.InterruptMode.TheVariants.{M
 use Rattle.z80_decode.specs.declared.op80.Op80.TheVariants as ops
 use Rattle.z80_decode.specs.declared.op80.Op80.{Op80}
 use Rattle.z80_decode.specs.declared.special.Special.TheVariants.{Refresh}
+use Rattle.z80_parcel.specs.Parcels.{ram_size}
 use Rattle.z80_exec.specs.Access.Actions.{Act, Done, ◌>>=◌}
 use Rattle.z80_exec.specs.Access.Conditions.{holds}
 use Rattle.z80_exec.specs.Access.Memory.{Memory, instruction_bytes, is_ram}
@@ -31,13 +32,13 @@ pub record SameBelow (count : ℕ) (one other : Memory) : Type 0 where
   pub enough : count ≤ length other.answers
   pub answers : (k : ℕ) → k < count → slice_index other.answers k ≡ slice_index one.answers k
 
--- where it comes to a value, it comes to the same with any answers in place of those that it did not
+-- where it results in a value, it results in the same with any answers in place of those that it did not
 -- take; and it takes no answer back
 pub record IgnoresLaterAnswers {A : Type 0} (act : Act A) : Type 0 where
   pub value : (one other : Memory) (before : Done) (x : A) (after : Done) → act one before ≡ Ok (x, after) → SameBelow after.used one other → act other before ≡ Ok (x, after)
   pub taken : (memory : Memory) (before : Done) (x : A) (after : Done) → act memory before ≡ Ok (x, after) → before.used ≤ after.used
 
--- each instruction; and a sample that comes to its end comes to the same with any answers in place
+-- each instruction; and a sample that ends results in the same with any answers in place
 -- of those that it did not take
 pub record SamplesIgnoreLaterAnswers : Type 0 where
   pub row : (op : Op80) (regs : Regs80) → IgnoresLaterAnswers (row op regs)
@@ -63,11 +64,11 @@ pub record RefreshRises : Type 0 where
       → (ended.regs.r / 0x80 ≡ regs.r / 0x80) × ((ended.regs.r % 0x80 ≡ (regs.r + 1) % 0x80) ⊎ (ended.regs.r % 0x80 ≡ (regs.r + 2) % 0x80))
   pub interrupt : (cause : ℕ) (regs : Regs80) (memory : Memory) (ended : Ended) → cause ≢ 0 → sampled cause regs memory ≡ Ok ended → ended.regs.r ≡ regs.r
 
--- a word that is pushed where RAM stands below the stack pointer, its high byte first, is popped again,
+-- a word that is pushed where RAM is below the stack pointer, its high byte first, is popped again,
 -- and the registers are as before
 abbrev pub PopsWhatWasPushed : Type 0
 PopsWhatWasPushed = (value : ℕ) (regs : Regs80) (memory : Memory) (before : Done) → value < 2 ^ 16 → regs.sp < 2 ^ 16
-    → IsTrue (is_ram (down regs.sp)) → IsTrue (is_ram (down (down regs.sp))) → length memory.ram ≡ 0x2000
+    → IsTrue (is_ram (down regs.sp)) → IsTrue (is_ram (down (down regs.sp))) → length memory.ram ≡ ram_size
     → (push value regs >>= pop) memory before
     ≡ Ok (record { value = value; regs = regs }, record before { writes = (before.writes ++ (down regs.sp, high value) ∷ []) ++ (down (down regs.sp), low value) ∷ [] })
 
@@ -75,11 +76,11 @@ PopsWhatWasPushed = (value : ℕ) (regs : Regs80) (memory : Memory) (before : Do
 -- before the call, and to those before the interrupt with interrupts disabled. In RAM
 pub record ReturnsToTheCaller : Type 0 where
   pub call : (target : ℕ) (regs : Regs80) (memory : Memory) (before : Done) → regs.pc < 2 ^ 16 → regs.sp < 2 ^ 16
-      → IsTrue (is_ram (down regs.sp)) → IsTrue (is_ram (down (down regs.sp))) → length memory.ram ≡ 0x2000
+      → IsTrue (is_ram (down regs.sp)) → IsTrue (is_ram (down (down regs.sp))) → length memory.ram ≡ ram_size
       → (call target regs >>= (λ outcome. return_from outcome.regs)) memory before
       ≡ Ok (taken regs, record before { writes = (before.writes ++ (down regs.sp, high regs.pc) ∷ []) ++ (down (down regs.sp), low regs.pc) ∷ [] })
   pub interrupt : (regs : Regs80) (memory : Memory) (before : Done) → (regs.mode ≡ Mode0) ⊎ (regs.mode ≡ Mode1) → regs.pc < 2 ^ 16 → regs.sp < 2 ^ 16
-      → IsTrue (is_ram (down regs.sp)) → IsTrue (is_ram (down (down regs.sp))) → length memory.ram ≡ 0x2000
+      → IsTrue (is_ram (down regs.sp)) → IsTrue (is_ram (down (down regs.sp))) → length memory.ram ≡ ram_size
       → (enter regs >>= return_from) memory before
       ≡ Ok (taken (disabled regs), record before { writes = (before.writes ++ (down regs.sp, high regs.pc) ∷ []) ++ (down (down regs.sp), low regs.pc) ∷ [] })
 

@@ -1,4 +1,4 @@
--- What a sample comes to: an instruction or an interrupt.
+-- What a sample results in: an instruction or an interrupt.
 pub mod Bounds
 pub mod Caches
 pub mod Entries

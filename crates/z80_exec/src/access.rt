@@ -13,7 +13,7 @@ use crate::access::memory::{byte_seen, is_shared_read, is_shared_write, put_byte
 use crate::regs80::{high, low};
 use crate::{Around, Progress80, Waiting};
 
-/// A shared access: takes the next answer, or gives what waits for it.
+/// A shared access: takes the next answer. The error is the access that waits where there is none.
 #[tactic(auto, unfolding(crate::specs::Access::Actions::asked))]
 fn ask(waiting: Waiting, around: &Around, progress: &mut Progress80) -> Result<u8, Waiting>
     ensures value { Meets result (done_of progress.new) (actions.asked (request_of waiting) (memory_of around.now) (done_of progress.old)) }
@@ -28,7 +28,7 @@ fn ask(waiting: Waiting, around: &Around, progress: &mut Progress80) -> Result<u
     }
 }
 
-/// A shared write, whose answer tells nothing.
+/// A shared write, whose answer has no value. The error is the access that waits for it.
 #[tactic(auto, unfolding(crate::specs::Access::Actions::told))]
 fn tell(waiting: Waiting, around: &Around, progress: &mut Progress80) -> Result<(), Waiting>
     ensures value { Meets result (done_of progress.new) (actions.told (request_of waiting) (memory_of around.now) (done_of progress.old)) }
@@ -38,7 +38,7 @@ fn tell(waiting: Waiting, around: &Around, progress: &mut Progress80) -> Result<
     Ok(())
 }
 
-/// Reads the byte at an address.
+/// Reads the byte at an address. The error is the access that waits for its answer.
 #[tactic(auto, unfolding(crate::specs::Access::Actions::read))]
 pub fn read(at: u16, around: &Around, progress: &mut Progress80) -> Result<u8, Waiting>
     ensures value { Meets result (done_of progress.new) (actions.read at (memory_of around.now) (done_of progress.old)) }
@@ -51,7 +51,7 @@ pub fn read(at: u16, around: &Around, progress: &mut Progress80) -> Result<u8, W
     }
 }
 
-/// Writes the byte at an address.
+/// Writes the byte at an address. The error is the access that waits for its answer.
 #[tactic(auto, unfolding(crate::specs::Access::Actions::write))]
 pub fn write(at: u16, value: u8, around: &Around, progress: &mut Progress80) -> Result<(), Waiting>
     requires { array_vec_len progress.old.writes + 1 ≤ 4 }
@@ -66,6 +66,7 @@ pub fn write(at: u16, value: u8, around: &Around, progress: &mut Progress80) -> 
 }
 
 /// Reads the word at an address, its low byte first.
+/// The error is the access that waits for its answer.
 #[tactic(auto, unfolding(crate::specs::Access::Actions::read_word))]
 pub fn read_word(at: u16, around: &Around, progress: &mut Progress80) -> Result<u16, Waiting>
     ensures value { Meets result (done_of progress.new) (actions.read_word at (memory_of around.now) (done_of progress.old)) }
@@ -77,6 +78,7 @@ pub fn read_word(at: u16, around: &Around, progress: &mut Progress80) -> Result<
 }
 
 /// Writes the word at an address, its low byte first.
+/// The error is the access that waits for its answer.
 #[tactic(auto, unfolding(crate::specs::Access::Actions::write_word))]
 pub fn write_word(
     at: u16,

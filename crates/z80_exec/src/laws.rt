@@ -23,7 +23,7 @@ pub fn pops_what_was_pushed()
     ensures { PopsWhatWasPushed }
 {}
 
-/// RET goes back behind a call, and to where an interrupt came.
+/// RET returns to the instruction after a call, and to where an interrupt was taken.
 pub fn returns_to_the_caller()
     ensures { ReturnsToTheCaller }
 {}

@@ -44,7 +44,7 @@ fn fetch(found: &CachedInstruction, regs: &mut Regs80)
     regs.r = risen(regs.r, found.rise);
 }
 
-/// Keeps what an instruction comes to behind the write that waits, where that is known.
+/// Keeps what an instruction results in after the write that waits, where that is known.
 #[inline(never)]
 fn foresee_finish(found: &CachedInstruction, foreseen: &mut Foreseen80)
     requires { found.now.short ≡ times.time_of found.now.decoded.op false }
@@ -63,7 +63,7 @@ fn foresee_finish(found: &CachedInstruction, foreseen: &mut Foreseen80)
     }
 }
 
-/// The clocks of an instruction; of two times the longer where it was taken or goes on.
+/// The clocks of an instruction; of two times the longer where it was taken or continues.
 #[inline(always)]
 fn time_of(found: &CachedInstruction, taken: bool) -> u32
     requires short { found.now.short ≡ times.time_of found.now.decoded.op false }
@@ -168,14 +168,14 @@ fn run(
     }
 }
 
-/// What the Z80 does at a sample, as far as the answers of its shared accesses go: it starts anew
+/// What the Z80 does at a sample, as far as the answers of its shared accesses go: it starts again
 /// each time, and nothing private is written before all are answered.
 ///
 /// `cause` is 0 for the instruction at the program counter, and more for an interrupt. `parcel` has
 /// RAM and the bank register before it. Where it waits for an answer, to a read or a write, the
 /// registers stay as they were. `progress` is cleared first; its writes count where the step is done:
 /// the bytes written into RAM and the bank register, the oldest first. Where it waits for the answer to
-/// a write, `foreseen` has what it comes to then, if that is known: of an LD of 8 bits. `cache` has
+/// a write, `foreseen` has what it results in then, if that is known: of an LD of 8 bits. `cache` has
 /// instructions that were decoded before. Source: Zilog UM0080, "Z80 Instruction Description" and
 /// "Interrupt Response".
 pub fn foresee(

@@ -3,17 +3,17 @@ use Rattle.std.proofs.Common.{◌≡◌, ℕ, ◌+◌, ◌*◌, ◌/◌, ◌%◌
 use Rattle.std.specs.Prelude.{if◌then◌else◌, slice_set}
 use Rattle.std.proofs.Math.ListN.{length-set}
 use Rattle.z80_parcel.specs.Laws.{NineWritesSetTheBank, WritesFit}
-use Rattle.z80_parcel.specs.Parcels.{bank_after, banked, is_bank, is_ram, ram_after, shifted, stored}
+use Rattle.z80_parcel.specs.Parcels.{bank_after, banked, banks, is_bank, is_ram, ram_after, shifted, stored}
 
-shifted_fits : (bank value : ℕ) → bank < 512 → shifted bank value < 512
+shifted_fits : (bank value : ℕ) → bank < banks → shifted bank value < banks
 shifted_fits bank value h = omega arith
 
-banked_by : (test : Bool) (bank value : ℕ) → bank < 512 → (if test then shifted bank value else bank) < 512
+banked_by : (test : Bool) (bank value : ℕ) → bank < banks → (if test then shifted bank value else bank) < banks
 banked_by true bank value h = shifted_fits bank value h
 banked_by false bank value h = h
 
 -- one write
-pub banked_fits : (bank : ℕ) (write : ℕ × ℕ) → bank < 512 → banked bank write < 512
+pub banked_fits : (bank : ℕ) (write : ℕ × ℕ) → bank < banks → banked bank write < banks
 banked_fits bank write h = banked_by (is_bank write.0) bank write.1 h
 
 stored_by : (test : Bool) (ram : List ℕ) (place value : ℕ) → length (if test then slice_set ram place value else ram) ≡ length ram
@@ -24,7 +24,7 @@ pub stored_fits : (ram : List ℕ) (write : ℕ × ℕ) → length (stored ram w
 stored_fits ram write = stored_by (is_ram write.0) ram _ write.1
 
 -- a list of writes
-pub bank_fits : (bank : ℕ) (writes : List (ℕ × ℕ)) → bank < 512 → bank_after bank writes < 512
+pub bank_fits : (bank : ℕ) (writes : List (ℕ × ℕ)) → bank < banks → bank_after bank writes < banks
 bank_fits bank [] h = h
 bank_fits bank (w ∷ ws) h = bank_fits (banked bank w) ws (banked_fits bank w h)
 

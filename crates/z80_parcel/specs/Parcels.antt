@@ -13,14 +13,22 @@ pub record Store : Type 0 where
 abbrev pub store_of : Parcel → Store
 store_of parcel = record { ram = parcel.ram.value; bank = parcel.bank }
 
+-- how many bytes RAM has
+abbrev pub ram_size : ℕ
+ram_size = 0x2000
+
+-- how many values the bank register has, of nine bits
+abbrev pub banks : ℕ
+banks = 512
+
 -- 8 KiB of RAM, and a bank register of nine bits
 pub record IsStore (store : Store) : Type 0 where
-  pub ram : length store.ram ≡ 0x2000
-  pub bank : store.bank < 512
+  pub ram : length store.ram ≡ ram_size
+  pub bank : store.bank < banks
 
 -- at power-on
 abbrev pub first : Store
-first = record { ram = replicate 0x2000 0; bank = 0 }
+first = record { ram = replicate ram_size 0; bank = 0 }
 
 -- RAM, of 8 KiB, is repeated below 4000h
 abbrev pub is_ram : ℕ → Bool
@@ -32,7 +40,7 @@ is_bank at = nat_le 0x6000 at && nat_le at 0x60ff
 
 -- the byte of RAM that an address names
 abbrev pub ram_place : ℕ → ℕ
-ram_place at = at % 0x2000
+ram_place at = at % ram_size
 
 -- RAM after one write, which is lost outside RAM
 abbrev pub stored : List ℕ → ℕ × ℕ → List ℕ

@@ -32,7 +32,7 @@ answer_value80_of (answers.Value value) = Byte value
 answer_value80_of answers.Done = Nothing
 answer_value80_of (answers.Back parcel) = Returned (store_of parcel)
 
--- the value that an answer tells; nothing is told by the answer to a write
+-- the value that an answer has; the answer to a write has none
 abbrev pub value_in : AnswerValue80 → ℕ
 value_in (Byte value) = value
 value_in Nothing = 0

@@ -1,4 +1,4 @@
-//! Laws of the parcel, as calls that do nothing and stand for what they ensure.
+//! Laws of the parcel, as calls that do nothing but ensure them.
 
 ghost use Rattle.z80_parcel.specs.Laws.{NineWritesSetTheBank, WritesFit};
 

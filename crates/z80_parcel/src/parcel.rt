@@ -5,10 +5,12 @@ ghost use Rattle.z80_parcel.specs.Parcels.{IsStore, store_of};
 use md_word::{NoMemory, Parcel};
 use std::alloc::Global;
 
-/// The first address of the Z80 behind its RAM, which is repeated up to it.
+/// The first address of the Z80 after its RAM, which is repeated up to it. Source: Genesis Technical
+/// Overview, the memory map of the Z80; the repeats are this project's profile.
 pub const RAM_END: u16 = 0x4000;
 
-/// Whether an address of the Z80 is the bank register's.
+/// Whether an address of the Z80 is the bank register's. Source: Genesis Technical Overview, the
+/// memory map of the Z80.
 pub fn is_bank(at: u16) -> bool
     ensures { result ≡ parcels.is_bank at }
 {
@@ -19,12 +21,12 @@ pub fn is_bank(at: u16) -> bool
 /// bit 0 in as A23 and moves the others down.
 pub fn shift(bank: u16, value: u8) -> u16
     ensures value { result ≡ parcels.shifted bank value }
-    ensures nine { bank < 512 → result < 512 }
+    ensures nine { bank < parcels.banks → result < parcels.banks }
 {
     bank / 2 + u16::from(value % 2) * 0x100
 }
 
-/// Tells what holds of every parcel: its RAM has 8 KiB, and its bank register nine bits.
+/// Ensures what holds of every parcel: its RAM has 8 KiB, and its bank register nine bits.
 pub fn known(parcel: &Parcel)
     ensures { IsStore (store_of parcel.now) }
 {
@@ -61,9 +63,9 @@ pub fn store_bytes(writes: &[(u16, u8)], parcel: &mut Parcel)
     }
 }
 
-/// The RAM at power-on.
+/// The RAM at power-on. It fails where there is no memory for it.
 fn zeroed(alloc: Global) -> Result<Box<[u8; 8192]>, NoMemory>
-    ensures { IfOk result (λ ram. ram.value ≡ replicate 0x2000 0) }
+    ensures { IfOk result (λ ram. ram.value ≡ replicate parcels.ram_size 0) }
 {
     match Box::new(alloc, [0; 8192]) {
         Ok(ram) => Ok(ram),
@@ -72,8 +74,9 @@ fn zeroed(alloc: Global) -> Result<Box<[u8; 8192]>, NoMemory>
 }
 
 /// The RAM and the bank register at power-on, whose bytes and bits are 0.
+/// It fails where there is no memory for it.
 pub fn first(alloc: Global) -> Result<Parcel, NoMemory>
-    ensures ram { IfOk result (λ parcel. parcel.ram.value ≡ replicate 0x2000 0) }
+    ensures ram { IfOk result (λ parcel. parcel.ram.value ≡ replicate parcels.ram_size 0) }
     ensures bank { IfOk result (λ parcel. parcel.bank ≡ 0) }
 {
     let ram = zeroed(alloc)?;

@@ -1,5 +1,6 @@
 ghost use Rattle.std.specs.Prelude.{◌≡◌, ◌+◌, ◌<◌, ◌≤◌, ◌++◌, IfOk, Some, length, map, option_map, true, vec_capacity, vec_len};
 ghost use Rattle.md_fields.specs.Fields.{seen, spelling};
+ghost use Rattle.z80_parcel.specs.Parcels as parcels;
 ghost use Rattle.z80_parcel.specs.Parcels.{store_of};
 ghost use Rattle.z80_parcel.specs.Spelling as meaning;
 
@@ -13,7 +14,7 @@ pub const BANKS: u16 = 512;
 
 /// RAM and bank register as fields.
 fn store_fields(ram: &[u8], bank: u16) -> [Field<'_>; 2]
-    requires { length ram.now ≡ 0x2000 }
+    requires { length ram.now ≡ parcels.ram_size }
     ensures fields { map seen result ≡ meaning.store_fields true (Some (record { ram = ram.now; bank = bank })) }
 {
     [Field::Block(ram, true), Field::Word(bank, bank < BANKS)]
@@ -34,9 +35,10 @@ pub fn put_store(parcel: &Option<Parcel>, into: &mut Vec<u8>)
 }
 
 /// A parcel of this RAM, which is copied, and this bank register, as a saved state keeps them.
+/// It fails where there is no memory for it.
 pub fn parcel_of(alloc: Global, ram: &[u8], bank: u16) -> Result<Parcel, NoMemory>
-    requires length { length ram.now ≡ 0x2000 }
-    requires nine { bank < 512 }
+    requires length { length ram.now ≡ parcels.ram_size }
+    requires nine { bank < parcels.banks }
     ensures { IfOk result (λ parcel. store_of parcel ≡ record { ram = ram.now; bank = bank }) }
 {
     let mut copied = Box::new(alloc, [0; 8192])?;

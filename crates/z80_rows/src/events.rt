@@ -18,7 +18,7 @@ fn shared(alloc: Global) -> Result<Arc<Cart>, RowError> {
     Arc::new(alloc, cart).map_err(|_| RowError::Memory)
 }
 
-/// Sets up the Z80 at power-on.
+/// Sets up the Z80 at power-on. It fails where there is no memory for it.
 pub fn power_on(fixture: &mut Z80) -> Result<(), RowError> {
     let cart = shared(fixture.alloc)?;
     let chip = Chip80::power_on(fixture.alloc, cart).map_err(|_| RowError::Memory)?;
@@ -57,7 +57,8 @@ fn pins_of(text: &str) -> Result<Pins80, RowError> {
     })
 }
 
-/// The event behind a sample, or behind those up to a cycle: its cycle, and whether it is an access.
+/// The event after a sample, or after those up to a cycle: its cycle, and whether it is an access.
+/// `NoSuchName` where no Z80 is set up or no sample is next, `NoSuchLine` where the words are none.
 pub fn sample(fixture: &mut Z80, words: &str) -> Result<String, RowError> {
     let (pins, end) = words.split_once(' ').unwrap_or((words, "0"));
     let alloc = fixture.alloc;
@@ -81,7 +82,7 @@ fn read_of(chip: &mut Chip80) -> Result<(u64, u16), RowError> {
     }
 }
 
-/// The cycle and the address of the read that is next.
+/// The cycle and the address of the read that is next; `NoSuchName` where none is.
 pub fn request(fixture: &mut Z80) -> Result<String, RowError> {
     let (cycle, at) = read_of(fixture.chip()?)?;
     Ok(format!(in fixture.alloc; "{cycle} r:{at:04X}")?)
@@ -95,7 +96,8 @@ fn spelled(alloc: Global, chip: &Chip80, at: u64) -> Result<Vec<u8>, RowError> {
     Ok(bytes)
 }
 
-/// Reads a Z80 of bytes: `kept` where it is spelled by the same bytes, or the place at which they are refused.
+/// Reads a Z80 of bytes: `kept` where it is spelled by the same bytes, or the offset at which they are refused.
+/// `NoSuchLine` where the words are none.
 pub fn state(fixture: &mut Z80, words: &str) -> Result<String, RowError> {
     let alloc = fixture.alloc;
     let (at, text) = words.split_once(' ').ok_or(RowError::NoSuchLine)?;
@@ -112,7 +114,7 @@ pub fn state(fixture: &mut Z80, words: &str) -> Result<String, RowError> {
     }
 }
 
-/// Whether the Z80 is spelled by the bytes that are wanted.
+/// Whether the Z80 is spelled by the bytes that are wanted; `NoSuchName` where no Z80 is set up.
 pub fn spell(fixture: &mut Z80, at: &str, wanted: &str) -> Result<String, RowError> {
     let alloc = fixture.alloc;
     let bytes = spelled(alloc, fixture.chip()?, number(at)?)?;

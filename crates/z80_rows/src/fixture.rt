@@ -26,7 +26,7 @@ impl Z80 {
         })
     }
 
-    /// The Z80 of the row.
+    /// The Z80 of the row; `NoSuchName` where none is set up.
     pub fn chip(&mut self) -> Result<&mut Chip80, RowError> {
         self.chip.as_mut().ok_or(RowError::NoSuchName)
     }

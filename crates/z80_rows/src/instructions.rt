@@ -4,7 +4,7 @@ use row_lines::{RowError, byte, long};
 use std::alloc::Global;
 use z80_decode::decode;
 
-/// The text of the instruction that these bytes begin with, at 0100h, behind its length.
+/// The text of the instruction that these bytes begin with, at 0100h, after its length.
 fn told(alloc: Global, bytes: &[u8; 4]) -> Result<String, RowError> {
     let decoded = decode(bytes);
     let Ok(text) = text80(alloc, &decoded, 0x100) else {
@@ -13,12 +13,13 @@ fn told(alloc: Global, bytes: &[u8; 4]) -> Result<String, RowError> {
     Ok(format!(in alloc; "{} {}", decoded.length, text.as_str())?)
 }
 
-/// The length and the text of an instruction.
+/// The length and the text of an instruction; `NoSuchLine` where the digits are not eight.
 pub fn instruction(alloc: Global, digits: &str) -> Result<String, RowError> {
     told(alloc, &long(digits)?.to_be_bytes())
 }
 
-/// For how many of the 256 opcodes behind a prefix that begins with this front.
+/// For how many of the 256 opcodes after a prefix the text begins with these words.
+/// `NoSuchLine` where no prefix is given.
 pub fn count(alloc: Global, words: &str) -> Result<String, RowError> {
     let (prefix, front) = words.split_once(' ').ok_or(RowError::NoSuchLine)?;
     let prefix = byte(prefix)?;

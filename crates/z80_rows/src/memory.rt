@@ -8,7 +8,7 @@ use std::fmt::Write;
 use z80_alu::{Task80, compute};
 use z80_parcel::store_bytes;
 
-/// Tells the bank register, and the bytes of RAM that are not 0.
+/// Writes out the bank register, and the bytes of RAM that are not 0.
 fn tell_memory(alloc: Global, parcel: &Parcel) -> Result<String, AllocError> {
     let mut text = format!(in alloc; "BANK={:03X}", parcel.bank)?;
     for at in 0..0x2000usize {
@@ -27,7 +27,8 @@ fn write_of(text: &str) -> Result<(u16, u8), RowError> {
     Ok((word(at)?, byte(value)?))
 }
 
-/// RAM and the bank register behind writes, each by itself, which stand behind what is set up.
+/// RAM and the bank register after writes, each by itself, which follow what is set up.
+/// `NoSuchLine` where a word is none.
 pub fn store(alloc: Global, words: &str) -> Result<String, RowError> {
     let (before, words) = words.split_once(' ').ok_or(RowError::NoSuchLine)?;
     let mut parcel = Setting::read(alloc, before)?.parcel;
@@ -39,7 +40,7 @@ pub fn store(alloc: Global, words: &str) -> Result<String, RowError> {
     Ok(tell_memory(alloc, &parcel)?)
 }
 
-/// The registers that a reset changes.
+/// The registers that a reset changes; `NoSuchLine` where a word is none.
 pub fn reset(alloc: Global, words: &str) -> Result<String, RowError> {
     let setting = Setting::read(alloc, words)?;
     let mut regs = registers_of(&setting.values);
@@ -49,7 +50,8 @@ pub fn reset(alloc: Global, words: &str) -> Result<String, RowError> {
     Ok(String::from_str(alloc, text.trim_end())?)
 }
 
-/// The byte that IN loads into a register and the flags behind it, of the byte and the flags before it.
+/// The byte that IN loads into a register and the flags after it, of the byte and the flags before it.
+/// `NoSuchLine` where a word is none.
 pub fn input(alloc: Global, words: &str) -> Result<String, RowError> {
     let (value, flags) = words.split_once(' ').ok_or(RowError::NoSuchLine)?;
     let out = compute(Task80::In, 0xaa, byte(value)?, byte(flags)?);

@@ -5,7 +5,7 @@ use std::fmt::Write;
 use z80_decode::InterruptMode;
 use z80_exec::Regs80;
 
-/// The names, in the order in which registers are told. IFF is IFF1 and IFF2, a digit each, and IM the mode of
+/// The names, in the order in which registers are written out. IFF is IFF1 and IFF2, a digit each, and IM the mode of
 /// interrupts.
 static NAMES: [&str; 16] = [
     "AF", "BC", "DE", "HL", "AF'", "BC'", "DE'", "HL'", "IX", "IY", "SP", "PC", "I", "R", "IFF",
@@ -21,7 +21,7 @@ pub const USUAL: Values = [
     0, 0, 0,
 ];
 
-/// Sets the register of this name.
+/// Sets the register of this name; `NoSuchLine` where none has it.
 pub fn set(values: &mut Values, name: &str, value: u16) -> Result<(), RowError> {
     for place in 0..16 {
         if NAMES[place] == name {
@@ -88,7 +88,7 @@ pub fn values_of(regs: &Regs80) -> Values {
     ]
 }
 
-/// Tells a register.
+/// Writes out a register.
 fn tell_one(text: &mut String, place: usize, value: u16) -> Result<(), AllocError> {
     let name = NAMES[place % 16];
     match place {
@@ -98,7 +98,7 @@ fn tell_one(text: &mut String, place: usize, value: u16) -> Result<(), AllocErro
     }
 }
 
-/// Tells the registers that are not as is usual.
+/// Writes out the registers that are not as is usual. It fails where there is no memory for it.
 pub fn tell(text: &mut String, values: &Values, usual: &Values) -> Result<(), AllocError> {
     for place in 0..16 {
         if values[place] != usual[place] {

@@ -17,7 +17,7 @@ fn read_in(wanted: &str, number: usize) -> Result<u8, RowError> {
     byte(value)
 }
 
-/// Tells a shared access, and gives its answer.
+/// Writes out a shared access, and gives its answer.
 fn tell_access(
     text: &mut String,
     request: &Request80,
@@ -39,7 +39,7 @@ fn tell_access(
     }
 }
 
-/// The registers behind a sample where nothing is said of them: behind an instruction PC and R have gone on.
+/// The registers after a sample where nothing is said of them: after an instruction PC and R have advanced.
 fn usual(setting: &Setting) -> Values {
     let mut values = setting.values;
     if setting.cause == 0 {
@@ -49,7 +49,7 @@ fn usual(setting: &Setting) -> Values {
     values
 }
 
-/// Tells what a sample comes to.
+/// Writes out what a sample results in.
 fn tell_finish(
     text: &mut String,
     finish: &Finish80,
@@ -66,7 +66,8 @@ fn tell_finish(
     write!(text, "T={}", finish.t)
 }
 
-/// What a sample comes to, which runs with no answer, one, and so on, where its shared reads answer as is wanted.
+/// What a sample results in, which runs with no answer, one, and so on, where its shared reads answer as is wanted.
+/// `NoSuchName` where it has not ended after five answers.
 pub fn sample(
     alloc: Global,
     cart: &Cart,

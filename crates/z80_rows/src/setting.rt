@@ -5,18 +5,18 @@ use row_lines::{RowError, byte, word};
 use std::alloc::{AllocError, Global};
 use z80_parcel::{RAM_END, first, store_byte};
 
-/// What stands before a sample.
+/// What is set up before a sample.
 #[derive(Drop)]
 pub struct Setting {
     pub parcel: Parcel,
     pub values: Values,
     /// 0 for an instruction, 1 for an interrupt.
     pub cause: u8,
-    /// Where the next byte of the instruction stands.
+    /// The address of the next byte of the instruction.
     pub next: u16,
 }
 
-/// The bytes of a cartridge whose byte k is the low byte of k + k / 100h, but for its mark at 100h.
+/// The bytes of a cartridge whose byte k is the low byte of k + k / 100h, but for its magic at 100h.
 fn image(alloc: Global) -> Result<Vec<u8>, AllocError> {
     let mut image = Vec::new(alloc);
     for k in 0..0x8200u32 {
@@ -31,7 +31,7 @@ fn image(alloc: Global) -> Result<Vec<u8>, AllocError> {
     Ok(image)
 }
 
-/// That cartridge.
+/// That cartridge. It fails where there is no memory for it.
 pub fn cartridge(alloc: Global) -> Result<Cart, RowError> {
     let image = image(alloc)?;
     Cart::accept(alloc, image).map_err(|_| RowError::Memory)
@@ -39,7 +39,7 @@ pub fn cartridge(alloc: Global) -> Result<Cart, RowError> {
 
 impl Setting {
     /// What words say: bytes of an instruction, registers, bytes of RAM `@1000=58`, the bank register `BANK=` and
-    /// the cause `CAUSE=`.
+    /// the cause `CAUSE=`. `NoSuchLine` where a word is none, or a register does not fit.
     pub fn read(alloc: Global, words: &str) -> Result<Setting, RowError> {
         let parcel = first(alloc).map_err(|_| RowError::Memory)?;
         let mut setting = Setting {

@@ -118,7 +118,7 @@ pair_most : (pair : Pair) → times.pair_time pair ≤ 4
 pair_most pairs.Ix = omega arith
 pair_most pair = omega arith
 
--- what an end tells
+-- what an end reports
 outcome_in : Outcome → Result (Outcome × Done) Request80 → Outcome
 outcome_in none (Ok x) = x.0
 outcome_in none (Err request) = none

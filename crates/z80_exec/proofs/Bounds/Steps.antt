@@ -1,4 +1,4 @@
--- What a step that tells a sample has, as the code meets it.
+-- What a step that reports a sample has, as the code meets it.
 use Rattle.std.proofs.Common.{◌≡◌, ℕ, length, sym}
 use Rattle.z80_exec.specs.declared.regs80.Regs80.{Regs80}
 use Rattle.z80_exec.specs.declared.sample.step.Step80.{Step80}

@@ -38,7 +38,7 @@ asked request memory done =
     then Ok (slice_index memory.answers done.used, record done { used = done.used + 1 })
     else Err request
 
--- a shared write: the answer tells nothing
+-- a shared write: the answer has no value
 unfoldable pub told : Request80 → Act (Unit {0})
 told request = do
   answer ← asked request

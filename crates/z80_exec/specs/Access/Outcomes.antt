@@ -1,14 +1,14 @@
--- What an instruction comes to.
+-- What an instruction results in.
 use Rattle.std.specs.Prelude.{Bool, true, false}
 use Rattle.z80_exec.specs.declared.regs80.Regs80.{Regs80}
 
 -- the registers after it, and whether it took the longer of two times: a jump, a call or a return was
--- taken, or a block instruction goes on
+-- taken, or a block instruction continues
 pub record Outcome : Type 0 where
   pub regs : Regs80
   pub taken : Bool
 
--- what a call told, with the registers that it left
+-- what a call answered, with the registers that it left
 abbrev pub outcome_of : Bool → Regs80 → Outcome
 outcome_of taken regs = record { regs = regs; taken = taken }
 

@@ -38,7 +38,7 @@ f_of regs = low regs.af
 unfoldable pub with_af : ℕ → ℕ → Regs80 → Regs80
 with_af a f regs = record regs { af = a * 0x100 + f }
 
--- another F, and the accumulator as it stands
+-- another F, and the accumulator as it was
 unfoldable pub with_f : ℕ → Regs80 → Regs80
 with_f f regs = record regs { af = with_low regs.af f }
 

@@ -15,14 +15,14 @@ stepped Decrement at = down at
 stepped IncrementRepeat at = up at
 stepped DecrementRepeat at = down at
 
--- whether it is an instruction that goes on until its end, as LDIR does
+-- whether it is an instruction that continues until its end, as LDIR does
 abbrev pub repeats : Block → Bool
 repeats Increment = false
 repeats Decrement = false
 repeats IncrementRepeat = true
 repeats DecrementRepeat = true
 
--- an instruction that goes on is carried out again: its two bytes are the next
+-- an instruction that continues is carried out again: its two bytes are the next
 unfoldable pub going_on : Bool → Regs80 → Outcome
 going_on again regs =
     if again then taken (record regs { pc = (regs.pc + 0xfffe) % 0x1_0000 }) else plain regs

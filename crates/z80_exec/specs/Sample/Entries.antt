@@ -9,7 +9,7 @@ use Rattle.z80_exec.specs.Access.Actions.{Act, ◌>>=◌, give, read_word}
 use Rattle.z80_exec.specs.Access.Operands.{push}
 use Rattle.z80_exec.specs.Rows.Control.{disabled}
 
--- where an interrupt goes on, by its mode: in mode 2 the address stands in a table in page I
+-- where an interrupt continues, by its mode: in mode 2 the address is in a table in page I
 unfoldable pub target_of : InterruptMode → ℕ → Act ℕ
 target_of Mode0 page = give 0x38
 target_of Mode1 page = give 0x38

@@ -19,7 +19,7 @@ use Rattle.z80_exec.specs.Rows.Pairs as pairs
 use Rattle.z80_exec.specs.Rows.Ports as ports
 use Rattle.z80_exec.specs.Rows.Rotates as rotates
 
--- an instruction with the program counter behind it
+-- an instruction with the program counter after it
 abbrev pub row : Op80 → Regs80 → Act Outcome
 row (ops.Load target source) regs = loads.load target source regs
 row (ops.LoadFromSpecial special) regs = give (plain (loads.load_from_special special regs))

@@ -1,4 +1,4 @@
--- What comes behind a write that waits for its answer, which tells nothing. Zilog UM0080, "CPU Timing".
+-- What follows a write that waits for its answer, which has no value. Zilog UM0080, "CPU Timing".
 use Rattle.std.specs.Prelude.{◌≡◌, ℕ, ◌+◌, ◌≤◌, true, false, [], ◌∷◌, ◌++◌, length, Result, Ok, Err}
 use Rattle.md_word.specs.declared.sub_bus.Request80.{Request80}
 use Rattle.z80_exec.specs.Access.Actions.{Act, Done}
@@ -19,21 +19,21 @@ answered_with value memory = record memory { answers = memory.answers ++ value �
 abbrev pub all_answered : Memory → Done
 all_answered memory = record { used = length memory.answers + 1; writes = [] }
 
--- an action whose access waits gives this, whatever it is answered, and these registers are foreseen; where
--- it does not wait nothing is foreseen
+-- an action whose access waits gives this, whatever it is answered, and these registers are predicted; where
+-- it does not wait nothing is predicted
 abbrev pub WaitsForLast : {A B : Type 0} → Result A Waiting → Foreseen80 → Regs80 → Act B → B → Memory → Done → Type 0
 WaitsForLast (Ok x) foreseen regs act given memory done = foreseen.known ≡ false
 WaitsForLast (Err waiting) foreseen regs act given memory done =
     foreseen.known ≡ true → (foreseen.regs ≡ regs) × (done.used ≤ length memory.answers) × ((value : ℕ) → act (answered_with value memory) done ≡ Ok (given, all_answered memory))
 
--- an instruction that waits ends with the registers that are foreseen, whatever it is answered; where it
--- does not wait nothing is foreseen
+-- an instruction that waits ends with the registers that are predicted, whatever it is answered; where it
+-- does not wait nothing is predicted
 abbrev pub Foresees : {A : Type 0} → Result A Waiting → Foreseen80 → Act Outcome → Memory → Done → Type 0
 Foresees (Ok x) foreseen act memory done = foreseen.known ≡ false
 Foresees (Err waiting) foreseen act memory done =
     foreseen.known ≡ true → (value : ℕ) → act (answered_with value memory) done ≡ Ok (plain foreseen.regs, all_answered memory)
 
--- a sample that waits comes to what is foreseen, whatever it is answered
+-- a sample that waits results in what is predicted, whatever it is answered
 abbrev pub EndsForeseen : Step80 → Foreseen80 → (Memory → Result Ended Request80) → Memory → Type 0
 EndsForeseen (steps.Need request) foreseen sample memory =
     foreseen.known ≡ true → (value : ℕ) → sample (answered_with value memory) ≡ told_by (steps.Done foreseen.finish) foreseen.regs (all_answered memory)

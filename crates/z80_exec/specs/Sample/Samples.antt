@@ -1,4 +1,4 @@
--- What a sample comes to: the instruction at the program counter, or an interrupt.
+-- What a sample results in: the instruction at the program counter, or an interrupt.
 -- Zilog UM0080, "Instruction Op Code Fetch", "Interrupt Response"; the rises of R, this project's
 -- profile.
 use Rattle.std.specs.Prelude.{ℕ, ◌≡◌, ◌+◌, ◌*◌, ◌/◌, ◌%◌, ◌<◌, ◌≤◌, Bool, true, false, ◌==◌, ◌||◌, if◌then◌else◌, List, [], slice_index, Result, Ok, Err}
@@ -45,7 +45,7 @@ rise_of op first = if is_prefix first then 2 else 1
 abbrev pub risen : ℕ → ℕ → ℕ
 risen r by = r / 0x80 * 0x80 + (r + by) % 0x80
 
--- the registers once the instruction is fetched: the program counter is behind it
+-- the registers once the instruction is fetched: the program counter is after it
 unfoldable pub fetched : Decoded80 → ℕ → Regs80 → Regs80
 fetched found first regs =
     record regs { pc = (regs.pc + found.length) % 0x1_0000; r = risen regs.r (rise_of found.op first) }
@@ -55,7 +55,7 @@ abbrev pub halts : Op80 → Bool
 halts ops.Halt = true
 halts op = false
 
--- EI, behind which no interrupt is taken
+-- EI, after which no interrupt is taken
 abbrev pub is_ei : Op80 → Bool
 is_ei ops.EnableInterrupts = true
 is_ei op = false
@@ -89,7 +89,7 @@ entered time (Err request) = Err request
 unfoldable pub interrupt : Regs80 → Memory → Result Ended Request80
 interrupt regs memory = entered (interrupt_time regs.mode) (enter regs memory nothing)
 
--- what a sample comes to, or the request that waits for its answer. The cause is 0 for the
+-- what a sample results in, or the request that waits for its answer. The cause is 0 for the
 -- instruction at the program counter, and more for an interrupt
 unfoldable pub sampled : ℕ → Regs80 → Memory → Result Ended Request80
 sampled cause regs memory =
@@ -97,7 +97,7 @@ sampled cause regs memory =
     then (let bytes = instruction_bytes regs.pc memory in instruction (instruction_of bytes) (slice_index bytes 0) regs memory)
     else interrupt regs memory
 
--- what a step tells, with the registers and what was done then
+-- what a step reports, with the registers and what was done then
 abbrev pub told_by : Step80 → Regs80 → Done → Result Ended Request80
 told_by (steps.Need request) regs done = Err request
 told_by (steps.Done finish) regs done = Ok (record {

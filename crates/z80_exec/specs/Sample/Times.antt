@@ -1,5 +1,5 @@
 -- How many clocks each instruction takes: a line a row. Of two times the longer is where a jump, a
--- call or a return is taken or a block instruction goes on.
+-- call or a return is taken or a block instruction continues.
 -- Zilog UM0080, "Z80 Instruction Description"; undefined opcodes and halves of IX and IY, this
 -- project's profile.
 use Rattle.std.specs.Prelude.{ℕ, ◌+◌, Bool, if◌then◌else◌}

@@ -57,7 +57,7 @@ fn instruction_byte(at: u16, around: &Around) -> u8
     }
 }
 
-/// As many bytes of RAM, where it does not begin anew among them.
+/// As many bytes of RAM, where it does not repeat among them.
 #[inline(always)]
 #[tactic(auto, unfolding(crate::specs::Access::Memory::instruction_bytes, crate::specs::Access::Memory::instruction_byte, crate::specs::Access::Memory::byte_at))]
 fn ram_bytes(at: u16, around: &Around) -> [u8; 4]

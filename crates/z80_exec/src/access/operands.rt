@@ -8,7 +8,7 @@ use crate::regs80::{displaced, high, low};
 use crate::{Around, Progress80, Regs80, Waiting};
 use z80_decode::Place8;
 
-/// The address of a place in memory.
+/// The address of a place in memory; None where the place is a register or in the instruction.
 #[tactic(auto, unfolding(crate::specs::Access::Operands::address_of))]
 pub fn address(place: Place8, regs: &Regs80) -> Option<u16>
     ensures { result ≡ operands.address_of place regs.now }
@@ -25,6 +25,7 @@ pub fn address(place: Place8, regs: &Regs80) -> Option<u16>
 }
 
 /// Reads an operand: the byte in memory, the register or the number.
+/// The error is the access that waits for its answer.
 #[tactic(auto, unfolding(crate::specs::Access::Operands::fetch))]
 pub fn fetch(
     place: Place8,
@@ -41,7 +42,7 @@ pub fn fetch(
     }
 }
 
-/// Puts a byte in its place.
+/// Puts a byte in its place. The error is the access that waits for its answer.
 #[tactic(auto, unfolding(crate::specs::Access::Operands::put, crate::specs::Access::Operands::put_memory))]
 pub fn put(
     place: Place8,
@@ -63,6 +64,7 @@ pub fn put(
 }
 
 /// Pushes a word: its high byte below the stack pointer, and its low byte below that.
+/// The error is the access that waits for its answer.
 #[tactic(auto, unfolding(crate::specs::Access::Operands::push))]
 pub fn push(
     value: u16,
@@ -82,6 +84,7 @@ pub fn push(
 }
 
 /// Pops a word: its low byte where the stack pointer points to, and its high byte above that.
+/// The error is the access that waits for its answer.
 #[tactic(auto, unfolding(crate::specs::Access::Operands::pop))]
 pub fn pop(around: &Around, regs: &mut Regs80, progress: &mut Progress80) -> Result<u16, Waiting>
     ensures value { Pops result regs.new (done_of progress.new) (operands.pop regs.old (memory_of around.now) (done_of progress.old)) }

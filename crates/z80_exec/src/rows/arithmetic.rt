@@ -9,6 +9,7 @@ use z80_alu::compute;
 use z80_decode::{Place8, Task80};
 
 /// An operation of A and an operand, with its result in A.
+/// The error is the access that waits for its answer.
 #[tactic(auto, unfolding(crate::specs::Rows::Arithmetic::arithmetic))]
 pub fn operate(
     task: Task80,
@@ -26,7 +27,7 @@ pub fn operate(
 }
 
 /// Reads an operand, and writes the result in its place: INC and DEC, and the rotates, shifts, RES
-/// and SET of the prefix CB.
+/// and SET of the prefix CB. The error is the access that waits for its answer.
 #[tactic(auto, unfolding(crate::specs::Rows::Arithmetic::change))]
 pub fn change(
     task: Task80,

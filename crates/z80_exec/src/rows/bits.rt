@@ -6,7 +6,7 @@ use crate::{Around, Progress80, Regs80, Waiting};
 use z80_alu::compute;
 use z80_decode::{Bit, Place8, Task80};
 
-/// BIT.
+/// BIT. The error is the access that waits for its answer.
 #[tactic(auto, unfolding(crate::specs::Rows::Bits::test_bit))]
 pub fn test_bit(
     bit: Bit,

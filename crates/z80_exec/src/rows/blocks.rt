@@ -27,7 +27,7 @@ pub fn repeats(block: Block) -> bool
     matches!(block, Block::IncrementRepeat | Block::DecrementRepeat)
 }
 
-/// Has an instruction that goes on be carried out again.
+/// Has an instruction that continues be carried out again.
 #[tactic(auto, unfolding(crate::specs::Rows::Blocks::going_on))]
 pub fn go_on(again: bool, regs: &mut Regs80) -> bool
     ensures { outcome_of result regs.new ≡ blocks.going_on again regs.old }
@@ -50,7 +50,7 @@ fn transfer(block: Block, regs: &mut Regs80)
     regs.af = with_low(regs.af, f);
 }
 
-/// LDI, LDD, LDIR, LDDR.
+/// LDI, LDD, LDIR, LDDR. The error is the access that waits for its answer.
 #[tactic(auto, unfolding(crate::specs::Rows::Blocks::block_load))]
 pub fn block_load(
     block: Block,
@@ -79,7 +79,7 @@ fn search(block: Block, value: u8, regs: &mut Regs80)
     regs.af = with_low(regs.af, f);
 }
 
-/// CPI, CPD, CPIR, CPDR.
+/// CPI, CPD, CPIR, CPDR. The error is the access that waits for its answer.
 #[tactic(auto, unfolding(crate::specs::Rows::Blocks::block_compare))]
 pub fn block_compare(
     block: Block,

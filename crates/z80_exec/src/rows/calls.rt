@@ -8,7 +8,7 @@ use crate::access::operands::{pop, push};
 use crate::{Around, Progress80, Regs80, Waiting};
 use z80_decode::Condition;
 
-/// CALL nn, and RST.
+/// CALL nn, and RST. The error is the access that waits for its answer.
 #[tactic(auto, unfolding(crate::specs::Rows::Calls::call))]
 pub fn call(
     target: u16,
@@ -24,7 +24,7 @@ pub fn call(
     Ok(true)
 }
 
-/// CALL cc,nn.
+/// CALL cc,nn. The error is the access that waits for its answer.
 #[tactic(auto, unfolding(crate::specs::Rows::Calls::call_if))]
 pub fn call_if(
     condition: Condition,
@@ -43,7 +43,7 @@ pub fn call_if(
     }
 }
 
-/// RET, and RETI.
+/// RET, and RETI. The error is the access that waits for its answer.
 #[tactic(auto, unfolding(crate::specs::Rows::Calls::return_from))]
 pub fn return_from(
     around: &Around,
@@ -56,7 +56,7 @@ pub fn return_from(
     Ok(true)
 }
 
-/// RET cc.
+/// RET cc. The error is the access that waits for its answer.
 #[tactic(auto, unfolding(crate::specs::Rows::Calls::return_if))]
 pub fn return_if(
     condition: Condition,
@@ -73,7 +73,7 @@ pub fn return_if(
     }
 }
 
-/// RETN.
+/// RETN. The error is the access that waits for its answer.
 #[tactic(auto, unfolding(crate::specs::Rows::Calls::return_from_non_maskable))]
 pub fn return_from_non_maskable(
     around: &Around,

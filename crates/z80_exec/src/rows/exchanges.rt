@@ -42,7 +42,7 @@ pub fn exchange_all(regs: &mut Regs80)
     regs.hl2 = hl;
 }
 
-/// EX (SP),HL.
+/// EX (SP),HL. The error is the access that waits for its answer.
 #[tactic(auto, unfolding(crate::specs::Rows::Exchanges::exchange_stack))]
 pub fn exchange_stack(
     index: Index,

@@ -13,8 +13,8 @@ use crate::{Around, Foreseen80, Progress80, Regs80, Waiting};
 use z80_alu::special_loaded;
 use z80_decode::{Index, Pair, Place8, Special};
 
-/// Writes a byte. Where the write waits, and takes the next answer, the registers behind it are foreseen:
-/// those given.
+/// Writes a byte. Where the write waits, and takes the next answer, the registers after it are predicted:
+/// those given. The error is the access that waits for its answer.
 #[inline(always)]
 #[tactic(auto, using(crate::proofs::Foresight::nothing_waits))]
 fn write_last(
@@ -43,7 +43,8 @@ fn write_last(
     }
 }
 
-/// Puts a byte in its place. Where the write waits, the registers behind it are foreseen.
+/// Puts a byte in its place. Where the write waits, the registers after it are predicted.
+/// The error is the access that waits for its answer.
 #[inline(always)]
 #[tactic(auto, using(crate::proofs::Foresight::nothing_waits), unfolding(crate::specs::Access::Operands::put, crate::specs::Access::Operands::put_memory))]
 fn put_last(
@@ -68,7 +69,7 @@ fn put_last(
     }
 }
 
-/// LD of 8 bits.
+/// LD of 8 bits. The error is the access that waits for its answer.
 #[tactic(auto, using(crate::proofs::Foresight::nothing_foreseen), unfolding(crate::specs::Rows::Loads::load))]
 pub fn load(
     target: Place8,
@@ -114,7 +115,7 @@ pub fn load_to_special(special: Special, regs: &mut Regs80)
     }
 }
 
-/// LD HL,(nn) and LD dd,(nn).
+/// LD HL,(nn) and LD dd,(nn). The error is the access that waits for its answer.
 #[tactic(auto, unfolding(crate::specs::Rows::Loads::load_pair_from))]
 pub fn load_pair_from(
     pair: Pair,
@@ -130,7 +131,7 @@ pub fn load_pair_from(
     Ok(false)
 }
 
-/// LD (nn),HL and LD (nn),dd.
+/// LD (nn),HL and LD (nn),dd. The error is the access that waits for its answer.
 #[tactic(auto, unfolding(crate::specs::Rows::Loads::store_pair))]
 pub fn store_pair(
     at: u16,
@@ -154,7 +155,7 @@ pub fn load_stack_pointer(index: Index, regs: &mut Regs80)
     regs.sp = regs.pair(pair_at(index));
 }
 
-/// PUSH.
+/// PUSH. The error is the access that waits for its answer.
 #[tactic(auto, unfolding(crate::specs::Rows::Loads::push_pair))]
 pub fn push_pair(
     pair: Pair,
@@ -169,7 +170,7 @@ pub fn push_pair(
     Ok(false)
 }
 
-/// POP.
+/// POP. The error is the access that waits for its answer.
 #[tactic(auto, unfolding(crate::specs::Rows::Loads::pop_pair))]
 pub fn pop_pair(
     pair: Pair,

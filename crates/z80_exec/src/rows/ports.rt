@@ -23,7 +23,7 @@ pub fn input_at_number(regs: &mut Regs80)
     regs.set_af(PORT_BYTE, f);
 }
 
-/// IN r,(C).
+/// IN r,(C). The error is the access that waits for its answer.
 #[tactic(auto, unfolding(crate::specs::Rows::Ports::input))]
 pub fn input(
     place: Place8,
@@ -51,7 +51,7 @@ fn pass(block: Block, regs: &mut Regs80)
     regs.af = with_low(regs.af, f);
 }
 
-/// INI, IND, INIR, INDR.
+/// INI, IND, INIR, INDR. The error is the access that waits for its answer.
 #[tactic(auto, unfolding(crate::specs::Rows::Ports::block_input))]
 pub fn block_input(
     block: Block,
@@ -68,7 +68,7 @@ pub fn block_input(
     Ok(go_on(again, regs))
 }
 
-/// OUTI, OUTD, OTIR, OTDR.
+/// OUTI, OUTD, OTIR, OTDR. The error is the access that waits for its answer.
 #[tactic(auto, unfolding(crate::specs::Rows::Ports::block_output))]
 pub fn block_output(
     block: Block,

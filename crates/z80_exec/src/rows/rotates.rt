@@ -8,7 +8,7 @@ use crate::{Around, Progress80, Regs80, Waiting};
 use z80_alu::{compute, rld_memory, rrd_memory};
 use z80_decode::Task80;
 
-/// RLD.
+/// RLD. The error is the access that waits for its answer.
 #[tactic(auto, unfolding(crate::specs::Rows::Rotates::rotate_digits_left))]
 pub fn rotate_digits_left(
     around: &Around,
@@ -26,7 +26,7 @@ pub fn rotate_digits_left(
     Ok(false)
 }
 
-/// RRD.
+/// RRD. The error is the access that waits for its answer.
 #[tactic(auto, unfolding(crate::specs::Rows::Rotates::rotate_digits_right))]
 pub fn rotate_digits_right(
     around: &Around,

@@ -9,10 +9,10 @@ use crate::rows::control::disable;
 use crate::{Around, Progress80, Regs80, Waiting};
 use z80_decode::InterruptMode;
 
-/// Where an interrupt goes on in modes 0 and 1: the byte on the bus is FFh, which is RST 38h.
+/// Where an interrupt continues in modes 0 and 1: the byte on the bus is FFh, which is RST 38h.
 const RESTART: u16 = 0x38;
 
-/// Where an interrupt goes on, by its mode.
+/// Where an interrupt continues, by its mode. The error is the shared read that waits, of mode 2.
 #[tactic(auto, unfolding(crate::specs::Sample::Entries::target_of))]
 fn target_of(
     mode: InterruptMode,
@@ -28,7 +28,7 @@ fn target_of(
     }
 }
 
-/// Begins an interrupt.
+/// Begins an interrupt. The error is the access that waits for its answer.
 #[tactic(auto, unfolding(crate::specs::Sample::Entries::enter))]
 pub fn enter(around: &Around, regs: &mut Regs80, progress: &mut Progress80) -> Result<(), Waiting>
     requires { array_vec_len progress.old.writes + 2 ≤ 4 }

@@ -26,8 +26,8 @@ use crate::rows::rotates::{rotate_digits_left, rotate_digits_right};
 use crate::{Around, Foreseen80, Progress80, Regs80, Waiting};
 use z80_decode::{Op80, Task80};
 
-/// Carries out an instruction. On entry the program counter is behind it. Tells whether it took the
-/// longer of two times.
+/// Carries out an instruction. On entry the program counter is after it. Answers whether it took the
+/// longer of two times. The error is the access that waits for its answer.
 #[tactic(auto, using(crate::proofs::Foresight::nothing_foreseen))]
 pub fn execute(
     op: Op80,

@@ -4,7 +4,7 @@ use crate::Regs80;
 use md_word::Request80;
 use z80_decode::InterruptMode;
 
-/// What a sample of the Z80 comes to, once its shared accesses are answered.
+/// What a sample of the Z80 results in, once its shared accesses are answered.
 #[derive(Clone, Copy)]
 pub struct Finish80 {
     /// The clocks that it took, 4 to 23: at least 4, and 3 for each shared access.
@@ -24,14 +24,14 @@ pub enum Step80 {
     Done(Finish80),
 }
 
-/// What comes behind a write that waits for its answer, where that is known: the write is the last
+/// What follows a write that waits for its answer, where that is known: the write is the last
 /// access of its instruction, no answer to it changes anything, and nothing private is written.
 #[derive(Clone, Copy)]
 pub struct Foreseen80 {
     pub known: bool,
     /// The registers then.
     pub regs: Regs80,
-    /// What the sample comes to.
+    /// What the sample results in.
     pub finish: Finish80,
 }
 

@@ -130,7 +130,7 @@ fn either(taken: bool, longer: u32, shorter: u32) -> u32
     if taken { longer } else { shorter }
 }
 
-/// The clocks of an interrupt.
+/// The clocks of an interrupt. Source: Zilog UM0080, "Interrupt Response".
 pub fn interrupt_time(mode: InterruptMode) -> u32
     ensures { result ≡ times.interrupt_time mode }
 {
@@ -140,7 +140,9 @@ pub fn interrupt_time(mode: InterruptMode) -> u32
     }
 }
 
-/// The clocks of an instruction; of two times the longer where it was taken or goes on.
+/// The clocks of an instruction; of two times the longer where it was taken or continues.
+///
+/// Source: Zilog UM0080, "Z80 Instruction Description" (T states).
 #[inline(always)]
 pub fn time_of(op: Op80, taken: bool) -> u32
     ensures { result ≡ times.time_of op taken }

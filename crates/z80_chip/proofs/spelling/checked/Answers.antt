@@ -4,6 +4,7 @@ use Rattle.md_fields.specs.Fields.{sizes, first_wrong}
 use Rattle.z80_chip.specs.Saved.{number_fields}
 use Rattle.z80_chip.proofs.SpellingLaws.{breaks_bank, breaks_number, has_store, number_size, right_numbers, stands_by}
 use Rattle.z80_chip.proofs.spelling.checked.Goals as goal
+use Rattle.z80_parcel.specs.Parcels.{banks}
 use Rattle.z80_chip.proofs.spelling.checked.Goals.{else-bytes-ne-RAM-via-then-bytes-ne-RAM+else-bytes-ne-LENGTH, else-bytes-ne-RAM-via-else-bytes-ne-RAM, else-has-via-then-has+else-u16_at-ge-BANKS, else-has-via-else-has}
 
 pub first_wrong-requires : goal.first_wrong-requires
@@ -27,7 +28,7 @@ returns-then-u16_at-ge-BANKS-clause-refused c = λ cart.
     ]) c.read-saved.ensures)
     (ap (λ has. first_wrong 0 (number_fields c.args.at has c.read-saved.result)) (sym (has_store c.args.bytes.now)) ∙ ap (first_wrong 0) (sym c.fields.ensures.fields) ∙ sym c.first_wrong.ensures ∙ c.in_default.is)
     (ne_eqb _ _ c.if-has.true)
-    (ap (λ (n : ℕ). ltb n 512) (sym c.u16_at.ensures) ∙ le-ltb c.u16_at.result 512 c.if-u16_at-ge-BANKS.true)
+    (ap (λ (n : ℕ). ltb n banks) (sym c.u16_at.ensures) ∙ le-ltb c.u16_at.result banks c.if-u16_at-ge-BANKS.true)
 
 pub returns-clause-found : goal.returns-clause-found
 returns-clause-found c = record {
@@ -42,7 +43,7 @@ returns-clause-found c = record {
   right = right_numbers c.args.at c.args.bytes.now c.read-saved.result
       (ap (λ has. first_wrong 0 (number_fields c.args.at has c.read-saved.result)) (sym (has_store c.args.bytes.now)) ∙ ap (first_wrong 0) (sym c.fields.ensures.fields) ∙ sym c.first_wrong.ensures ∙ c.in_default.is)
       (elim c.else-has.branch [
-        | else-has-via-then-has+else-u16_at-ge-BANKS w ↦ (λ long. ap (λ (n : ℕ). ltb n 512) (sym w.u16_at.ensures) ∙ lt-ltb w.u16_at.result 512 (omega (arith, w.if-u16_at-ge-BANKS.false)))
+        | else-has-via-then-has+else-u16_at-ge-BANKS w ↦ (λ long. ap (λ (n : ℕ). ltb n banks) (sym w.u16_at.ensures) ∙ lt-ltb w.u16_at.result banks (omega (arith, w.if-u16_at-ge-BANKS.false)))
         | else-has-via-else-has w ↦ (λ long. absurd (both_ways _ long (eq-eqb _ _ w.if-has.false)))
       ]);
 }

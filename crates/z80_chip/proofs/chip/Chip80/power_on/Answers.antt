@@ -4,6 +4,7 @@ use Rattle.rom_header.specs.Cartridge.{IsImage}
 use Rattle.z80_chip.specs.Validity.{IsChip80}
 use Rattle.z80_chip.specs.States.{State80, power_on, state_of}
 use Rattle.z80_chip.proofs.Foresight.{sample-foreseen}
+use Rattle.z80_parcel.specs.Parcels.{ram_size}
 use Rattle.z80_chip.proofs.Laws.{of, power_on-ok}
 use Rattle.z80_chip.proofs.chip.Chip80.power_on.Goals as goal
 
@@ -13,7 +14,7 @@ made c =
     let first = c.in_ok-parcel.ensures {u = tt} in
     c.power_on.ensures (Some c.in_ok-parcel.parcel)
     ∙ ap (λ (l : List ℕ). record power_on { store = Some (record { ram = l; bank = c.in_ok-parcel.parcel.bank }) }) first.ram
-    ∙ ap (λ (n : ℕ). record power_on { store = Some (record { ram = replicate 0x2000 0; bank = n }) }) first.bank
+    ∙ ap (λ (n : ℕ). record power_on { store = Some (record { ram = replicate ram_size 0; bank = n }) }) first.bank
 
 pub invariant_of-result : goal.invariant_of-result
 unfolding power_on

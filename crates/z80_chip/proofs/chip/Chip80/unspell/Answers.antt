@@ -8,7 +8,7 @@ use Rattle.z80_parcel.specs.Parcels.{Store, store_of}
 use Rattle.z80_chip.specs.Rules.{HasRules}
 use Rattle.z80_chip.specs.Saved.{asks_more, chip_fields, kept_of, state_from}
 use Rattle.z80_chip.specs.Validity.{IsChip80}
-use Rattle.z80_chip.specs.Spelling.{GoesWrongAt, Spells, store_at}
+use Rattle.z80_chip.specs.Spelling.{GoesWrongAt, Spells, ram_offset, store_at}
 use Rattle.z80_chip.specs.States.{State80, state_of}
 use Rattle.z80_chip.specs.declared.saved.Saved80.{Saved80}
 use Rattle.z80_chip.proofs.Laws.{of}
@@ -40,7 +40,7 @@ told image cart bytes saved store asks same there e =
     sym (e ∙ ap (λ (l : List ℕ). asks_more l (record { numbers = saved; store = store })) same
     ∙ ap (λ (o : Option Store). asks_more cart (record { numbers = saved; store = o })) there)
 
-wrong_ram : (c : goal.After-drop-cart-then-not-asks_more) → GoesWrongAt (arc_value c.args.cart) c.args.at c.args.bytes.now 62
+wrong_ram : (c : goal.After-drop-cart-then-not-asks_more) → GoesWrongAt (arc_value c.args.cart) c.args.at c.args.bytes.now ram_offset
 wrong_ram c =
     breaks_ram (arc_value c.args.cart) c.args.at c.args.bytes.now c.in-Ok.saved (λ i. omega (arith, c.type_inv.bytes i)) c.in-Ok.ensures.found
     (told c.deref-2.result.now (arc_value c.args.cart) c.args.bytes.now c.in-Ok.saved (option_map store_of c.in_ok-parcel.parcel) c.asks_more.result c.deref-2.ensures c.in_ok-parcel.ensures c.asks_more.ensures
@@ -48,15 +48,15 @@ wrong_ram c =
 
 pub returns-then-not-asks_more-clause-only : goal.returns-then-not-asks_more-clause-only
 returns-then-not-asks_more-clause-only c = λ state p n.
-    absurd (right_not_refused (arc_value c.args.cart) c.args.at c.args.bytes.now (kept_of state) 62 p.keeps p.right (wrong_ram c))
+    absurd (right_not_refused (arc_value c.args.cart) c.args.at c.args.bytes.now (kept_of state) ram_offset p.keeps p.right (wrong_ram c))
 
 pub returns-then-not-asks_more-clause-rule : goal.returns-then-not-asks_more-clause-rule
 returns-then-not-asks_more-clause-rule c = λ place e.
-    subst (λ (p : ℕ). GoesWrongAt (arc_value c.args.cart) c.args.at c.args.bytes.now p) (same_rule 62 place e) (wrong_ram c)
+    subst (λ (p : ℕ). GoesWrongAt (arc_value c.args.cart) c.args.at c.args.bytes.now p) (same_rule ram_offset place e) (wrong_ram c)
 
 pub returns-then-not-asks_more-clause-refused : goal.returns-then-not-asks_more-clause-refused
 returns-then-not-asks_more-clause-refused c = λ place wrong n.
-    ap (λ (p : ℕ). Err (Rule p)) (only_place (arc_value c.args.cart) c.args.at c.args.bytes.now 62 place (wrong_ram c) wrong)
+    ap (λ (p : ℕ). Err (Rule p)) (only_place (arc_value c.args.cart) c.args.at c.args.bytes.now ram_offset place (wrong_ram c) wrong)
 
 pub sequencer-requires : goal.sequencer-requires
 sequencer-requires c = omega (arith, count_few c.args.at true _ (read_rules c.args.at c.args.bytes.now c.in-Ok.saved c.in-Ok.ensures.found))

@@ -1,0 +1,160 @@
+//! The accesses of the Z80: what each asks for, and what its answer leads to.
+ghost use Rattle.std.specs.Prelude.{◌≡◌, ◌+◌, ◌*◌, ◌<◌, ◌≤◌, ℕ, List, [], length, IfSome, IsSome, true, Option, Some, None, option_map, is_some};
+ghost use Rattle.arrayvec.specs.ArrayVec.{array_vec_len};
+ghost use Rattle.md_word.specs.Clock.{cycle_limit};
+ghost use Rattle.md_word.specs.declared.sub_bus.Parcel.{Parcel as Held};
+ghost use Rattle.z80_chip.specs.Events as events;
+ghost use Rattle.z80_chip.specs.Events.{answered, asked_of, carried_out, handed, went_on};
+ghost use Rattle.z80_chip.specs.Foresight.{Foretells, IsForeseen};
+ghost use Rattle.z80_chip.specs.States.{State80, state_of};
+ghost use Rattle.z80_chip.specs.declared.stage.Stage.TheVariants as stages;
+ghost use Rattle.z80_parcel.specs.Parcels.{Store, store_of};
+ghost use Rattle.z80_parcel.specs.Requests as requests;
+ghost use Rattle.z80_parcel.specs.Requests.{request_value80_of, answer_value80_of};
+
+use crate::sequencer::Sequencer;
+use crate::stage::Stage;
+use md_word::{Answer80, Parcel, Request80};
+use rom_header::Cart;
+use z80_exec::{DecodeCache80, Progress80, Step80, go};
+
+/// The master cycles from the sample that saw the request change to the sample after it.
+const MOVE_STEP: u64 = 105;
+
+impl Sequencer {
+    /// The request of the access that is the next event. A yield hands over the RAM.
+    #[tactic(auto, unfolding(crate::specs::Events::asked_of, crate::specs::Events::handed))]
+    pub fn request(
+        &mut self,
+        cart: &Cart,
+        parcel: &mut Option<Parcel>,
+        progress: &mut Progress80,
+    ) -> Request80
+        requires access { events.Waits self.old.stage cart.now (state_of self.old parcel.old) }
+        requires foreseen { IsForeseen self.old.stage cart.now (state_of self.old parcel.old) self.old.behind }
+        ensures request { request_value80_of result ≡ asked_of cart.now (state_of self.old parcel.old) }
+        ensures state { state_of self.new parcel.new ≡ handed (state_of self.old parcel.old) }
+        ensures foreseen { IsForeseen self.new.stage cart.now (state_of self.new parcel.new) self.new.behind }
+    {
+        match self.stage {
+            Stage::Access => self.waiting(cart, parcel, progress),
+            Stage::Yield => yield_parcel(parcel),
+            Stage::Sample | Stage::Take => Request80::Take,
+        }
+    }
+
+    /// The read or write that waits for its answer.
+    fn waiting(
+        &mut self,
+        cart: &Cart,
+        parcel: &Option<Parcel>,
+        progress: &mut Progress80,
+    ) -> Request80
+        requires ram { IsSome parcel.now }
+        requires asked { events.Asks cart.now (state_of self.old parcel.now) }
+        requires foretells { Foretells self.old.behind cart.now (state_of self.old parcel.now) self.old.cause }
+        ensures request { request_value80_of result ≡ events.asked_in (carried_out cart.now (state_of self.old parcel.now) self.old.cause) }
+        ensures state { self.new ≡ self.old }
+    {
+        if self.behind.end.known {
+            return Request80::Write(self.behind.address, self.behind.value);
+        }
+        match parcel {
+            None => Request80::Take,
+            Some(parcel) => match go(
+                &mut self.regs,
+                cart,
+                parcel,
+                &self.answers,
+                self.cause,
+                progress,
+            ) {
+                Step80::Need(request) => request,
+                Step80::Done(_) => unreachable!(),
+            },
+        }
+    }
+
+    /// Takes the answer to the access that is the next event.
+    #[tactic(auto, unfolding(crate::specs::Events::answered))]
+    pub fn answer(
+        &mut self,
+        answer: Answer80,
+        cart: &Cart,
+        parcel: &mut Option<Parcel>,
+        cache: &mut DecodeCache80,
+        progress: &mut Progress80,
+    )
+        requires start { self.old.start < cycle_limit }
+        requires few { array_vec_len self.old.answers < 4 }
+        requires ram { events.HasRam self.old.stage (state_of self.old parcel.old) }
+        requires foreseen { IsForeseen self.old.stage cart.now (state_of self.old parcel.old) self.old.behind }
+        ensures foreseen { IsForeseen self.new.stage cart.now (state_of self.new parcel.new) self.new.behind }
+        ensures state { state_of self.new parcel.new ≡ answered cart.now (state_of self.old parcel.old) (answer_value80_of answer) }
+    {
+        match self.stage {
+            Stage::Sample => {}
+            Stage::Access => self.take_value(value_in(&answer), cart, parcel, cache, progress),
+            Stage::Yield | Stage::Take => {
+                *parcel = parcel_in(answer);
+                self.wait(MOVE_STEP);
+            }
+        }
+    }
+
+    /// Takes the answer to a read or a write.
+    fn take_value(
+        &mut self,
+        value: u8,
+        cart: &Cart,
+        parcel: &mut Option<Parcel>,
+        cache: &mut DecodeCache80,
+        progress: &mut Progress80,
+    )
+        requires start { self.old.start < cycle_limit }
+        requires few { array_vec_len self.old.answers < 4 }
+        requires ram { IsSome parcel.old }
+        requires foretells { Foretells self.old.behind cart.now (state_of self.old parcel.old) self.old.cause }
+        ensures state { state_of self.new parcel.new ≡ events.went_on_with cart.now (state_of self.old parcel.old) value }
+        ensures foreseen { IsForeseen self.new.stage cart.now (state_of self.new parcel.new) self.new.behind }
+    {
+        if self.behind.end.known {
+            self.end_foreseen();
+            return;
+        }
+        self.answers.push(value);
+        let cause = self.cause;
+        self.carry_out(cause, cart, parcel, cache, progress);
+    }
+}
+
+/// What a yield hands over: the parcel, which the Z80 no longer has.
+fn yield_parcel(parcel: &mut Option<Parcel>) -> Request80
+    ensures request { request_value80_of result ≡ events.handing (option_map store_of parcel.old) }
+    ensures none { parcel.new ≡ None }
+{
+    match parcel.take() {
+        Some(parcel) => Request80::Yield(parcel),
+        None => Request80::Take,
+    }
+}
+
+/// The value that an answer has; 0 where it has none.
+fn value_in(answer: &Answer80) -> u8
+    ensures { result ≡ requests.value_in (answer_value80_of answer.now) }
+{
+    match answer {
+        Answer80::Value(value) => *value,
+        Answer80::Done | Answer80::Back(_) => 0,
+    }
+}
+
+/// The parcel that an answer gives back; None where it gives none.
+fn parcel_in(answer: Answer80) -> Option<Parcel>
+    ensures { option_map store_of result ≡ requests.store_in (answer_value80_of answer) }
+{
+    match answer {
+        Answer80::Back(parcel) => Some(parcel),
+        Answer80::Value(_) | Answer80::Done => None,
+    }
+}
