@@ -1,4 +1,4 @@
--- A batch of sixteen samples, from any chip and any list of writes. A sample stands every 1,008
+-- A batch of sixteen samples, from any chip and any list of writes. A sample is made every 1,008
 -- cycles of the master clock.
 use Rattle.std.specs.Prelude.{ℕ, zero, suc, ◌+◌, ◌*◌, ℤ, List, map}
 use Rattle.std.specs.List.{range_with_len}

@@ -32,8 +32,8 @@ pub record Continues (history writes : List FmWrite) (first : ℕ) : Type 0 wher
 unfoldable pub sixteen : List FmWrite → ℕ → List (ℤ × ℤ)
 sixteen history first = map (λ k. sides_at history (first + k)) (range_with_len 0 16)
 
--- what a batch makes of a chip that stands where the history left it: the samples over the history
--- with its writes, and a chip that stands where both leave it, before the next batch
+-- what a batch makes of a chip as the history left it: the samples over the history
+-- with its writes, and a chip as both leave it, before the next batch
 pub record IsNextBatch (history writes : List FmWrite) (first : ℕ) (after : Synth) (made : List (ℤ × ℤ)) : Type 0 where
   pub out : made ≡ sixteen (history ++ writes) first
   pub chip : after ≡ chip_before (history ++ writes) (first + 16)

@@ -47,7 +47,7 @@ impl Operator {
         self.on = envelope.on;
     }
 
-    /// Whether its envelope has come to the end of its release, where a tick leaves it as it is.
+    /// Whether its envelope has reached the end of its release, where a tick leaves it as it is.
     #[inline(always)]
     pub fn is_at_rest(&self) -> bool
         ensures { IsTrue result → IsAtRest self.now }
@@ -96,7 +96,7 @@ impl Operator {
         self.phase = (self.phase + step) % 0x10_0000;
     }
 
-    /// Puts its key on or off; a key that goes on starts the phase again. `attack` is the rate of its
+    /// Puts its key on or off; a key-on starts the phase again. `attack` is the rate of its
     /// attack.
     #[tactic(auto, unfolding(crate::specs::Operators::pressed))]
     pub fn press(&mut self, on: bool, attack: u32)

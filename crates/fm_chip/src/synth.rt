@@ -102,8 +102,8 @@ impl FmSynth {
         ensures range { All IsSides out.new }
         ensures synth { IsSynth self.new }
 
-        // From a chip that stands where a history of writes left it, the samples are those over that
-        // history and these writes, and the chip stands where both leave it.
+        // From a chip as a history of writes left it, the samples are those over that
+        // history and these writes, and the chip is as both leave it.
         ensures history { (history : List Write) → Continues history list.now.items first
             → self.old ≡ chip_before history first
             → IsNextBatch history list.now.items first self.new out.new }
@@ -156,7 +156,7 @@ impl FmSynth {
         false
     }
 
-    /// Whether all envelopes have come to the end of their release, with the converter off: then nothing is heard
+    /// Whether all envelopes have reached the end of their release, with the converter off: then nothing is heard
     /// while nothing is written. A chip that is not idle may be silent too.
     pub fn is_idle(&self) -> bool
         ensures { result ≡ true → IsIdle self.now }
@@ -277,7 +277,7 @@ impl FmSynth {
         self.set_register(place, value);
     }
 
-    /// Puts the keys that a byte tells on or off.
+    /// Puts the keys that a byte sets on or off.
     #[tactic(auto, unfolding(crate::specs::Synth::with_keys))]
     fn set_keys(&mut self, value: u8)
         ensures { self.new ≡ meaning.with_keys value self.old }

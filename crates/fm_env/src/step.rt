@@ -48,7 +48,7 @@ fn entry(rate: u32, place: u32) -> u32
     }
 }
 
-/// By how much an envelope of this rate, 0 to 63, steps where the shared counter has come to
+/// By how much an envelope of this rate, 0 to 63, steps where the shared counter has reached
 /// `counter`: 0 to 8.
 #[tactic(auto, unfolding(crate::specs::Steps::step))]
 pub fn step(counter: u32, rate: u32) -> u32

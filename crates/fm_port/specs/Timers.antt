@@ -8,7 +8,7 @@ use Rattle.fm_port.specs.declared.timers.Timers.{Timers}
 abbrev pub overflowed : ℕ → Bool → Timer → Timer
 overflowed period enabled t = record { run = t.run; next = t.next + period; flag = t.flag || enabled }
 
--- whether an overflow stands below a cycle
+-- whether an overflow is below a cycle
 abbrev pub is_due : ℕ → Timer → Bool
 is_due cycle t = t.run && nat_lt t.next cycle
 
@@ -98,10 +98,10 @@ unfoldable pub status : ℕ → Timers → ℕ
 status cycle t =
     bit (shown cycle (t.control / 4 % 2 == 1) t.a) + 2 * bit (shown cycle (t.control / 8 % 2 == 1) t.b)
 
--- a timer that stands still
+-- a timer that is stopped
 abbrev pub idle : Timer
 idle = record { run = false; next = 0; flag = false }
 
--- at power-on both stand still, and their registers are 0
+-- at power-on both are stopped, and their registers are 0
 abbrev pub at_power_on : Timers
 at_power_on = record { high_a = 0; low_a = 0; number_b = 0; control = 0; a = idle; b = idle }

@@ -96,7 +96,7 @@ impl FmPort {
     }
 
     /// Resets the chip by a write of the 68000: latches and timers become 0, and the reset is held
-    /// behind the writes.
+    /// after the writes.
     #[tactic(auto, unfolding(crate::specs::Port::reset))]
     pub fn reset(&mut self, key: Key)
         requires { key.chip ≡ 0 }
@@ -133,8 +133,8 @@ impl FmPort {
         self.timers.status(cycle)
     }
 
-    /// Whether each held write stands its processor's gap before the next event of that processor, at
-    /// least: the 68000's stands at `main`, the Z80's at `sub`.
+    /// Whether each held write is its processor's gap before the next event of that processor, at
+    /// least: the 68000's is at `main`, the Z80's at `sub`.
     pub fn is_before_next(&self, main: u64, sub: u64) -> bool
         ensures { result ≡ list_all (λ w. before_next main sub w.key) self.now.writes }
     {

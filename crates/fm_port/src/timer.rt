@@ -13,7 +13,7 @@ pub struct Timer {
 }
 
 impl Timer {
-    /// A timer that stands still.
+    /// A timer that is stopped.
     pub fn power_on() -> Timer
         ensures value { result ≡ meaning.idle }
         ensures timer { IsTimer result }
@@ -46,7 +46,7 @@ impl Timer {
         self.flag = either(self.flag, enabled);
     }
 
-    /// Whether an overflow stands below a cycle.
+    /// Whether an overflow is below a cycle.
     fn is_due(&self, cycle: u64) -> bool
         ensures { result ≡ meaning.is_due cycle self.now }
     {

@@ -1,5 +1,5 @@
 -- Courses that are cut and joined.
-use Rattle.std.proofs.Common.{◌≡◌, ◌∙◌, sym, ap, ℕ, zero, suc, ◌+◌, ◌-◌, ◌*◌, ◌≤◌, List, add-zero, add-suc, add-one, arith}
+use Rattle.std.proofs.Common.{◌≡◌, ◌∙◌, sym, ap, ℕ, zero, suc, ◌+◌, ◌-◌, ◌*◌, ◌≤◌, List, add-zero, add-suc, arith}
 use Rattle.sound_writes.proofs.Courses as courses
 use Rattle.sound_writes.proofs.Courses.{due-made_below, finished-made_below}
 use Rattle.psg_sound.specs.declared.write.PsgWrite.{PsgWrite}
@@ -38,7 +38,7 @@ pub finished-after_ticks : (t a : ℕ) → a ≤ 240 * (t + 1) → (m : ℕ) (c 
 finished-after_ticks t a h zero c = finished-made_below stamp_of write_made a c.chip c.rest
 finished-after_ticks t a h (suc m) c = ap finished (after_ticks-due t a h m c)
 
--- a course goes on from tick number t to number u
+-- a course continues from tick number t to number u
 pub course_to-joined : (from t u : ℕ) (s : Synth) (ws : List PsgWrite) → ticks_below from ≤ t → t ≤ u
     → after_ticks t (u - t) (course_to from s ws t) ≡ course_to from s ws u
 course_to-joined from t u s ws h k =
@@ -63,8 +63,3 @@ pub finished-course_to : (from t u a : ℕ) (s : Synth) (ws : List PsgWrite) (c 
 finished-course_to from t u a s ws c h k soon e =
     ap (λ (d : Course). finished (after_ticks t (u - t) d)) e ∙ finished-after_ticks t a soon (u - t) (course_to from s ws t)
     ∙ ap finished (course_to-joined from t u s ws h k)
-
--- one more tick
-pub after_ticks-next : (t n m : ℕ) (c d : Course) → d ≡ after_ticks t n c → m ≡ n + 1 → next_tick (240 * (t + m)) d ≡ after_ticks t m c
-after_ticks-next t n m c d e k =
-    ap (λ j. next_tick (240 * (t + j)) d) (k ∙ add-one n) ∙ ap (next_tick (240 * (t + suc n))) e ∙ ap (λ j. after_ticks t j c) (sym (k ∙ add-one n))

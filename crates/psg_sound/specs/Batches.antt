@@ -1,5 +1,5 @@
 -- A batch of sixteen samples, from any chip and any list of writes.
--- The PSG ticks every 240 cycles of the master clock; a sample stands every 1,008.
+-- The PSG ticks every 240 cycles of the master clock; a sample is made every 1,008.
 use Rattle.std.specs.Prelude.{◌≡◌, ◌≤◌, ℕ, zero, suc, ◌+◌, ◌-◌, ◌*◌, ◌/◌, ℤ, List, map}
 use Rattle.std.specs.List.{range_with_len}
 use Rattle.sound_writes.specs.Course as course
@@ -37,11 +37,11 @@ abbrev pub after_ticks : ℕ → ℕ → Course → Course
 after_ticks t zero c = c
 after_ticks t (suc n) c = next_tick (240 * (t + suc n)) (after_ticks t n c)
 
--- how many ticks stand up to a cycle, and below it: they stand at 240, 480 and so on
+-- how many ticks are up to a cycle, and below it: they are at 240, 480 and so on
 abbrev pub ticks_to : ℕ → ℕ
 ticks_to cycle = cycle / 240
 
--- those that stand below it
+-- those that are below it
 abbrev pub ticks_below : ℕ → ℕ
 ticks_below cycle = (cycle - 1) / 240
 

@@ -44,8 +44,8 @@ pub record Continues (history writes : List PsgWrite) (first : ℕ) : Type 0 whe
 unfoldable pub levels : List PsgWrite → ℕ → List ℤ
 levels history first = map (λ k. level_at history (first + k)) (range_with_len 0 16)
 
--- what a batch makes of a chip that stands where the history left it: the levels over the history
--- with its writes, and a chip that stands where both leave it, before the next batch
+-- what a batch makes of a chip as the history left it: the levels over the history
+-- with its writes, and a chip as both leave it, before the next batch
 pub record IsNextBatch (history writes : List PsgWrite) (first : ℕ) (after : Synth) (heard_levels : List ℤ) : Type 0 where
   pub out : heard_levels ≡ levels (history ++ writes) first
   pub chip : after ≡ chip_before (history ++ writes) (first + 16)

@@ -58,7 +58,7 @@ impl Sound {
         }
     }
 
-    /// Begins anew at power-on; what was kept stays.
+    /// Begins again at power-on; what was kept stays.
     pub fn restart(&mut self) {
         self.psg_port = PsgPort::power_on();
         self.psg = PsgSynth::power_on();
@@ -72,7 +72,7 @@ impl Sound {
         self.kept = String::new(self.alloc);
     }
 
-    /// Keeps what was heard, and begins anew.
+    /// Keeps what was heard, and begins again.
     pub fn keep(&mut self) {
         self.kept = std::mem::replace(&mut self.heard, String::new(self.alloc));
         self.restart();

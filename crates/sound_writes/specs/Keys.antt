@@ -5,11 +5,11 @@ use Rattle.md_word.specs.Keys.{key_lt}
 use Rattle.md_word.specs.declared.key.Key.{Key}
 use Rattle.sound_writes.specs.declared.earliest.Earliest.{Earliest}
 
--- the last batch before a cycle: one stands at each multiple of 16,128 cycles
+-- the last batch before a cycle: one is at each multiple of 16,128 cycles
 abbrev pub last_batch : ℕ → ℕ
 last_batch at = (at - 1) / 16128 * 16128
 
--- a processor's writes stand so many cycles apart, at least: the 68000's 28, the Z80's 45
+-- a processor's writes are so many cycles apart, at least: the 68000's 28, the Z80's 45
 abbrev pub gap : ℕ → ℕ
 gap chip = if chip == 0 then 28 else 45
 
@@ -22,7 +22,7 @@ abbrev pub is_behind : Key → Key → Bool
 is_behind earlier later =
     key_lt earlier later && (if earlier.chip == later.chip then nat_le (earlier.cycle + gap earlier.chip) later.cycle else true)
 
--- each key stands behind all that are before it
+-- each key is after all that are before it
 abbrev pub are_spaced : List Key → Bool
 are_spaced [] = true
 are_spaced (key ∷ rest) = list_all (is_behind key) rest && are_spaced rest
@@ -31,7 +31,7 @@ are_spaced (key ∷ rest) = list_all (is_behind key) rest && are_spaced rest
 abbrev pub are_kept : ℕ → List Key → Bool
 are_kept at keys = list_all (is_kept at) keys && are_spaced keys
 
--- a write stands its processor's gap before the next event of that processor, at least
+-- a write is its processor's gap before the next event of that processor, at least
 abbrev pub is_before_next : ℕ → ℕ → Key → Bool
 is_before_next main sub key = nat_le (key.cycle + gap key.chip) (if key.chip == 0 then main else sub)
 
@@ -50,7 +50,7 @@ fits at e key =
 abbrev pub later : ℕ → ℕ → ℕ
 later cycle more = min (2 ^ 64 - 1) (cycle + more)
 
--- behind a write with this key
+-- after a write with this key
 abbrev pub after : Key → Earliest → Earliest
 after key e =
     if key.chip == 0 then record { main = later key.cycle 28; sub = max e.sub key.cycle }

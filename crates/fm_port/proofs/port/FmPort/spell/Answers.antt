@@ -12,7 +12,7 @@ use Rattle.fm_port.specs.declared.write.FmWrite.{FmWrite}
 use Rattle.fm_port.proofs.PortBytes.{number_size, parts_are, port_kept, port_within}
 use Rattle.fm_port.proofs.port.FmPort.spell.Goals as goal
 
--- four parts behind what was there
+-- four parts after what was there
 parts : (old one two three four bytes numbers count writes unused : List ℕ) → one ≡ old ++ numbers → two ≡ one ++ count → three ≡ two ++ writes → four ≡ three ++ unused
     → numbers ++ (count ++ (writes ++ unused)) ≡ bytes → four ≡ old ++ bytes
 parts old one two three four bytes numbers count writes unused a b d e f =
