@@ -2,3 +2,4 @@ pub mod Agree
 pub mod Below
 pub mod Choices
 pub mod Regions
+pub mod Tables
