@@ -1,4 +1,5 @@
-ghost use Rattle.std.specs.Prelude.{◌≡◌, ◌+◌, ◌*◌, ◌^◌, ◌<◌, ◌≤◌, List, [], ◌∷◌, length, All, true};
+ghost use Rattle.std.specs.Prelude.{◌≡◌, ◌+◌, ◌*◌, ◌<◌, ◌≤◌, List, [], ◌∷◌, length, All, true};
+ghost use Rattle.md_word.specs.Clock.{cycle_limit};
 ghost use Rattle.fm_chip.specs.Synth as meaning;
 ghost use Rattle.fm_chip.specs.Synth.{IsIdle, IsSides, IsSynth, at_power_on, written, sides, sampled};
 ghost use Rattle.fm_chip.specs.Batches.{after_batch, made_below, samples, written_all};
@@ -95,7 +96,7 @@ impl FmSynth {
     /// writes that are left come at the end. A sample is the sums of the left and the right side,
     /// each from −49,152 to 49,152.
     pub fn batch(&mut self, first: u64, list: &FmList, out: &mut [(i32, i32); 16])
-        requires { first ≤ 2 ^ 50 }
+        requires { first ≤ cycle_limit }
         ensures chip { self.new ≡ after_batch first self.old list.now.items }
         ensures samples { out.new ≡ samples first self.old list.now.items }
         ensures sixteen { length out.new ≡ 16 }

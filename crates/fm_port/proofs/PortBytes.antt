@@ -8,6 +8,7 @@ use Rattle.std.proofs.Math.Nat.{min-eq_left}
 use Rattle.std.proofs.lemmas.Bool.{and_parts, eqb-true, le-leb, leb-true, lt-leb, ltb-true}
 use Rattle.std.proofs.lemmas.List.{append-nil, length-append, length-take, length-drop, length-map, take_at}
 use Rattle.std.proofs.lemmas.List.Elements.{All-cons, All-nil}
+use Rattle.md_word.specs.Clock.{cycle_limit}
 use Rattle.md_word.specs.Coding.{flag_number}
 use Rattle.md_word.proofs.Below.{bit_below}
 use Rattle.md_word.specs.declared.key.Key.{Key}
@@ -393,11 +394,11 @@ read_spells at bytes s fits long head none e =
       fit = subst (AreFit write_fields) (sym (all_again (writes_at k.count k.entries) (and_parts _ _ (and_parts _ _ (and_parts _ _ e).1).0).0)) fit;
     }
 
-next_by : (runs : Bool) (at longest next : ℕ) → at ≤ 2 ^ 50 → longest ≤ 4128768 → cond runs (nat_le at next && nat_lt (next - at) longest) (eqb next 0) ≡ true → next ≤ 2 ^ 51
+next_by : (runs : Bool) (at longest next : ℕ) → at ≤ cycle_limit → longest ≤ 4128768 → cond runs (nat_le at next && nat_lt (next - at) longest) (eqb next 0) ≡ true → next ≤ 2 ^ 51
 next_by true at longest next far few e = omega (arith, far, few, ltb-true (next - at) longest (and_parts _ _ e).1)
 next_by false at longest next far few e = omega (arith, eqb-true next 0 e)
 
-next_few : (at longest run next : ℕ) → at ≤ 2 ^ 50 → longest ≤ 4128768 → is_next at longest run next ≡ true → next ≤ 2 ^ 51
+next_few : (at longest run next : ℕ) → at ≤ cycle_limit → longest ≤ 4128768 → is_next at longest run next ≡ true → next ≤ 2 ^ 51
 next_few at longest run next far few e = next_by (eqb run 1) at longest next far few e
 
 chips_kept : (at : ℕ) (ws : List FmWrite) → list_all (is_kept at) (map key_of (map saved_write_of ws)) ≡ true → All (λ w. w.key.chip < 2) ws
@@ -407,7 +408,7 @@ chips_kept at (w ∷ ws) e =
     All-cons (λ (v : FmWrite). v.key.chip < 2) w ws (ltb-true w.key.chip 2 (and_parts _ _ p.0).0) (chips_kept at ws p.1)
 
 -- what is spelled is a port
-pub port_sound : (at : ℕ) (bytes : List ℕ) (p : Port) → at ≤ 2 ^ 50 → SpellsPort at bytes p → IsPort p
+pub port_sound : (at : ℕ) (bytes : List ℕ) (p : Port) → at ≤ cycle_limit → SpellsPort at bytes p → IsPort p
 port_sound at bytes p far spells =
     let rules = rules_of at (saved_port_of p) spells.right in
     let e = and_parts _ _ rules.writes in

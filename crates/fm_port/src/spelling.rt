@@ -1,5 +1,6 @@
 ghost use Rattle.std.specs.Prelude.{◌≡◌, ◌≢◌, ◌↔◌, ◌+◌, ◌*◌, ◌^◌, ◌<◌, ◌≤◌, ◌++◌, ℕ, true, List, [], length, map, vec_len, vec_capacity, IfErr, IfOk, IsErrOf, Ok, Err};
 ghost use Rattle.std.specs.List.{list_all};
+ghost use Rattle.md_word.specs.Clock.{cycle_limit};
 ghost use Rattle.md_fields.specs.Fields.{AreWithin, spelling};
 ghost use Rattle.sound_writes.specs.Entries.{AreFit, entries_bytes};
 ghost use Rattle.sound_writes.specs.Keys.{are_kept};
@@ -34,7 +35,7 @@ impl FmPort {
     /// overflows of its timers below the cycle are made there. There is room for them. Where its rules
     /// hold at the cycle, the bytes keep the port that is settled there.
     pub fn spell(&self, at: u64, into: &mut Vec<u8>)
-        requires cycle { at ≤ 2 ^ 50 }
+        requires cycle { at ≤ cycle_limit }
         requires room { vec_len into.old + 12316 ≤ vec_capacity into.old }
         ensures bytes { into.new.items ≡ into.old.items ++ port_bytes (settled_port at self.now) }
         ensures length { vec_len into.new ≡ vec_len into.old + 12316 }
@@ -56,7 +57,7 @@ impl FmPort {
     /// The bytes of this port, settled to a cycle of at most 2^50, are read again where its rules
     /// hold there.
     pub fn is_read_again(&self, at: u64)
-        requires { at ≤ 2 ^ 50 }
+        requires { at ≤ cycle_limit }
         ensures { AreTimed at self.now.timers → meaning.are_right at (map meaning.saved_write_of self.now.writes) ≡ true
             → SpellsPort at (port_bytes (settled_port at self.now)) (settled_port at self.now) }
     {
@@ -78,7 +79,7 @@ impl FmPort {
     /// processors', rise, are from the last batch before the cycle on and below the cycle, and are at
     /// least 28 cycles apart for the 68000 and 45 for the Z80.
     pub fn unspell(_alloc: Global, bytes: &[u8], at: u64) -> Result<FmPort, Unspell>
-        requires { at ≤ 2 ^ 50 }
+        requires { at ≤ cycle_limit }
         ensures found { IfOk result (λ port. SpellsPort at bytes.now port) }
         ensures only { (port : Port) → SpellsPort at bytes.now port → result ≡ Ok port }
         ensures rule { (place : ℕ) → IsErrOf result (Unspell.Rule place) ↔ PortGoesWrongAt at bytes.now place }
@@ -94,7 +95,7 @@ impl FmPort {
     /// Makes this port the one that the bytes keep, in its place, and refuses them as `unspell` does. It
     /// holds no write after a refusal.
     pub fn restore(&mut self, bytes: &[u8], at: u64) -> Result<(), Unspell>
-        requires { at ≤ 2 ^ 50 }
+        requires { at ≤ cycle_limit }
         ensures found { IfOk result (λ nothing. SpellsPort at bytes.now self.new) }
         ensures only { (port : Port) → SpellsPort at bytes.now port → (result ≡ Ok tt) × (self.new ≡ port) }
         ensures rule { (place : ℕ) → IsErrOf result (Unspell.Rule place) ↔ PortGoesWrongAt at bytes.now place }

@@ -1,4 +1,5 @@
 ghost use Rattle.std.specs.Prelude.{◌≡◌, ◌+◌, ◌*◌, ◌^◌, ◌<◌, ◌≤◌, ℕ, true};
+ghost use Rattle.md_word.specs.Clock.{cycle_limit};
 ghost use Rattle.fm_port.specs.Timers as meaning;
 ghost use Rattle.fm_port.specs.Timers.{IsTimers};
 ghost use Rattle.fm_port.specs.Timed.{AreTimed};
@@ -63,7 +64,7 @@ impl Timers {
     #[tactic(auto, unfolding(crate::specs::Timers::both_settled))]
     pub fn settle(&mut self, cycle: u64)
         requires timers { IsTimers self.old }
-        requires cycle { cycle ≤ 2 ^ 50 }
+        requires cycle { cycle ≤ cycle_limit }
         ensures value { self.new ≡ meaning.both_settled cycle self.old }
         ensures timers { IsTimers self.new }
         ensures later { (later : ℕ) → cycle ≤ later
@@ -79,7 +80,7 @@ impl Timers {
     #[tactic(auto, unfolding(crate::specs::Timers::both_controlled))]
     fn control(&mut self, cycle: u64, value: u8)
         requires timers { IsTimers self.old }
-        requires cycle { cycle ≤ 2 ^ 50 }
+        requires cycle { cycle ≤ cycle_limit }
         ensures value { self.new ≡ meaning.both_controlled cycle value self.old }
         ensures timers { IsTimers self.new }
     {
@@ -95,7 +96,7 @@ impl Timers {
     #[tactic(auto, unfolding(crate::specs::Timers::stored))]
     fn store(&mut self, cycle: u64, register: u8, value: u8)
         requires timers { IsTimers self.old }
-        requires cycle { cycle ≤ 2 ^ 50 }
+        requires cycle { cycle ≤ cycle_limit }
         ensures value { self.new ≡ meaning.stored cycle register value self.old }
         ensures timers { IsTimers self.new }
     {
@@ -111,7 +112,7 @@ impl Timers {
     #[tactic(auto, unfolding(crate::specs::Timers::timed))]
     pub fn write(&mut self, cycle: u64, register: u8, value: u8)
         requires timers { IsTimers self.old }
-        requires cycle { cycle ≤ 2 ^ 50 }
+        requires cycle { cycle ≤ cycle_limit }
         ensures value { self.new ≡ meaning.timed cycle register value self.old }
         ensures timers { IsTimers self.new }
     {

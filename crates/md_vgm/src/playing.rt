@@ -1,4 +1,5 @@
 ghost use Rattle.std.specs.Prelude.{◌≡◌, ℕ, ◌≤◌, ◌<◌, ◌+◌, ◌*◌, ◌/◌, ◌++◌, ◌⊎◌, List, IfErr, IfOk, length};
+ghost use Rattle.md_word.specs.Clock.{batch as batch_length};
 ghost use Rattle.md_files.specs.Wav.{wav_head};
 ghost use Rattle.md_vgm.specs.Course as course;
 ghost use Rattle.md_vgm.specs.Course.{ComesTo, Ends, fm_before, psg_before, stamp, verdict_of};
@@ -39,10 +40,10 @@ fn sound(
     requires start { start ≡ course.start_of file.now }
     requires within { start ≤ length file.now }
     requires few { batches ≤ 2000000 }
-    ensures sound { IfOk result (λ sound. (n : ℕ) × ComesTo pal file.now n × (16128 * batches ≤ stamp pal file.now n)
+    ensures sound { IfOk result (λ sound. (n : ℕ) × ComesTo pal file.now n × (batch_length * batches ≤ stamp pal file.now n)
         × (sound.items ≡ wav_head (16 * batches) pal ++ pairs (psg_before pal file.now n) (fm_before pal file.now n) batches)) }
     ensures fine { (last : ℕ) → ComesTo pal file.now last → verdict_of pal file.now last ≡ Ends
-        → 16128 * batches < stamp pal file.now last + 1 → IfErr result (λ fault. fault ≡ VgmFault.NoMemory) }
+        → batch_length * batches < stamp pal file.now last + 1 → IfErr result (λ fault. fault ≡ VgmFault.NoMemory) }
 {
     let mut sound = Vec::with_capacity(alloc, HEAD + PAIRS * batches as usize)?;
     wav_head(16 * batches as u32, pal, &mut sound);

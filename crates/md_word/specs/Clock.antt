@@ -1,6 +1,6 @@
 -- The clocks of the machine, in cycles of the master clock of 53,693,175 Hz.
--- Genesis Technical Overview; the batch and the last cycle are this project's profile.
-use Rattle.std.specs.Prelude.{ℕ}
+-- Genesis Technical Overview; the batch, the last cycle and the cycle limit are this project's profile.
+use Rattle.std.specs.Prelude.{ℕ, ◌^◌}
 
 -- a clock of the 68000
 abbrev pub main_clock : ℕ
@@ -33,3 +33,15 @@ batch = 16128
 -- the last cycle to which a run may go
 abbrev pub last_cycle : ℕ
 last_cycle = 549755813888
+
+-- no cycle that is counted is above this: sums with it stay far below 2 ^ 64
+abbrev pub cycle_limit : ℕ
+cycle_limit = 2 ^ 50
+
+-- the least number of cycles between two events of the 68000: an access takes four of its clocks
+abbrev pub main_gap : ℕ
+main_gap = 28
+
+-- the least number of cycles between two events of the Z80: an access takes three of its clocks
+abbrev pub sub_gap : ℕ
+sub_gap = 45

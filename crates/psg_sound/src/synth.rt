@@ -1,6 +1,6 @@
 ghost use Rattle.std.specs.Prelude.{◌≡◌, false, ◌+◌, ◌-◌, ◌*◌, ◌/◌, ◌^◌, ◌<◌, ◌≤◌, ◌≤ℤ◌, pos, negsuc, List, [], ◌∷◌, length, All};
-ghost use Rattle.md_word.specs.Clock.{psg_tick};
 ghost use Rattle.std.specs.Fn.{iterate};
+ghost use Rattle.md_word.specs.Clock.{cycle_limit, psg_tick};
 ghost use Rattle.psg_sound.specs.Synth.{IsSynth, at_power_on, level, ticked, written};
 ghost use Rattle.psg_sound.specs.Batches.{AreDueFrom, after_batch, after_ticks, made_below, samples, ticks_below, written_all};
 ghost use Rattle.psg_sound.specs.History.{Continues, IsNextBatch, chip_before};
@@ -80,7 +80,7 @@ impl PsgSynth {
     ///
     /// A sample is at least −8,192 and at most 8,192.
     pub fn batch(&mut self, first: u64, list: &PsgList, out: &mut [i32; 16])
-        requires { first ≤ 2 ^ 50 }
+        requires { first ≤ cycle_limit }
         ensures chip { self.new ≡ after_batch first self.old list.now.items }
         ensures samples { out.new ≡ samples first self.old list.now.items }
         ensures sixteen { length out.new ≡ 16 }

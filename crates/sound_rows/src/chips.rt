@@ -2,6 +2,7 @@
 use fm_chip::FmSynth;
 use fm_port::{FmList, FmPort};
 use md_word::Key;
+use md_word::clock::BATCH;
 use psg_sound::{PsgList, PsgPort, PsgSynth};
 use row_lines::{RowError, byte, number};
 use std::alloc::{AllocError, Global};
@@ -9,9 +10,6 @@ use std::fmt::Write;
 
 /// No cycle of a row is above this.
 pub const FAR: u64 = 1 << 40;
-
-/// Cycles of a batch of sixteen samples.
-const BATCH: u64 = 16_128;
 
 /// The chips of a row, and what was heard of them.
 #[derive(Drop)]

@@ -1,17 +1,18 @@
 -- The keys of the writes that a port holds at a cycle, which a saved state keeps. This project's profile.
 use Rattle.std.specs.Prelude.{ℕ, ◌+◌, ◌-◌, ◌*◌, ◌/◌, ◌^◌, ◌==◌, nat_le, nat_lt, min, max, Bool, true, ◌&&◌, if◌then◌else◌, List, [], ◌∷◌}
 use Rattle.std.specs.List.{list_all}
+use Rattle.md_word.specs.Clock.{batch as batch_length, main_gap, sub_gap}
 use Rattle.md_word.specs.Keys.{key_lt}
 use Rattle.md_word.specs.declared.key.Key.{Key}
 use Rattle.sound_writes.specs.declared.earliest.Earliest.{Earliest}
 
 -- the last batch before a cycle: one is at each multiple of 16,128 cycles
 abbrev pub last_batch : ℕ → ℕ
-last_batch at = (at - 1) / 16128 * 16128
+last_batch at = (at - 1) / batch_length * batch_length
 
 -- a processor's writes are so many cycles apart, at least: the 68000's 28, the Z80's 45
 abbrev pub gap : ℕ → ℕ
-gap chip = if chip == 0 then 28 else 45
+gap chip = if chip == 0 then main_gap else sub_gap
 
 -- a write of one of the two processors, from the last batch before a cycle on and below the cycle
 abbrev pub is_kept : ℕ → Key → Bool
@@ -53,8 +54,8 @@ later cycle more = min (2 ^ 64 - 1) (cycle + more)
 -- after a write with this key
 abbrev pub after : Key → Earliest → Earliest
 after key e =
-    if key.chip == 0 then record { main = later key.cycle 28; sub = max e.sub key.cycle }
-    else record { main = max e.main (later key.cycle 1); sub = later key.cycle 45 }
+    if key.chip == 0 then record { main = later key.cycle main_gap; sub = max e.sub key.cycle }
+    else record { main = max e.main (later key.cycle 1); sub = later key.cycle sub_gap }
 
 -- whether the next writes can have these keys
 unfoldable pub all_fit : ℕ → Earliest → List Key → Bool

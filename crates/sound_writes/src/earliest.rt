@@ -2,13 +2,7 @@ ghost use Rattle.std.specs.Prelude.{◌≡◌, ◌<◌};
 ghost use Rattle.sound_writes.specs.Keys as meaning;
 
 use md_word::Key;
-use md_word::clock::BATCH;
-
-/// Cycles from one write of the 68000 to its next, at least.
-const MAIN_GAP: u64 = 28;
-
-/// Cycles from one write of the Z80 to its next, at least.
-const SUB_GAP: u64 = 45;
+use md_word::clock::{BATCH, MAIN_GAP, SUB_GAP};
 
 /// The earliest cycles at which the next write of each processor can be, after those that were
 /// looked at.
