@@ -14,7 +14,7 @@ use crate::shapes::Shapes;
 use crate::steps::Steps;
 use fm_voice::{SILENT, channel};
 
-/// A channel: four operators.
+/// A channel: four operators. Source: Yamaha, YM2608 Application Manual, channels.
 #[derive(Clone, Copy)]
 pub struct Channel {
     pub one: Operator,

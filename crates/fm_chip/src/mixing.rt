@@ -12,6 +12,8 @@ use crate::registers::{Registers, SIDES_DEPTHS, of_channel};
 use crate::steps::Steps;
 
 /// What a channel's level adds to the left side.
+///
+/// Source: Yamaha, YM2608 Application Manual, output channels.
 #[tactic(auto, unfolding(crate::specs::Synth::left_of))]
 fn left_of(registers: &Registers, number: u32, level: i32) -> i32
     requires number { number < 6 }

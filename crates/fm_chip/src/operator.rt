@@ -11,6 +11,8 @@ use fm_env::{Envelope, EnvelopeState};
 use fm_voice::step_of;
 
 /// An operator. The registers are not its own: they come with each call.
+///
+/// Source: Yamaha, YM2608 Application Manual, operators.
 #[derive(Clone, Copy)]
 pub struct Operator {
     /// Its phase, below 2^20.

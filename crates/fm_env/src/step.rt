@@ -2,6 +2,8 @@ ghost use Rattle.std.specs.Prelude.{◌≡◌, ◌+◌, ◌*◌, ◌<◌, ◌≤
 ghost use Rattle.fm_env.specs.Steps as steps;
 
 /// Eight rows of eight places: four rows for the rates below 48, four for those from 48 on.
+///
+/// Source: Yamaha, YM2608 Application Manual, envelope generator; the steps are this project's profile.
 const ROWS: [u8; 64] = [
     0, 1, 0, 1, 0, 1, 0, 1, //
     0, 1, 0, 1, 1, 1, 0, 1, //

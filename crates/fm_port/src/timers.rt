@@ -9,6 +9,8 @@ use crate::timer::Timer;
 use md_word::clock::{BATCH, FM_SAMPLE};
 
 /// Both timers, with their registers. A period is in master cycles.
+///
+/// Source: Yamaha, YM2608 Application Manual, timers.
 #[derive(Clone, Copy)]
 pub struct Timers {
     /// Register 24: bits 9 to 2 of timer A's number.
