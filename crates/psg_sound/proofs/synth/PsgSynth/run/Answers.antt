@@ -1,6 +1,6 @@
-use Rattle.std.proofs.Common.{◌≡◌, ◌∙◌, sym, ap, ◌+◌, ◌-◌, ◌*◌, arith}
+use Rattle.std.proofs.Common.{◌≡◌, ◌∙◌, sym, ◌+◌, ◌-◌, ◌*◌, arith}
 use Rattle.md_word.specs.Clock.{psg_tick}
-use Rattle.psg_sound.specs.Batches.{AreDueFrom, Course}
+use Rattle.psg_sound.specs.Batches.{AreDueFrom}
 use Rattle.psg_sound.proofs.Ticks.{ticks-alone}
 use Rattle.psg_sound.proofs.synth.PsgSynth.run.Goals as goal
 
