@@ -2,6 +2,7 @@
 use Rattle.std.proofs.Common.{◌≡◌, ◌∙◌, refl, sym, ap, ℕ, zero, suc, ◌+◌, ◌*◌, ◌≤◌, List, [], ◌++◌, map, filter, ℤ, add-suc, arith}
 use Rattle.std.specs.List.{range_with_len}
 use Rattle.std.proofs.lemmas.Bool.{le-ltb, lt-leb}
+use Rattle.md_word.specs.Clock.{fm_sample}
 use Rattle.sound_writes.specs.Order.{is_below, is_from}
 use Rattle.sound_writes.proofs.Courses.{finished-made_below}
 use Rattle.sound_writes.proofs.Filters.{filter-none, filter-filter, filter-later, stamped-before, stamped-behind}
@@ -15,27 +16,27 @@ use Rattle.fm_chip.specs.Batches.{Course, written_all, made_below, due, course_a
 use Rattle.fm_chip.specs.History.{stamped, chip_before, sides_at, Continues, sixteen, IsNextBatch}
 
 -- later writes change no chip before them
-pub chip_before-before : (low high : ℕ) (history ws : List FmWrite) → IsInOrder low high ws → (k : ℕ) → 1008 * k ≤ low
+pub chip_before-before : (low high : ℕ) (history ws : List FmWrite) → IsInOrder low high ws → (k : ℕ) → fm_sample * k ≤ low
     → chip_before (history ++ ws) k ≡ chip_before history k
 unfolding chip_before
 chip_before-before low high history ws o zero h = refl
 chip_before-before low high history ws o (suc k) h =
     let earlier : chip_before (history ++ ws) k ≡ chip_before history k = chip_before-before low high history ws o k (omega (arith, h)) in
-    let now = stamped-before stamp_of (1008 * k) (1008 * suc k) low high history ws o h in
+    let now = stamped-before stamp_of (fm_sample * k) (fm_sample * suc k) low high history ws o h in
     λ i. written_all (now i) (sampled k (earlier i))
 
 next_chip : (history ws : List FmWrite) (k : ℕ)
-    → written_all (stamped (1008 * k) (1008 * suc k) (history ++ ws)) (sampled k (chip_before (history ++ ws) k)) ≡ chip_before (history ++ ws) (suc k)
+    → written_all (stamped (fm_sample * k) (fm_sample * suc k) (history ++ ws)) (sampled k (chip_before (history ++ ws) k)) ≡ chip_before (history ++ ws) (suc k)
 unfolding chip_before
 next_chip history ws k = refl
 
 -- a batch's course at a sample is the history with the batch's writes as it is heard there
 due-heard : (history ws : List FmWrite) (first : ℕ) (s : Synth) → Continues history ws first → s ≡ chip_before history first → (n : ℕ)
-    → due (first + n) (course_after first s ws n) ≡ record { chip = chip_before (history ++ ws) (first + n); rest = filter (is_from stamp_of (1008 * (first + n))) ws }
+    → due (first + n) (course_after first s ws n) ≡ record { chip = chip_before (history ++ ws) (first + n); rest = filter (is_from stamp_of (fm_sample * (first + n))) ws }
 unfolding course_after
 due-heard history ws first s h e zero =
-    let cut = 1008 * first in
-    let high = 1008 * (first + 16) in
+    let cut = fm_sample * first in
+    let high = fm_sample * (first + 16) in
     let number : first + zero ≡ first = omega arith in
     let none : filter (is_below stamp_of cut) ws ≡ [] = filter-none stamp_of (is_below stamp_of cut) cut high ws h.span (λ v i j. le-ltb v.key.cycle cut i) in
     let chip : s ≡ chip_before (history ++ ws) first = e ∙ sym (chip_before-before cut high history ws h.span first (omega arith)) in
@@ -44,10 +45,10 @@ due-heard history ws first s h e zero =
     rw number at
 due-heard history ws first s h e (suc n) =
     let all = history ++ ws in
-    let cut = 1008 * first in
-    let high = 1008 * (first + 16) in
-    let low = 1008 * (first + n) in
-    let next = 1008 * suc (first + n) in
+    let cut = fm_sample * first in
+    let high = fm_sample * (first + 16) in
+    let low = fm_sample * (first + n) in
+    let next = fm_sample * suc (first + n) in
     let number : first + suc n ≡ suc (first + n) = add-suc first n in
     let before = due-heard history ws first s h e n in
     let made : filter (is_below stamp_of next) (filter (is_from stamp_of low) ws) ≡ stamped low next all =
@@ -79,8 +80,8 @@ after_batch-heard : (history ws : List FmWrite) (first : ℕ) (s : Synth) → Co
     → after_batch first s ws ≡ chip_before (history ++ ws) (first + 16)
 unfolding after_batch
 after_batch-heard history ws first s h e =
-    let end = 1008 * (first + 16) in
-    let cut = 1008 * first in
+    let end = fm_sample * (first + 16) in
+    let cut = fm_sample * first in
     let c = course_after first s ws 16 in
     let none : filter (is_from stamp_of end) ws ≡ [] = filter-none stamp_of (is_from stamp_of end) cut end ws h.span (λ v i j. lt-leb end v.key.cycle j) in
     sym (finished-made_below stamp_of written end c.chip c.rest)
@@ -93,5 +94,5 @@ pub IsNextBatch-is : (history ws : List FmWrite) (first : ℕ) (s after : Synth)
 IsNextBatch-is history ws first s after out p q h e = record {
   out = q ∙ samples-heard history ws first s h e;
   chip = p ∙ after_batch-heard history ws first s h e;
-  past = IsInOrder-append stamp_of (1008 * first) (1008 * (first + 16)) 0 history ws (omega arith) (omega arith) h.past h.span;
+  past = IsInOrder-append stamp_of (fm_sample * first) (fm_sample * (first + 16)) 0 history ws (omega arith) (omega arith) h.past h.span;
 }

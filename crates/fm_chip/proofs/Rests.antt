@@ -1,4 +1,4 @@
--- A tick of an envelope that has come to the end of its release.
+-- A tick of an envelope that has reached the end of its release.
 use Rattle.std.proofs.Common.{◌≡◌, ◌∙◌, sym, ap, ℕ, arith}
 use Rattle.fm_env.specs.Envelopes.{fallen, stepped, ticked, turned}
 use Rattle.fm_env.specs.declared.state.EnvelopeState.{EnvelopeState}

@@ -22,7 +22,7 @@ use Rattle.fm_chip.specs.declared.saved_operator.SavedOperator.{SavedOperator}
 use Rattle.fm_chip.specs.declared.saved_synth.SavedLast.{SavedLast}
 use Rattle.fm_chip.specs.declared.saved_synth.SavedSynth.{SavedSynth}
 
--- ---- where a table stands it is read
+-- ---- what is spelled at an offset is read there
 
 moved : (m n : ℕ) (fs : List Field) (bytes : List ℕ) → m ≡ n → Stand m fs bytes → Stand n fs bytes
 moved m n fs bytes e h = subst (λ (k : ℕ). Stand k fs bytes) e h
@@ -520,6 +520,6 @@ right_nowhere bytes s keeps right place wrong = not_both synth_fields bytes (onl
 pub wrong_once : (bytes : List ℕ) (p q : ℕ) → SynthGoesWrongAt bytes p → SynthGoesWrongAt bytes q → p ≡ q
 wrong_once bytes p q a b = one_place synth_fields bytes (only_one bytes) 741 synth_size p q a b
 
--- what is read stands in the bytes
+-- what is read is in the bytes
 pub keeps_synth : (bytes : List ℕ) (s : SavedSynth) → IsBytes bytes → length bytes ≡ 741 → s ≡ synth_at bytes → Keeps synth_fields bytes s
 keeps_synth bytes s fits long e = kept synth_fields bytes s fits (subst (λ (t : SavedSynth). Stand 0 (synth_fields t) bytes) (sym e) (synth_stands bytes long))

@@ -1,7 +1,8 @@
--- A batch of sixteen samples, from any chip and any list of writes. A sample stands every 1,008
+-- A batch of sixteen samples, from any chip and any list of writes. A sample is made every 1,008
 -- cycles of the master clock.
 use Rattle.std.specs.Prelude.{ℕ, zero, suc, ◌+◌, ◌*◌, ℤ, List, map}
 use Rattle.std.specs.List.{range_with_len}
+use Rattle.md_word.specs.Clock.{fm_sample}
 use Rattle.fm_port.specs.declared.write.FmWrite.{FmWrite}
 use Rattle.sound_writes.specs.Course as course_of
 use Rattle.fm_port.specs.Stamp.{stamp_of}
@@ -21,7 +22,7 @@ made_below cycle s ws = course_of.made_below stamp_of written cycle s ws
 
 -- the course with the writes made that come before sample number k
 abbrev pub due : ℕ → Course → Course
-due k c = made_below (1008 * k) c.chip c.rest
+due k c = made_below (fm_sample * k) c.chip c.rest
 
 -- the course after n samples from number `first`
 unfoldable pub course_after : ℕ → Synth → List FmWrite → ℕ → Course

@@ -40,7 +40,7 @@ pub record IsQuiet (ch : Channel) : Type 0 where
   pub three : 832 ≤ ch.three.v
   pub four : 832 ≤ ch.four.v
 
--- all four envelopes have come to the end of their release
+-- all four envelopes have reached the end of their release
 pub record AreAtRest (ch : Channel) : Type 0 where
   pub one : IsAtRest ch.one
   pub two : IsAtRest ch.two
@@ -69,7 +69,7 @@ attenuations registers tremolo c ch =
     attenuation registers tremolo c 2 ch.three.v ∷
     attenuation registers tremolo c 3 ch.four.v ∷ []
 
--- the channel as a voice, where the oscillator stands at t
+-- the channel as a voice, where the oscillator is at t
 unfoldable pub voice_of : List ℕ → ℕ → ℕ → Channel → Voice
 voice_of registers t c ch =
     channel_voice (of_channel registers c 0xb0 % 8) (of_channel registers c 0xb0 / 8 % 8) (phases ch)

@@ -6,7 +6,7 @@ use Rattle.fm_chip.specs.Channels.{channel_at}
 use Rattle.fm_chip.specs.Operators.{pressed}
 use Rattle.fm_chip.specs.Registers.{rate}
 
--- the channel whose keys it tells: 0, 1, 2, 4, 5, 6 are channels 1 to 6
+-- the channel whose keys it sets: 0, 1, 2, 4, 5, 6 are channels 1 to 6
 unfoldable pub keyed_channel : ℕ → Option ℕ
 keyed_channel value =
     if value % 4 == 3 then None else (
@@ -22,7 +22,7 @@ all_pressed registers value c ch = record {
   last = ch.last;
 }
 
--- all channels, where that of a byte's keys is told
+-- all channels, where that of a byte's keys is given
 abbrev pub channels_keyed : Option ℕ → List ℕ → ℕ → List Channel → List Channel
 channels_keyed None registers value channels = channels
 channels_keyed (Some c) registers value channels = slice_set channels c (all_pressed registers value c (channel_at channels c))

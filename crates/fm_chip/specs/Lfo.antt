@@ -7,7 +7,7 @@ use Rattle.fm_chip.specs.declared.lfo.Lfo.{Lfo}
 abbrev pub periods : List ℕ
 periods = 108 ∷ 77 ∷ 71 ∷ 67 ∷ 62 ∷ 44 ∷ 8 ∷ 5 ∷ []
 
--- at a sample, by register 22: bit 3 is on, the low three the rate; off, it stands at 0
+-- at a sample, by register 22: bit 3 is on, the low three the rate; off, it is at 0
 unfoldable pub stepped : ℕ → Lfo → Lfo
 stepped register lfo =
     if register / 8 % 2 == 0 then record { t = 0; count = 0 } else (

@@ -13,7 +13,7 @@ pub record IsOperator (o : Operator) : Type 0 where
   pub phase : o.phase < 2 ^ 20
   pub v : o.v ≤ 1023
 
--- its envelope has come to the end of its release
+-- its envelope has reached the end of its release
 pub record IsAtRest (o : Operator) : Type 0 where
   pub v : o.v ≡ 1023
   pub state : o.state ≡ Release
@@ -46,6 +46,6 @@ phase_step registers depth q c n =
 unfoldable pub advanced : ℕ → Operator → Operator
 advanced step o = record { phase = (o.phase + step) % 2 ^ 20; v = o.v; state = o.state; on = o.on }
 
--- its key put on or off; one that goes on starts the phase again
+-- its key put on or off; a key-on starts the phase again
 unfoldable pub pressed : Bool → ℕ → Operator → Operator
 pressed on attack o = given_envelope (keyed on attack (envelope_of o)) (record o { phase = if on && not o.on then 0 else o.phase })

@@ -19,11 +19,11 @@ base c = c / 3 * 256 + c % 3
 abbrev pub of_channel : List ℕ → ℕ → ℕ → ℕ
 of_channel registers c n = slice_index registers (base c + n)
 
--- operators 1, 3, 2, 4 stand at 0, 4, 8, 12
+-- operators 1, 3, 2, 4 are at 0, 4, 8, 12
 abbrev pub of_operator : List ℕ → ℕ → ℕ → ℕ → ℕ
 of_operator registers c o n = slice_index registers (base c + n + (o % 2 * 8 + o / 2 * 4))
 
--- where the low half of a frequency stands: of channel 3's operators 1 to 3 in places of their own,
+-- the register of the low half of a frequency: of channel 3's operators 1 to 3 in places of their own,
 -- where bits 7 and 6 of register 27 are not 0
 unfoldable pub frequency_place : List ℕ → ℕ → ℕ → ℕ
 frequency_place registers c o =
@@ -31,7 +31,7 @@ frequency_place registers c o =
     if o == 0 then 0xa9 else (if o == 1 then 0xaa else 0xa8))
     else base c + 0xa0
 
--- the frequency of which the low half stands at a place
+-- the frequency of which the low half is at a register
 abbrev pub frequency_at : List ℕ → ℕ → Frequency
 frequency_at registers place = record {
   fnum = at registers (place + 4) % 8 * 256 + at registers place;

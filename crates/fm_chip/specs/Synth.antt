@@ -27,7 +27,7 @@ pub record Synth : Type 0 where
   pub counter : ℕ
   pub channels : List Channel
 
--- no sample is heard of it while nothing is written: each channel's envelopes have come to the end of their
+-- no sample is heard of it while nothing is written: each channel's envelopes have reached the end of their
 -- release, and the converter is off
 pub record IsIdle (s : Synth) : Type 0 where
   pub channels : All AreAtRest s.channels

@@ -82,7 +82,7 @@ four_fields s = operator_before s.one (operator_before s.two (operator_before s.
 abbrev pub is_output : ℕ → Bool
 is_output n = nat_lt n 0x2000 || nat_le 0xe000 n
 
--- the older output, then the newer, then the rest; the rule of both stands first
+-- the older output, then the newer, then the rest; the rule of both is at the first field
 abbrev pub last_before : SavedLast → List Field → List Field
 last_before s rest = word s.older (is_output s.older && is_output s.newer) ∷ word s.newer true ∷ rest
 
@@ -166,7 +166,7 @@ synth_from s = record {
   channels = channels_from s;
 }
 
--- what stands in the bytes
+-- what is in the bytes
 abbrev pub synth_at : List ℕ → SavedSynth
 synth_at bytes = record {
   registers = take 512 (drop 0 bytes);

@@ -14,7 +14,7 @@ use crate::shapes::Shapes;
 use crate::steps::Steps;
 use fm_voice::{SILENT, channel};
 
-/// A channel: four operators.
+/// A channel: four operators. Source: Yamaha, YM2608 Application Manual, channels.
 #[derive(Clone, Copy)]
 pub struct Channel {
     pub one: Operator,
@@ -105,7 +105,7 @@ impl Channel {
             && self.four.is_at_rest()
     }
 
-    /// The level where the oscillator stands at `t`.
+    /// The level where the oscillator is at `t`.
     fn sound(&mut self, registers: &Registers, shapes: &Shapes, t: u32, number: u32) -> i32
         requires channel { IsChannel self.old }
         requires shapes { shapes.now ≡ shapes_of registers.now number }
@@ -177,7 +177,7 @@ impl Channel {
         }
     }
 
-    /// Makes a sample where all envelopes have come to the end of their release: nothing is heard, and its
+    /// Makes a sample where all envelopes have reached the end of their release: nothing is heard, and its
     /// phases advance by the steps that are due.
     #[inline(always)]
     #[tactic(auto, unfolding(crate::specs::Channels::all_advanced))]

@@ -16,7 +16,7 @@ const FIRST: usize = 0x30;
 /// What the registers say of all channels, kept while they stay as they are.
 #[derive(Clone, Copy)]
 pub struct Kept {
-    /// Whether it is what the registers say as these stand.
+    /// Whether it is what the registers say as these are.
     pub fresh: bool,
     /// Vibrato's place for which the steps were made, 0 to 31.
     pub place: u32,

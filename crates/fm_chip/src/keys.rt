@@ -9,7 +9,7 @@ use crate::channels::Channel;
 use crate::registers::{Registers, rate};
 use fm_env::EnvelopeState;
 
-/// The channel, 0 to 5, whose keys a byte tells.
+/// The channel, 0 to 5, whose keys a byte for register 28 sets; None where its low three bits are 3 or 7.
 #[tactic(auto, unfolding(crate::specs::Keys::keyed_channel))]
 pub fn keyed_channel(value: u8) -> Option<u32>
     ensures value { result ≡ meaning.keyed_channel value }

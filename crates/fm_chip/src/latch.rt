@@ -5,7 +5,8 @@ ghost use Rattle.std.specs.Prelude.{◌≡◌, ◌<◌};
 ghost use Rattle.std.specs.Option.{IfSome};
 ghost use Rattle.fm_chip.specs.Latches as meaning;
 
-/// The latch that a register takes when it is written: A0 to A2 do, and for port 0 A8 to AA.
+/// The latch, 0 to 2, that a register takes when it is written: A0 to A2 do, and for port 0 A8 to AA.
+/// None for the others.
 #[tactic(auto, unfolding(crate::specs::Latches::taken_latch))]
 pub fn taken_latch(port: u8, register: u8) -> Option<usize>
     requires { port < 2 }
@@ -20,7 +21,7 @@ pub fn taken_latch(port: u8, register: u8) -> Option<usize>
     }
 }
 
-/// The latch that a register is: A4 to A6 are, and for port 0 AC to AE.
+/// The latch that a register is: A4 to A6 are, and for port 0 AC to AE. None for the others.
 #[tactic(auto, unfolding(crate::specs::Latches::own_latch))]
 pub fn own_latch(port: u8, register: u8) -> Option<usize>
     requires { port < 2 }

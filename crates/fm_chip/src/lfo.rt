@@ -22,7 +22,7 @@ const EIGHTHS: [u8; 4] = [0, 1, 4, 8];
 const FACTORS: [u8; 8] = [0, 1, 2, 3, 4, 6, 12, 24];
 
 impl Lfo {
-    /// Goes on to the next sample, by register 22: bit 3 is on, the low three its rate. Off, it stands
+    /// Advances to the next sample, by register 22: bit 3 is on, the low three its rate. Off, it is
     /// at 0.
     #[tactic(auto, unfolding(crate::specs::Lfo::stepped))]
     pub fn step(&mut self, register: u8)

@@ -12,6 +12,8 @@ use crate::registers::{Registers, SIDES_DEPTHS, of_channel};
 use crate::steps::Steps;
 
 /// What a channel's level adds to the left side.
+///
+/// Source: Yamaha, YM2608 Application Manual, output channels.
 #[tactic(auto, unfolding(crate::specs::Synth::left_of))]
 fn left_of(registers: &Registers, number: u32, level: i32) -> i32
     requires number { number < 6 }
@@ -69,7 +71,7 @@ fn sample_one(
     )
 }
 
-/// Whether all envelopes of all channels have come to the end of their release.
+/// Whether all envelopes of all channels have reached the end of their release.
 pub fn are_at_rest(channels: &[Channel; 6]) -> bool
     requires { length channels.now ≡ 6 }
     ensures { IsTrue result → All AreAtRest channels.now }
@@ -82,7 +84,7 @@ pub fn are_at_rest(channels: &[Channel; 6]) -> bool
     true
 }
 
-/// Makes a sample of all channels where all envelopes have come to the end of their release.
+/// Makes a sample of all channels where all envelopes have reached the end of their release.
 pub fn rest_all(channels: &mut [Channel; 6], steps: &[Steps; 6])
     requires channels { All IsChannel channels.old }
     requires rest { All AreAtRest channels.old }

@@ -11,6 +11,8 @@ use fm_env::{Envelope, EnvelopeState};
 use fm_voice::step_of;
 
 /// An operator. The registers are not its own: they come with each call.
+///
+/// Source: Yamaha, YM2608 Application Manual, operators.
 #[derive(Clone, Copy)]
 pub struct Operator {
     /// Its phase, below 2^20.
@@ -47,7 +49,7 @@ impl Operator {
         self.on = envelope.on;
     }
 
-    /// Whether its envelope has come to the end of its release, where a tick leaves it as it is.
+    /// Whether its envelope has reached the end of its release, where a tick leaves it as it is.
     #[inline(always)]
     pub fn is_at_rest(&self) -> bool
         ensures { IsTrue result → IsAtRest self.now }
@@ -96,7 +98,7 @@ impl Operator {
         self.phase = (self.phase + step) % 0x10_0000;
     }
 
-    /// Puts its key on or off; a key that goes on starts the phase again. `attack` is the rate of its
+    /// Puts its key on or off; a key-on starts the phase again. `attack` is the rate of its
     /// attack.
     #[tactic(auto, unfolding(crate::specs::Operators::pressed))]
     pub fn press(&mut self, on: bool, attack: u32)

@@ -41,7 +41,7 @@ pub fn of_channel(registers: &Registers, channel: u32, register: u32) -> u32
     u32::from(registers[(channel / 3 * 256 + channel % 3 + register) as usize])
 }
 
-/// The register of an operator; those of operators 1, 3, 2, 4 stand at 0, 4, 8, 12.
+/// The register of an operator; those of operators 1, 3, 2, 4 are at 0, 4, 8, 12.
 pub fn of_operator(registers: &Registers, channel: u32, operator: u32, register: u32) -> u32
     requires channel { channel < 6 }
     requires operator { operator < 4 }
@@ -53,7 +53,7 @@ pub fn of_operator(registers: &Registers, channel: u32, operator: u32, register:
     u32::from(registers[place as usize])
 }
 
-/// Where the low half of an operator's frequency stands.
+/// The register of the low half of an operator's frequency.
 #[tactic(auto, unfolding(crate::specs::Registers::frequency_place))]
 fn frequency_place(registers: &Registers, channel: u32, operator: u32) -> u32
     requires channel { channel < 6 }

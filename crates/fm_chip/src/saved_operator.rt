@@ -32,7 +32,7 @@ impl SavedOperator {
         }
     }
 
-    /// The numbers that stand at a place.
+    /// The numbers at an offset.
     pub fn read(bytes: &[u8], place: usize) -> SavedOperator
         requires { place + 8 ≤ length bytes.now }
         ensures { result ≡ meaning.operator_at place bytes.now }
@@ -117,7 +117,7 @@ impl SavedFour {
         }
     }
 
-    /// The numbers that stand from a place on.
+    /// The numbers from an offset on.
     pub fn read(bytes: &[u8], place: usize) -> SavedFour
         requires { place + 32 ≤ length bytes.now }
         ensures { result ≡ meaning.four_at place bytes.now }
@@ -156,7 +156,8 @@ impl SavedFour {
         ]
     }
 
-    /// The place of the first field whose rule fails, where the first field stands at a place.
+    /// The offset of the first field whose rule fails, where the first field is at `place`; None where
+    /// each rule holds.
     pub fn wrong_at(&self, place: usize) -> Option<usize>
         requires { place ≤ 1000 }
         ensures { result ≡ wrong_place place (meaning.four_fields self.now) }

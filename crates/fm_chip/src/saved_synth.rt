@@ -51,7 +51,7 @@ impl SavedLast {
         }
     }
 
-    /// The numbers that stand at a place.
+    /// The numbers at an offset.
     pub fn read(bytes: &[u8], place: usize) -> SavedLast
         requires { place + 4 ≤ length bytes.now }
         ensures { result ≡ meaning.last_at place bytes.now }
@@ -108,7 +108,7 @@ fn is_output(word: u16) -> bool
 }
 
 impl SavedSynth {
-    /// The numbers that stand in the bytes.
+    /// The numbers in the bytes.
     pub fn read(bytes: &[u8]) -> SavedSynth
         requires { length bytes.now ≡ 741 }
         ensures { result ≡ meaning.synth_at bytes.now }
@@ -165,7 +165,7 @@ impl SavedSynth {
         ]
     }
 
-    /// The fields behind the operators, and whether their rules hold.
+    /// The fields after the operators, and whether their rules hold.
     #[tactic(auto, unfolding(md_fields::specs::Fields::AreSized))]
     pub fn last_fields(&self) -> [Field<'_>; 12]
         ensures fields { map seen result ≡ meaning.last_fields self.now }
@@ -187,21 +187,21 @@ impl SavedSynth {
         ]
     }
 
-    /// The place of the first field before the operators whose rule fails.
+    /// The offset of the first field before the operators whose rule fails, None where none does.
     fn head_wrong(&self) -> Option<usize>
         ensures { result ≡ wrong_place 0 (meaning.head_fields self.now) }
     {
         first_wrong(&self.head_fields())
     }
 
-    /// The place of the first field behind the operators whose rule fails.
+    /// The offset of the first field after the operators whose rule fails, None where none does.
     fn last_wrong(&self) -> Option<usize>
         ensures { result ≡ wrong_place 717 (meaning.last_fields self.now) }
     {
         wrong_from(717, &self.last_fields())
     }
 
-    /// The place of the first field whose rule fails.
+    /// The offset of the first field whose rule fails, None where each rule holds.
     pub fn wrong(&self) -> Option<usize>
         ensures { result ≡ wrong_place 0 (meaning.synth_fields self.now) }
     {
@@ -250,7 +250,7 @@ impl SavedSynth {
     }
 }
 
-/// The registers at the head of the bytes.
+/// The registers at the start of the bytes.
 fn registers_at(bytes: &[u8]) -> [u8; 512]
     requires { length bytes.now ≡ 741 }
     ensures { result ≡ take 512 (drop 0 bytes.now) }
@@ -260,7 +260,7 @@ fn registers_at(bytes: &[u8]) -> [u8; 512]
     registers
 }
 
-/// The latches behind them.
+/// The latches after them.
 fn latches_at(bytes: &[u8]) -> [u8; 9]
     requires { length bytes.now ≡ 741 }
     ensures { result ≡ take 9 (drop 512 bytes.now) }
@@ -270,7 +270,8 @@ fn latches_at(bytes: &[u8]) -> [u8; 9]
     latches
 }
 
-/// The place of the first field whose rule fails, where the first field stands at a place.
+/// The offset of the first field whose rule fails, where the first field is at `place`; None where
+/// each rule holds.
 pub fn wrong_from(place: usize, fields: &[Field<'_>]) -> Option<usize>
     requires { place + sizes (map seen fields.now) < 2 ^ 32 }
     ensures { result ≡ wrong_place place (map seen fields.now) }
@@ -281,7 +282,7 @@ pub fn wrong_from(place: usize, fields: &[Field<'_>]) -> Option<usize>
     }
 }
 
-/// The first of two places, where there is one.
+/// The first of two offsets, None where there is neither.
 pub fn first_of(place: Option<usize>, next: Option<usize>) -> Option<usize>
     ensures { result ≡ or_else place next }
 {

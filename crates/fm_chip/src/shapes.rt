@@ -12,6 +12,8 @@ use fm_env::EnvelopeState;
 use fm_voice::key_code;
 
 /// What the registers say of an operator's envelope and level.
+///
+/// Source: Yamaha, YM2608 Application Manual, envelope generator and key scale.
 #[derive(Clone, Copy)]
 pub struct Shape {
     /// The rates of its states, 0 to 63.

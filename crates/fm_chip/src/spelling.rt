@@ -28,7 +28,7 @@ impl FmSynth {
         self.saved().put(into);
     }
 
-    /// Tells that the bytes of this chip are read again.
+    /// The bytes of this chip are read again.
     pub fn is_read_again(&self)
         ensures { SpellsSynth (synth_bytes self.now) self.now }
     {
@@ -59,11 +59,12 @@ impl FmSynth {
         }
     }
 
-    /// The chip that the bytes of a saved state keep. It takes no memory. Bytes that are not 741 are
-    /// refused at the lesser of their number and 741, others at the place of the first field whose rule
-    /// fails: the oscillator's place is to be below 128 and its count below 108, the counter of the
-    /// envelopes below 4,096, a phase below 2^20, an attenuation at most 1,023, a state 0 to 3, a key 0
-    /// or 1, and the last outputs of a channel from −8,192 to 8,191, which are refused at the older one.
+    /// The chip that the bytes of a saved state keep. It takes no memory, and fails with `Rule` alone.
+    /// Bytes that are not 741 are refused at the lesser of their number and 741, others at the offset of
+    /// the first field whose rule fails. The oscillator's place is to be below 128 and its count below
+    /// 108, the counter of the envelopes below 4,096, a phase below 2^20, an attenuation at most 1,023, a
+    /// state 0 to 3, a key 0 or 1. The last outputs of a channel are from −8,192 to 8,191, and are
+    /// refused at the older one.
     pub fn unspell(_alloc: Global, bytes: &[u8], _at: u64) -> Result<FmSynth, Unspell>
         ensures found { IfOk result (λ synth. SpellsSynth bytes.now synth) }
         ensures only { (synth : Synth) → SpellsSynth bytes.now synth → result ≡ Ok synth }
@@ -97,7 +98,7 @@ fn synth_of(saved: &SavedSynth) -> FmSynth
     }
 }
 
-/// The numbers that the bytes keep, where the rules hold of them; else the place of the refusal.
+/// The numbers that the bytes keep, where the rules hold of them; else the offset of the refusal.
 fn saved_of(bytes: &[u8]) -> Result<SavedSynth, usize>
     ensures found { IfOk result (λ saved. Keeps synth_fields bytes.now saved × IsRight synth_fields saved) }
     ensures refused { IfErr result (λ place. SynthGoesWrongAt bytes.now place) }

@@ -1,4 +1,5 @@
-ghost use Rattle.std.specs.Prelude.{◌≡◌, ◌+◌, ◌*◌, ◌^◌, ◌<◌, ◌≤◌, List, [], ◌∷◌, length, All, true};
+ghost use Rattle.std.specs.Prelude.{◌≡◌, ◌+◌, ◌*◌, ◌<◌, ◌≤◌, List, [], ◌∷◌, length, All, true};
+ghost use Rattle.md_word.specs.Clock.{cycle_limit};
 ghost use Rattle.fm_chip.specs.Synth as meaning;
 ghost use Rattle.fm_chip.specs.Synth.{IsIdle, IsSides, IsSynth, at_power_on, written, sides, sampled};
 ghost use Rattle.fm_chip.specs.Batches.{after_batch, made_below, samples, written_all};
@@ -95,15 +96,15 @@ impl FmSynth {
     /// writes that are left come at the end. A sample is the sums of the left and the right side,
     /// each from −49,152 to 49,152.
     pub fn batch(&mut self, first: u64, list: &FmList, out: &mut [(i32, i32); 16])
-        requires { first ≤ 2 ^ 50 }
+        requires { first ≤ cycle_limit }
         ensures chip { self.new ≡ after_batch first self.old list.now.items }
         ensures samples { out.new ≡ samples first self.old list.now.items }
         ensures sixteen { length out.new ≡ 16 }
         ensures range { All IsSides out.new }
         ensures synth { IsSynth self.new }
 
-        // From a chip that stands where a history of writes left it, the samples are those over that
-        // history and these writes, and the chip stands where both leave it.
+        // From a chip as a history of writes left it, the samples are those over that
+        // history and these writes, and the chip is as both leave it.
         ensures history { (history : List Write) → Continues history list.now.items first
             → self.old ≡ chip_before history first
             → IsNextBatch history list.now.items first self.new out.new }
@@ -156,7 +157,7 @@ impl FmSynth {
         false
     }
 
-    /// Whether all envelopes have come to the end of their release, with the converter off: then nothing is heard
+    /// Whether all envelopes have reached the end of their release, with the converter off: then nothing is heard
     /// while nothing is written. A chip that is not idle may be silent too.
     pub fn is_idle(&self) -> bool
         ensures { result ≡ true → IsIdle self.now }
@@ -277,7 +278,7 @@ impl FmSynth {
         self.set_register(place, value);
     }
 
-    /// Puts the keys that a byte tells on or off.
+    /// Puts the keys that a byte sets on or off.
     #[tactic(auto, unfolding(crate::specs::Synth::with_keys))]
     fn set_keys(&mut self, value: u8)
         ensures { self.new ≡ meaning.with_keys value self.old }

@@ -26,7 +26,7 @@ is_attack Decay = false
 is_attack Sustain = false
 is_attack Release = false
 
--- the state in which it steps: an attack that has come to 0 is a decay
+-- the state in which it steps: an attack that has reached 0 is a decay
 abbrev pub stepping_state : EnvelopeValue → EnvelopeState
 stepping_state e = if is_attack e.state && (e.v == 0) then Decay else e.state
 
@@ -61,7 +61,7 @@ stepped i level e = stepped_in e.state i level e
 unfoldable pub ticked : ℕ → ℕ → ℕ → EnvelopeValue → EnvelopeValue
 ticked counter rate level e = stepped (step counter rate) level (turned e)
 
--- the envelope after its key was put on or off, by the attack's rate: a key that goes on starts the
+-- the envelope after its key was put on or off, by the attack's rate: a key-on starts the
 -- attack, at full level where the rate is 62 or more; one that is off gives release
 unfoldable pub keyed : Bool → ℕ → EnvelopeValue → EnvelopeValue
 keyed on rate e =

@@ -25,7 +25,7 @@ impl Envelope {
     ghost use Rattle.fm_env.specs.Envelopes as meaning;
     ghost use Rattle.fm_env.specs.Envelopes.{plain};
 
-    /// The state in which it steps at its next tick: decay where an attack stands at 0.
+    /// The state in which it steps at its next tick: decay where an attack is at 0.
     #[tactic(auto, unfolding(crate::specs::Envelopes::turned))]
     pub fn stepping_state(&self) -> EnvelopeState
         ensures value { result ≡ meaning.stepping_state (plain self.now) }
@@ -36,7 +36,7 @@ impl Envelope {
         }
     }
 
-    /// Makes one tick, where the counter that all envelopes share has come to `counter`.
+    /// Makes one tick, where the counter that all envelopes share has reached `counter`.
     ///
     /// `rate`, 0 to 63, is that of the state in which it steps. `level`, 0 to 992, is the
     /// attenuation at which decay ends.
@@ -62,7 +62,7 @@ impl Envelope {
         }
     }
 
-    /// An attack that has come to 0 goes to decay.
+    /// An attack that has reached 0 goes to decay.
     #[tactic(auto, unfolding(crate::specs::Envelopes::turned))]
     fn turn(&mut self)
         ensures value { plain self.new ≡ meaning.turned (plain self.old) }
@@ -73,7 +73,7 @@ impl Envelope {
 
     /// Puts the key on or off. `rate` is the attack's.
     ///
-    /// A key that goes on starts the attack, at once at full level where the rate is 62 or more;
+    /// A key-on starts the attack, at once at full level where the rate is 62 or more;
     /// one that is on already changes nothing. A key that is off gives release.
     #[tactic(auto, unfolding(crate::specs::Envelopes::keyed))]
     pub fn key(&mut self, on: bool, rate: u32)

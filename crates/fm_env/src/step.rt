@@ -2,6 +2,8 @@ ghost use Rattle.std.specs.Prelude.{◌≡◌, ◌+◌, ◌*◌, ◌<◌, ◌≤
 ghost use Rattle.fm_env.specs.Steps as steps;
 
 /// Eight rows of eight places: four rows for the rates below 48, four for those from 48 on.
+///
+/// Source: Yamaha, YM2608 Application Manual, envelope generator; the steps are this project's profile.
 const ROWS: [u8; 64] = [
     0, 1, 0, 1, 0, 1, 0, 1, //
     0, 1, 0, 1, 1, 1, 0, 1, //
@@ -48,7 +50,7 @@ fn entry(rate: u32, place: u32) -> u32
     }
 }
 
-/// By how much an envelope of this rate, 0 to 63, steps where the shared counter has come to
+/// By how much an envelope of this rate, 0 to 63, steps where the shared counter has reached
 /// `counter`: 0 to 8.
 #[tactic(auto, unfolding(crate::specs::Steps::step))]
 pub fn step(counter: u32, rate: u32) -> u32

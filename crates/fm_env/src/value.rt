@@ -15,7 +15,7 @@ pub fn attacked(i: u32, v: u32) -> u32
     v - ((v + 1) * i + 15) / 16
 }
 
-/// In decay it rises until it has come to the sustain level.
+/// In decay it rises until it has reached the sustain level.
 #[tactic(auto, unfolding(crate::specs::Envelopes::decayed))]
 pub fn decayed(i: u32, level: u32, v: u32) -> u32
     requires step { i ≤ 8 }

@@ -8,6 +8,7 @@ use Rattle.std.proofs.Math.Nat.{min-eq_left}
 use Rattle.std.proofs.lemmas.Bool.{and_parts, eqb-true, le-leb, leb-true, lt-leb, ltb-true}
 use Rattle.std.proofs.lemmas.List.{append-nil, length-append, length-take, length-drop, length-map, take_at}
 use Rattle.std.proofs.lemmas.List.Elements.{All-cons, All-nil}
+use Rattle.md_word.specs.Clock.{cycle_limit}
 use Rattle.md_word.specs.Coding.{flag_number}
 use Rattle.md_word.proofs.Below.{bit_below}
 use Rattle.md_word.specs.declared.key.Key.{Key}
@@ -73,10 +74,6 @@ same_port : (key : Key) (register value m n : ℕ) (p : m ≤ 2) (q : n ≤ 2) �
 same_port key register value m n p q e =
     subst (λ (k : ℕ). (r : k ≤ 2) → made key m register value p ≡ made key k register value r) e
     (λ r i. record { key = key; port = m; register = register; value = value; port_in_range = le_prop p r i }) q
-
--- a write is that of its numbers, whatever shows that its port is in range
-pub write_is : (w : SavedWrite) (p : min w.port 2 ≤ 2) → made (key_of w) (min w.port 2) w.register w.value p ≡ write_from w
-write_is w p = same_port (key_of w) w.register w.value (min w.port 2) (min w.port 2) p (at_most_2 w.port) refl
 
 write_again : (w : FmWrite) → write_from (saved_write_of w) ≡ w
 write_again w = same_port w.key w.register w.value (min w.port 2) w.port (at_most_2 w.port) w.port_in_range (min-eq_left w.port_in_range)
@@ -144,7 +141,7 @@ only_one at bytes s t p0 q0 =
       entries = (p13.0 ∙ sym q13.0) i;
     }
 
--- what stands in the bytes beside latches and timers
+-- what is in the bytes beside latches and timers
 abbrev pub count_in : List ℕ → ℕ
 count_in bytes = number_at w16 26 bytes
 
@@ -154,7 +151,7 @@ entries_in bytes = take 12288 (drop 28 bytes)
 abbrev pub read_port : List ℕ → Numbers → SavedPort
 read_port bytes s = record { numbers = s; count = count_in bytes; entries = entries_in bytes }
 
--- the numbers stand at the head of the bytes
+-- the numbers are at the start of the bytes
 abbrev pub IsHead : List ℕ → Numbers → Type 0
 IsHead bytes s = (at : ℕ) (rest : List Field) → Stand 26 rest bytes → Stand 0 (number_fields at s ++ rest) bytes
 
@@ -215,7 +212,7 @@ all_right at count entries few right zeros = rw (le-leb count 1024 few, right, z
 pub right_are : (at : ℕ) (ws : List SavedWrite) (writes keys : Bool) → list_all is_write ws ≡ writes → are_kept at (map key_of ws) ≡ keys → are_right at ws ≡ (writes && keys)
 right_are at ws writes keys a b = λ i. a i && b i
 
--- what is left behind so many writes
+-- what is left after so many writes
 pub left_there : (count : ℕ) (entries : List ℕ) → length entries ≡ 12288 → take (12288 - 12 * count) (drop (12 * count) entries) ≡ drop (12 * count) entries
 left_there count entries long = take_all (12288 - 12 * count) (drop (12 * count) entries) (omega (arith, long, length-drop (12 * count) entries))
 
@@ -226,7 +223,7 @@ zeros_are at count entries zeros few long right e =
     let left : are_zeros (drop (12 * count) entries) ≡ zeros = sym (e ∙ ap are_zeros (left_there count entries long)) in
     sym (rw (le-leb count 1024 few, right, left) refl)
 
--- ---- the writes that stand from one on
+-- ---- the writes from one on
 
 -- one more, and none
 pub next_there : (count index : ℕ) (bytes : List ℕ) → index < count
@@ -397,11 +394,11 @@ read_spells at bytes s fits long head none e =
       fit = subst (AreFit write_fields) (sym (all_again (writes_at k.count k.entries) (and_parts _ _ (and_parts _ _ (and_parts _ _ e).1).0).0)) fit;
     }
 
-next_by : (runs : Bool) (at longest next : ℕ) → at ≤ 2 ^ 50 → longest ≤ 4128768 → cond runs (nat_le at next && nat_lt (next - at) longest) (eqb next 0) ≡ true → next ≤ 2 ^ 51
+next_by : (runs : Bool) (at longest next : ℕ) → at ≤ cycle_limit → longest ≤ 4128768 → cond runs (nat_le at next && nat_lt (next - at) longest) (eqb next 0) ≡ true → next ≤ 2 ^ 51
 next_by true at longest next far few e = omega (arith, far, few, ltb-true (next - at) longest (and_parts _ _ e).1)
 next_by false at longest next far few e = omega (arith, eqb-true next 0 e)
 
-next_few : (at longest run next : ℕ) → at ≤ 2 ^ 50 → longest ≤ 4128768 → is_next at longest run next ≡ true → next ≤ 2 ^ 51
+next_few : (at longest run next : ℕ) → at ≤ cycle_limit → longest ≤ 4128768 → is_next at longest run next ≡ true → next ≤ 2 ^ 51
 next_few at longest run next far few e = next_by (eqb run 1) at longest next far few e
 
 chips_kept : (at : ℕ) (ws : List FmWrite) → list_all (is_kept at) (map key_of (map saved_write_of ws)) ≡ true → All (λ w. w.key.chip < 2) ws
@@ -411,7 +408,7 @@ chips_kept at (w ∷ ws) e =
     All-cons (λ (v : FmWrite). v.key.chip < 2) w ws (ltb-true w.key.chip 2 (and_parts _ _ p.0).0) (chips_kept at ws p.1)
 
 -- what is spelled is a port
-pub port_sound : (at : ℕ) (bytes : List ℕ) (p : Port) → at ≤ 2 ^ 50 → SpellsPort at bytes p → IsPort p
+pub port_sound : (at : ℕ) (bytes : List ℕ) (p : Port) → at ≤ cycle_limit → SpellsPort at bytes p → IsPort p
 port_sound at bytes p far spells =
     let rules = rules_of at (saved_port_of p) spells.right in
     let e = and_parts _ _ rules.writes in

@@ -13,7 +13,7 @@ use Rattle.fm_port.specs.Stamp.{stamp_of}
 use Rattle.fm_port.specs.Timers.{IsTimers, timed}
 use Rattle.fm_port.specs.Port.{Port, IsPort, IsInOrder, first_write, second_write, reset_write, held_with, taken_below, left_from, written, reset, at_power_on}
 
--- a write is told by its parts, whatever shows that its port is in range
+-- a write is given by its parts, whatever shows that its port is in range
 pub first_is : (key : Key) (register value : ℕ) (p : 0 ≤ 2)
     → record { key = key; port = 0; register = register; value = value; port_in_range = p } ≡ first_write key register value
 first_is key register value p = λ i. record { key = key; port = 0; register = register; value = value; port_in_range = le_prop p (lit≤ tt) i }

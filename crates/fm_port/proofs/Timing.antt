@@ -1,4 +1,4 @@
--- Timers that stand right are right for a saved state once they are settled.
+-- Timers that are right at a cycle are right for a saved state once they are settled.
 use Rattle.std.proofs.Common.{◌≡◌, ℕ, ◌+◌, ◌-◌, ◌/◌, ◌%◌, ◌<◌, ◌≤◌, Bool, true, false, eqb, inl, inr, refl, sym, ◌∙◌, subst, arith}
 use Rattle.std.specs.Prelude.{◌&&◌, nat_lt}
 use Rattle.std.proofs.lemmas.Bool.{and_from, cases_Bool, false≢true, and_parts, ltb-true}
@@ -24,7 +24,7 @@ idle_late : (at next : ℕ) (run : Bool) → run ≡ true → (run && nat_lt nex
 idle_late at next true runs idle = not_due at next idle
 idle_late at next false runs idle = absurd (false≢true runs)
 
--- the first overflow from a cycle on is less than a period behind it
+-- the first overflow from a cycle on is less than a period after it
 near_by : (at next period rest : ℕ) → rest < period → next < at → rest ≤ at - 1 - next → (at ≤ at - 1 - rest + period) × (at - 1 - rest + period < at + period)
 near_by at next period rest small below part = (omega (arith, small, below, part), omega (arith, small, below, part))
 

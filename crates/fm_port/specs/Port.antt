@@ -37,11 +37,11 @@ first_write key register value = record { key = key; port = 0; register = regist
 abbrev pub second_write : Key → ℕ → ℕ → FmWrite
 second_write key register value = record { key = key; port = 1; register = register; value = value; port_in_range = lit≤ tt }
 
--- a reset, which stands among the writes as one of port 2
+-- a reset, which is among the writes as one of port 2
 abbrev pub reset_write : Key → FmWrite
 reset_write key = record { key = key; port = 2; register = 0; value = 0; port_in_range = lit≤ tt }
 
--- a write goes behind those that are held, and is lost where 1,024 are
+-- a write goes after those that are held, and is lost where 1,024 are
 abbrev pub held_with : List FmWrite → FmWrite → List FmWrite
 held_with writes w = held.held_with writes w
 
@@ -55,7 +55,7 @@ written key address value p =
       writes = held_with p.writes (first_write key p.first value);
     } else record p { writes = held_with p.writes (second_write key p.second value) }))
 
--- a reset makes all 0 but the writes, behind which it stands
+-- a reset makes all 0 but the writes, after which it is
 unfoldable pub reset : Key → Port → Port
 reset key p = record at_power_on { writes = held_with p.writes (reset_write key) }
 

@@ -26,7 +26,7 @@ use Rattle.fm_port.specs.declared.write.FmWrite.{FmWrite}
 abbrev pub write_fields : SavedWrite → List Field
 write_fields w = quad w.cycle true ∷ byte w.chip true ∷ byte w.port true ∷ byte w.register true ∷ byte w.value true ∷ []
 
--- the numbers of the write that stands at a place
+-- the numbers of the write at an offset
 abbrev pub write_at : ℕ → List ℕ → SavedWrite
 write_at place bytes = record {
   cycle = number_at w64 place bytes;
@@ -70,7 +70,7 @@ pub record SavedPort : Type 0 where
   pub entries : List ℕ
 
 -- a timer that runs overflows next less than its longest period after the cycle; the next of one that
--- stands still is 0
+-- is stopped is 0
 abbrev pub is_next : ℕ → ℕ → ℕ → ℕ → Bool
 is_next at longest run next = if run == 1 then nat_le at next && nat_lt (next - at) longest else (next == 0)
 
@@ -87,7 +87,7 @@ are_saved_timers at t =
 abbrev pub are_right : ℕ → List SavedWrite → Bool
 are_right at ws = list_all is_write ws && are_kept at (map key_of ws)
 
--- at most 1,024 writes, with keys that a port holds at the cycle, and zeros behind them
+-- at most 1,024 writes, with keys that a port holds at the cycle, and zeros after them
 abbrev pub are_writes : ℕ → ℕ → List ℕ → Bool
 are_writes at count entries =
     nat_le count 1024 && (are_right at (writes_at count entries) && are_zeros (drop (12 * count) entries))
@@ -110,7 +110,7 @@ number_fields at s =
     ∷ byte s.flag_b (nat_le s.flag_b 1)
     ∷ []
 
--- the fields of the writes: count and writes are one field, whose rule stands first
+-- the fields of the writes: count and writes are one field, whose rule is at the first field
 abbrev pub list_fields : ℕ → SavedPort → List Field
 list_fields at s = word s.count (are_writes at s.count s.entries) ∷ block 12288 s.entries true ∷ []
 
@@ -162,7 +162,7 @@ timers_from s = record {
 abbrev pub port_with : Numbers → List FmWrite → Port
 port_with s writes = record { first = s.first; second = s.second; timers = timers_from s; writes = writes }
 
--- the first so many writes that stand in the bytes
+-- the first so many writes in the bytes
 abbrev pub writes_from : ℕ → List ℕ → List FmWrite
 writes_from count entries = map write_from (writes_at count entries)
 

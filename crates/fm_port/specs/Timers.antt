@@ -1,6 +1,7 @@
 -- The two timers of the FM chip. Yamaha, YM2608 Application Manual, timers; a period is in cycles of
 -- the master clock, 1,008 to a sample.
 use Rattle.std.specs.Prelude.{ℕ, zero, suc, ◌+◌, ◌-◌, ◌*◌, ◌/◌, ◌%◌, ◌^◌, ◌≤◌, ◌==◌, nat_lt, nat_le, Bool, false, not, ◌&&◌, ◌||◌, if◌then◌else◌}
+use Rattle.md_word.specs.Clock.{batch as batch_length, fm_sample}
 use Rattle.fm_port.specs.declared.timer.Timer.{Timer}
 use Rattle.fm_port.specs.declared.timers.Timers.{Timers}
 
@@ -8,7 +9,7 @@ use Rattle.fm_port.specs.declared.timers.Timers.{Timers}
 abbrev pub overflowed : ℕ → Bool → Timer → Timer
 overflowed period enabled t = record { run = t.run; next = t.next + period; flag = t.flag || enabled }
 
--- whether an overflow stands below a cycle
+-- whether an overflow is below a cycle
 abbrev pub is_due : ℕ → Timer → Bool
 is_due cycle t = t.run && nat_lt t.next cycle
 
@@ -49,11 +50,11 @@ pub record IsTimers (t : Timers) : Type 0 where
 
 -- by registers 24 and 25, which have ten bits: a sample for each step up to 1,024
 unfoldable pub period_a : Timers → ℕ
-period_a t = 1008 * (1024 - (t.high_a * 4 + t.low_a % 4))
+period_a t = fm_sample * (1024 - (t.high_a * 4 + t.low_a % 4))
 
 -- by register 26: sixteen samples for each step up to 256
 unfoldable pub period_b : Timers → ℕ
-period_b t = 16128 * (256 - t.number_b)
+period_b t = batch_length * (256 - t.number_b)
 
 -- both timers with the overflows below a cycle made
 unfoldable pub both_settled : ℕ → Timers → Timers
@@ -98,10 +99,10 @@ unfoldable pub status : ℕ → Timers → ℕ
 status cycle t =
     bit (shown cycle (t.control / 4 % 2 == 1) t.a) + 2 * bit (shown cycle (t.control / 8 % 2 == 1) t.b)
 
--- a timer that stands still
+-- a timer that is stopped
 abbrev pub idle : Timer
 idle = record { run = false; next = 0; flag = false }
 
--- at power-on both stand still, and their registers are 0
+-- at power-on both are stopped, and their registers are 0
 abbrev pub at_power_on : Timers
 at_power_on = record { high_a = 0; low_a = 0; number_b = 0; control = 0; a = idle; b = idle }

@@ -1,9 +1,10 @@
-ghost use Rattle.std.specs.Prelude.{◌≡◌, ◌+◌, ◌^◌, ◌<◌, ◌≤◌, ℕ, length};
+ghost use Rattle.std.specs.Prelude.{◌≡◌, ◌+◌, ◌<◌, ◌≤◌, ℕ, length};
 ghost use Rattle.fm_port.specs.Port as meaning;
 ghost use Rattle.fm_port.specs.Port.{IsInOrder, IsPort, held_with, left_from, taken_below};
 ghost use Rattle.fm_port.specs.Timers.{both_settled};
 ghost use Rattle.fm_port.specs.Timers as timers;
 ghost use Rattle.std.specs.List.{list_all};
+ghost use Rattle.md_word.specs.Clock.{cycle_limit};
 ghost use Rattle.sound_writes.specs.Keys.{is_before_next as before_next};
 
 use crate::timers::Timers;
@@ -63,7 +64,7 @@ impl FmPort {
     #[tactic(auto, unfolding(crate::specs::Port::written))]
     pub fn write(&mut self, key: Key, address: u8, value: u8)
         requires chip { key.chip < 2 }
-        requires cycle { key.cycle ≤ 2 ^ 50 }
+        requires cycle { key.cycle ≤ cycle_limit }
         requires address { address < 4 }
         ensures value { self.new ≡ meaning.written key address value self.old }
         ensures port { IsPort self.new }
@@ -96,7 +97,7 @@ impl FmPort {
     }
 
     /// Resets the chip by a write of the 68000: latches and timers become 0, and the reset is held
-    /// behind the writes.
+    /// after the writes.
     #[tactic(auto, unfolding(crate::specs::Port::reset))]
     pub fn reset(&mut self, key: Key)
         requires { key.chip ≡ 0 }
@@ -120,7 +121,7 @@ impl FmPort {
     /// What a read shows at a cycle of at most 2^50: bit 0 timer A's flag, bit 1 timer B's. The
     /// overflows below the cycle are made, and one at the very cycle counts.
     pub fn status(&mut self, cycle: u64) -> u8
-        requires { cycle ≤ 2 ^ 50 }
+        requires { cycle ≤ cycle_limit }
         ensures value { result ≡ timers.status cycle (both_settled cycle self.old.timers) }
         ensures after { self.new ≡ record self.old { timers = both_settled cycle self.old.timers } }
         ensures port { IsPort self.new }
@@ -133,8 +134,8 @@ impl FmPort {
         self.timers.status(cycle)
     }
 
-    /// Whether each held write stands its processor's gap before the next event of that processor, at
-    /// least: the 68000's stands at `main`, the Z80's at `sub`.
+    /// Whether each held write is its processor's gap before the next event of that processor, at
+    /// least: the 68000's is at `main`, the Z80's at `sub`.
     pub fn is_before_next(&self, main: u64, sub: u64) -> bool
         ensures { result ≡ list_all (λ w. before_next main sub w.key) self.now.writes }
     {

@@ -30,7 +30,7 @@ pub struct SavedPort {
 }
 
 impl SavedPort {
-    /// The numbers that stand in the bytes.
+    /// The numbers in the bytes.
     #[tactic(auto, unfolding(md_fields::specs::Places::Stand))]
     pub fn read(bytes: &[u8]) -> SavedPort
         requires { 26 ≤ length bytes.now }
@@ -100,7 +100,7 @@ fn timer_from(run: u8, next: u64, flag: u8) -> Timer
 }
 
 /// Whether a cycle can be the next overflow of a timer: less than its longest period after `at` where it
-/// runs, 0 where it stands still.
+/// runs, 0 where it is stopped.
 fn is_next(at: u64, longest: u64, run: u8, next: u64) -> bool
     ensures { result ≡ meaning.is_next at longest run next }
 {

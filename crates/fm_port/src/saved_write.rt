@@ -45,7 +45,7 @@ impl SavedWrite {
         }
     }
 
-    /// The numbers that stand at a place.
+    /// The numbers at an offset.
     pub fn read(bytes: &[u8], place: usize) -> SavedWrite
         requires { place + 12 ≤ length bytes.now }
         ensures { result ≡ meaning.write_at place bytes.now }

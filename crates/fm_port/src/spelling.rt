@@ -1,5 +1,6 @@
 ghost use Rattle.std.specs.Prelude.{◌≡◌, ◌≢◌, ◌↔◌, ◌+◌, ◌*◌, ◌^◌, ◌<◌, ◌≤◌, ◌++◌, ℕ, true, List, [], length, map, vec_len, vec_capacity, IfErr, IfOk, IsErrOf, Ok, Err};
 ghost use Rattle.std.specs.List.{list_all};
+ghost use Rattle.md_word.specs.Clock.{cycle_limit};
 ghost use Rattle.md_fields.specs.Fields.{AreWithin, spelling};
 ghost use Rattle.sound_writes.specs.Entries.{AreFit, entries_bytes};
 ghost use Rattle.sound_writes.specs.Keys.{are_kept};
@@ -22,7 +23,7 @@ use std::alloc::Global;
 /// How many writes a port holds, at most.
 const MOST: usize = 1_024;
 
-/// Where the number of the writes stands, and the writes, and how many bytes keep a port.
+/// The offsets of the number of the writes and of the writes, and how many bytes keep a port.
 const COUNT: usize = 26;
 
 const ENTRIES: usize = 28;
@@ -34,7 +35,7 @@ impl FmPort {
     /// overflows of its timers below the cycle are made there. There is room for them. Where its rules
     /// hold at the cycle, the bytes keep the port that is settled there.
     pub fn spell(&self, at: u64, into: &mut Vec<u8>)
-        requires cycle { at ≤ 2 ^ 50 }
+        requires cycle { at ≤ cycle_limit }
         requires room { vec_len into.old + 12316 ≤ vec_capacity into.old }
         ensures bytes { into.new.items ≡ into.old.items ++ port_bytes (settled_port at self.now) }
         ensures length { vec_len into.new ≡ vec_len into.old + 12316 }
@@ -53,10 +54,10 @@ impl FmPort {
         put_zeros(WRITE * (MOST - count), into);
     }
 
-    /// Tells that the bytes of this port, settled to a cycle of at most 2^50, are read again where its rules
+    /// The bytes of this port, settled to a cycle of at most 2^50, are read again where its rules
     /// hold there.
     pub fn is_read_again(&self, at: u64)
-        requires { at ≤ 2 ^ 50 }
+        requires { at ≤ cycle_limit }
         ensures { AreTimed at self.now.timers → meaning.are_right at (map meaning.saved_write_of self.now.writes) ≡ true
             → SpellsPort at (port_bytes (settled_port at self.now)) (settled_port at self.now) }
     {
@@ -67,16 +68,18 @@ impl FmPort {
         known_writes(self.writes.as_slice());
     }
 
-    /// The port that the bytes of a saved state at a cycle, of at most 2^50, keep. It takes no memory.
-    /// Bytes that are not 12,316 are refused at the lesser of their number and 12,316, others at the place
-    /// of the first field whose rule fails: a timer's run is its bit of register 27, and its next overflow
-    /// stands less than the longest period after the cycle, or is 0 where it stands still; flags are 0 or 1.
-    /// Count and writes are refused at 26, where they are more than 1,024, where one is for no port, or a
-    /// reset that is not the 68000's or has a register or a value, where their keys are none of the two
-    /// processors', do not rise, stand below the last batch before the cycle or not below the cycle, or
-    /// stand less than 28 cycles apart for the 68000 or 45 for the Z80, and where an unused place is not 0.
+    /// The port that the bytes of a saved state at a cycle, at most 2^50, keep. It takes no memory, and
+    /// fails with `Rule` alone. Bytes that are not 12,316 are refused at the lesser of their number and
+    /// 12,316, others at the offset of the first field whose rule fails. A timer's run is its bit of
+    /// register 27; its next overflow is less than the longest period after the cycle, or is 0 where it
+    /// is stopped; flags are 0 or 1.
+    ///
+    /// Count and writes are refused at 26. There may be at most 1,024, each for a port or a reset, which
+    /// is the 68000's and has no register and no value; an unused place is 0. Their keys are the two
+    /// processors', rise, are from the last batch before the cycle on and below the cycle, and are at
+    /// least 28 cycles apart for the 68000 and 45 for the Z80.
     pub fn unspell(_alloc: Global, bytes: &[u8], at: u64) -> Result<FmPort, Unspell>
-        requires { at ≤ 2 ^ 50 }
+        requires { at ≤ cycle_limit }
         ensures found { IfOk result (λ port. SpellsPort at bytes.now port) }
         ensures only { (port : Port) → SpellsPort at bytes.now port → result ≡ Ok port }
         ensures rule { (place : ℕ) → IsErrOf result (Unspell.Rule place) ↔ PortGoesWrongAt at bytes.now place }
@@ -92,7 +95,7 @@ impl FmPort {
     /// Makes this port the one that the bytes keep, in its place, and refuses them as `unspell` does. It
     /// holds no write after a refusal.
     pub fn restore(&mut self, bytes: &[u8], at: u64) -> Result<(), Unspell>
-        requires { at ≤ 2 ^ 50 }
+        requires { at ≤ cycle_limit }
         ensures found { IfOk result (λ nothing. SpellsPort at bytes.now self.new) }
         ensures only { (port : Port) → SpellsPort at bytes.now port → (result ≡ Ok tt) × (self.new ≡ port) }
         ensures rule { (place : ℕ) → IsErrOf result (Unspell.Rule place) ↔ PortGoesWrongAt at bytes.now place }
@@ -118,7 +121,7 @@ impl FmPort {
 }
 
 /// Makes a list the writes that the bytes keep, and answers latches and timers, where the rules hold; else
-/// the place of the refusal.
+/// the offset of the refusal.
 fn parts_of(bytes: &[u8], at: u64, into: &mut FmList) -> Result<SavedPort, usize>
     ensures found { IfOk result (λ saved. SpellsPort at bytes.now (meaning.port_with saved into.new.items)) }
     ensures refused { IfErr result (λ place. PortGoesWrongAt at bytes.now place) }

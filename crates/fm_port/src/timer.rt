@@ -1,4 +1,5 @@
 ghost use Rattle.std.specs.Prelude.{◌≡◌, ◌+◌, ◌^◌, ◌<◌, ◌≤◌, ◌||◌, ℕ};
+ghost use Rattle.md_word.specs.Clock.{cycle_limit};
 ghost use Rattle.fm_port.specs.Timers as meaning;
 ghost use Rattle.fm_port.specs.Timers.{IsTimer};
 
@@ -13,7 +14,7 @@ pub struct Timer {
 }
 
 impl Timer {
-    /// A timer that stands still.
+    /// A timer that is stopped.
     pub fn power_on() -> Timer
         ensures value { result ≡ meaning.idle }
         ensures timer { IsTimer result }
@@ -31,7 +32,7 @@ impl Timer {
     #[tactic(auto, using(crate::proofs::Overflows::settled_none, crate::proofs::Overflows::settled_due))]
     pub fn settle(&mut self, cycle: u64, period: u64, enabled: bool)
         requires timer { IsTimer self.old }
-        requires cycle { cycle ≤ 2 ^ 50 }
+        requires cycle { cycle ≤ cycle_limit }
         requires least { 0 < period }
         requires most { period < 2 ^ 23 }
         ensures value { self.new ≡ meaning.settled cycle period enabled self.old }
@@ -46,7 +47,7 @@ impl Timer {
         self.flag = either(self.flag, enabled);
     }
 
-    /// Whether an overflow stands below a cycle.
+    /// Whether an overflow is below a cycle.
     fn is_due(&self, cycle: u64) -> bool
         ensures { result ≡ meaning.is_due cycle self.now }
     {
@@ -57,7 +58,7 @@ impl Timer {
     #[tactic(auto, unfolding(crate::specs::Timers::controlled))]
     pub fn control(&mut self, cycle: u64, period: u64, run: bool, clears: bool)
         requires timer { IsTimer self.old }
-        requires cycle { cycle ≤ 2 ^ 50 }
+        requires cycle { cycle ≤ cycle_limit }
         requires most { period < 2 ^ 23 }
         ensures value { self.new ≡ meaning.controlled cycle period run clears self.old }
         ensures timer { IsTimer self.new }

@@ -1,4 +1,5 @@
 ghost use Rattle.std.specs.Prelude.{◌≡◌, ◌+◌, ◌*◌, ◌^◌, ◌<◌, ◌≤◌, ℕ, true};
+ghost use Rattle.md_word.specs.Clock.{cycle_limit};
 ghost use Rattle.fm_port.specs.Timers as meaning;
 ghost use Rattle.fm_port.specs.Timers.{IsTimers};
 ghost use Rattle.fm_port.specs.Timed.{AreTimed};
@@ -8,6 +9,8 @@ use crate::timer::Timer;
 use md_word::clock::{BATCH, FM_SAMPLE};
 
 /// Both timers, with their registers. A period is in master cycles.
+///
+/// Source: Yamaha, YM2608 Application Manual, timers.
 #[derive(Clone, Copy)]
 pub struct Timers {
     /// Register 24: bits 9 to 2 of timer A's number.
@@ -63,7 +66,7 @@ impl Timers {
     #[tactic(auto, unfolding(crate::specs::Timers::both_settled))]
     pub fn settle(&mut self, cycle: u64)
         requires timers { IsTimers self.old }
-        requires cycle { cycle ≤ 2 ^ 50 }
+        requires cycle { cycle ≤ cycle_limit }
         ensures value { self.new ≡ meaning.both_settled cycle self.old }
         ensures timers { IsTimers self.new }
         ensures later { (later : ℕ) → cycle ≤ later
@@ -79,7 +82,7 @@ impl Timers {
     #[tactic(auto, unfolding(crate::specs::Timers::both_controlled))]
     fn control(&mut self, cycle: u64, value: u8)
         requires timers { IsTimers self.old }
-        requires cycle { cycle ≤ 2 ^ 50 }
+        requires cycle { cycle ≤ cycle_limit }
         ensures value { self.new ≡ meaning.both_controlled cycle value self.old }
         ensures timers { IsTimers self.new }
     {
@@ -95,7 +98,7 @@ impl Timers {
     #[tactic(auto, unfolding(crate::specs::Timers::stored))]
     fn store(&mut self, cycle: u64, register: u8, value: u8)
         requires timers { IsTimers self.old }
-        requires cycle { cycle ≤ 2 ^ 50 }
+        requires cycle { cycle ≤ cycle_limit }
         ensures value { self.new ≡ meaning.stored cycle register value self.old }
         ensures timers { IsTimers self.new }
     {
@@ -111,7 +114,7 @@ impl Timers {
     #[tactic(auto, unfolding(crate::specs::Timers::timed))]
     pub fn write(&mut self, cycle: u64, register: u8, value: u8)
         requires timers { IsTimers self.old }
-        requires cycle { cycle ≤ 2 ^ 50 }
+        requires cycle { cycle ≤ cycle_limit }
         ensures value { self.new ≡ meaning.timed cycle register value self.old }
         ensures timers { IsTimers self.new }
     {

@@ -7,6 +7,9 @@ use md_word::Key;
 pub const RESET: u8 = 2;
 
 /// A byte written to a register of the FM chip, or its reset.
+///
+/// Source: Sega, Genesis Software Manual, FM addresses; a reset as a write of port 2 is this project's
+/// profile.
 #[derive(Clone, Copy)]
 pub struct FmWrite {
     /// The cycle of the write, its stamp, and the chip that wrote: 0 the 68000, 1 the Z80.

@@ -1,4 +1,6 @@
 // The eight algorithms: which operators modulate which, and which are heard.
+//
+// Source: Yamaha, YM2608 Application Manual, algorithms and self-feedback.
 
 ghost use Rattle.std.specs.Prelude.{◌≡◌, ◌<◌};
 ghost use Rattle.fm_voice.specs.Channel as meaning;

@@ -31,7 +31,7 @@ all_below : (limit : ℕ) (ns : List ℕ) → ((k : ℕ) → k < length ns → g
 all_below limit [] h = tt
 all_below limit (n ∷ ns) h = (h 0 (omega arith), all_below limit ns (λ k lt. h (suc k) (omega (arith, lt))))
 
--- what stands in bytes is within its bounds
+-- what is in bytes is within its bounds
 within_at : (f : Field) (place : ℕ) (bytes : List ℕ) → IsBytes bytes → place + size_of f ≤ length bytes → IsAt f place bytes → IsWithin f
 within_at (byte n holds) place bytes fits room e = rw e (fits place)
 within_at (word n holds) place bytes fits room e = rw e (below_16 place bytes fits)
@@ -40,13 +40,13 @@ within_at (quad n holds) place bytes fits room e = rw e (below_64 place bytes fi
 within_at (words count ns holds) place bytes fits room e = (e.0, all_below (2 ^ 16) ns (λ k lt. rw (e.1 k lt) (below_16 (place + 2 * k) bytes fits)))
 within_at (block size b holds) place bytes fits room e = ap length e ∙ omega (arith, length-take size (drop place bytes), length-drop place bytes, room)
 
--- fields that stand in bytes fit theirs
+-- fields that are in bytes fit theirs
 pub within_there : (place : ℕ) (fs : List Field) (bytes : List ℕ) → IsBytes bytes → Stand place fs bytes → AreWithin fs
 unfolding Stand AreWithin
 within_there place [] bytes fits p = tt
 within_there place (f ∷ fs) bytes fits p = (within_at f place bytes fits (omega (arith, within (place + size_of f) fs bytes p.1)) p.0, within_there (place + size_of f) fs bytes fits p.1)
 
--- the numbers that stand in bytes are kept there
+-- the numbers in bytes are kept there
 pub kept : {S : Type 0} (fields : S → List Field) (bytes : List ℕ) (saved : S) → IsBytes bytes → Stand 0 (fields saved) bytes → Keeps fields bytes saved
 kept fields bytes saved fits p = record { within = within_there 0 (fields saved) bytes fits p; all = sym (spelled (fields saved) bytes fits p) }
 
@@ -74,7 +74,7 @@ module _ {S : Type 0} (fields : S → List Field) (bytes : List ℕ) (one : (s t
       let e3 : first_wrong 0 (fields a.saved) ≡ Some p = a.first in
       cc
 
--- words that stand at one place are the same
+-- words at one offset are the same
 pub same_words : (ns ms : List ℕ) (count place : ℕ) (bytes : List ℕ) → (length ns ≡ count) × WordsAt ns place bytes → (length ms ≡ count) × WordsAt ms place bytes → ns ≡ ms
 same_words ns ms count place bytes p q = same_number_lists ns ms (p.0 ∙ sym q.0) (λ k lt. p.1 k lt ∙ sym (q.1 k (omega (arith, lt, p.0, q.0))))
 

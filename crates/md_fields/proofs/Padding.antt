@@ -19,7 +19,7 @@ are_zeros_replicate : (n : ℕ) → are_zeros (replicate n 0) ≡ true
 are_zeros_replicate zero = refl
 are_zeros_replicate (suc n) = are_zeros_replicate n
 
--- where zeros stand behind the first numbers, these padded are the list
+-- where zeros are after the first numbers, these padded are the list
 pub padded_back : (size count : ℕ) (ns : List ℕ) → length ns ≡ size → count ≤ size → are_zeros (drop count ns) ≡ true → padded size (take count ns) ≡ ns
 padded_back size count ns len le e =
     let rest : size - length (take count ns) ≡ length (drop count ns) = omega (arith, len, le, length-take count ns, length-drop count ns) in
@@ -29,7 +29,7 @@ padded_back size count ns len le e =
 pub padded_again : (size : ℕ) (ns : List ℕ) → take (length ns) (padded size ns) ≡ ns
 padded_again size ns = take_at ns (replicate (size - length ns) 0) (length ns) refl
 
--- what stands behind them is zero
+-- what is after them is zero
 pub padded_zeros : (size : ℕ) (ns : List ℕ) → are_zeros (drop (length ns) (padded size ns)) ≡ true
 padded_zeros size ns = ap are_zeros (drop_at ns (replicate (size - length ns) 0) (length ns) refl) ∙ are_zeros_replicate (size - length ns)
 
@@ -55,7 +55,7 @@ zeros_split place bytes =
 eight_long : (place : ℕ) (bytes : List ℕ) → place + 8 ≤ length bytes → length (take 8 (drop place bytes)) ≡ 8
 eight_long place bytes room = omega (arith, room, length-take 8 (drop place bytes), length-drop place bytes)
 
--- eight bytes that are the number 0 are zeros, and what is behind them tells of the rest
+-- eight bytes that are the number 0 are zeros, and what is after them decides the rest
 pub eight_more : (place : ℕ) (bytes : List ℕ) → IsBytes bytes → place + 8 ≤ length bytes → number_at w64 place bytes ≡ 0 → are_zeros (drop (place + 8) bytes) ≡ are_zeros (drop place bytes)
 unfolding number_at
 eight_more place bytes fits room e =

@@ -12,7 +12,7 @@ no_rule place e n r = absurd cc
 pub same_rule : {T : Type 0} (p q : ℕ) → failed {T = T} (Rule p) ≡ failed (Rule q) → p ≡ q
 same_rule p q e = cc
 
--- a refusal tells the one place that is wrong
+-- a refusal reports the one offset that is invalid
 pub told_wrong : {T : Type 0} (Wrong : ℕ → Type 0) (p : ℕ) → Wrong p → ((q r : ℕ) → Wrong q → Wrong r → q ≡ r)
     → (place : ℕ) → (failed {T = T} (Rule p) ≡ failed (Rule place)) ↔ Wrong place
 told_wrong Wrong p wrong one place = (λ e. subst Wrong (same_rule p place e) wrong, λ w. ap (λ (q : ℕ). failed (Rule q)) (one p place wrong w))

@@ -1,4 +1,4 @@
--- Fields that stand in bytes spell them, and fields that are spelled stand there.
+-- Fields that are in bytes spell them, and fields that are spelled are there.
 use Rattle.std.proofs.Common.{set, ◌≡◌, ℕ, zero, suc, ◌+◌, ◌^◌, ◌<◌, ◌≤◌, List, [], ◌∷◌, ◌++◌, length, ◌*◌, ◌-◌, get_or, take, drop, refl, sym, ap, subst, ◌∙◌, append_assoc, arith, inl, inr}
 use Rattle.std.specs.List.{flat_map, AllByRecursion}
 use Rattle.std.proofs.Math.Seq.{take-append-add}
@@ -9,7 +9,7 @@ use Rattle.std.proofs.lemmas.Nat.{be_bytes_2, be_bytes_4, be_bytes_8, from_be_by
 use Rattle.md_fields.specs.Fields.{Field, byte, word, long, quad, words, block, bytes_of, size_of, spelling, sizes, IsWithin, AreWithin, IsSized, AreSized}
 use Rattle.md_fields.specs.Places.{IsBytes, number_at, WordsAt, IsAt, Stand}
 
--- what is left of bytes behind a place, and up to one, is bytes
+-- what is left of bytes after an offset, and up to one, is bytes
 pub IsBytes-drop : (n : ℕ) (bytes : List ℕ) → IsBytes bytes → IsBytes (drop n bytes)
 IsBytes-drop n bytes h i = rw get_or-drop (h (n + i))
 
@@ -20,7 +20,7 @@ IsBytes-take n bytes h i =
       | inr le ↦ rw (get_or_past (take n bytes) i 0 (omega (arith, length-take n bytes))) (omega arith)
     ]
 
--- fields that stand from a place on begin within the bytes
+-- fields from an offset on begin within the bytes
 pub within : (place : ℕ) (fs : List Field) (bytes : List ℕ) → Stand place fs bytes → place + sizes fs ≡ length bytes
 unfolding Stand sizes
 within place [] bytes e = omega (arith, e)
@@ -59,7 +59,7 @@ words_stand (n ∷ ns) front rest w (suc k) lt =
     let place : length (front ++ to_be_bytes w16 n) + 2 * k ≡ length front + 2 * suc k = omega (arith, length-append front (to_be_bytes w16 n)) in
     tail ∙ ap (λ (b : List ℕ). number_at w16 (length (front ++ to_be_bytes w16 n) + 2 * k) b) (append_assoc front (to_be_bytes w16 n) (flat_map (to_be_bytes w16) ns ++ rest)) ∙ ap (λ (i : ℕ). number_at w16 i (front ++ (flat_map (to_be_bytes w16) (n ∷ ns) ++ rest))) place
 
--- the bytes of a field that stands at a place
+-- the bytes of a field at an offset
 pub part : (f : Field) (place : ℕ) (bytes : List ℕ) → IsBytes bytes → place + size_of f ≤ length bytes → IsAt f place bytes → bytes_of f ≡ take (size_of f) (drop place bytes)
 unfolding number_at
 part (byte n holds) place bytes fits room e = rw (drop_more bytes place 0 (omega (arith, room)), e) refl
@@ -69,7 +69,7 @@ part (quad n holds) place bytes fits room e = be_bytes_8 _ n (omega (arith, leng
 part (words count ns holds) place bytes fits room e = words_part ns place bytes fits (omega (arith, room, e.0)) e.1 ∙ ap (λ (k : ℕ). take (2 * k) (drop place bytes)) e.0
 part (block size b holds) place bytes fits room e = e
 
--- fields that stand from a place on spell what is left of the bytes from there
+-- fields from an offset on spell what is left of the bytes from there
 pub spelled_from : (place : ℕ) (fs : List Field) (bytes : List ℕ) → IsBytes bytes → Stand place fs bytes → spelling fs ≡ drop place bytes
 unfolding Stand spelling
 spelled_from place [] bytes fits e = sym (drop_all place bytes (omega (arith, e)))
@@ -86,7 +86,7 @@ size_is (quad n holds) w = refl
 size_is (words count ns holds) w = words_size ns ∙ ap (λ (k : ℕ). 2 * k) w.0
 size_is (block size b holds) w = w
 
--- a field that is spelled behind a front stands there
+-- a field that is spelled after a prefix is there
 pub stands : (f : Field) (front rest : List ℕ) → IsWithin f → IsAt f (length front) (front ++ (bytes_of f ++ rest))
 unfolding number_at
 stands (byte n holds) front rest w = sym (ap (λ (l : List ℕ). get_or l 0 0) (drop_at front (n ∷ rest) (length front) refl)) ∙ get_or-drop (length front) (front ++ (n ∷ rest)) 0 0 ∙ ap (λ (k : ℕ). get_or (front ++ (n ∷ rest)) k 0) (omega arith)
@@ -96,7 +96,7 @@ stands (quad n holds) front rest w = sym (ap (from_be_bytes w64) (ap (take 8) (d
 stands (words count ns holds) front rest w = (w.0, words_stand ns front rest w.1)
 stands (block size b holds) front rest w = sym (ap (take size) (drop_at front (b ++ rest) (length front) refl) ∙ take_at b rest size w)
 
--- fields that fit their bytes stand behind any front in what they spell
+-- fields that fit their bytes are after any prefix in what they spell
 pub stand_behind : (front : List ℕ) (fs : List Field) → AreWithin fs → Stand (length front) fs (front ++ spelling fs)
 unfolding Stand spelling AreWithin
 stand_behind front [] w = ap length (append-nil front)
@@ -106,11 +106,11 @@ stand_behind front (f ∷ fs) w =
     let moved : Stand (length front + size_of f) fs ((front ++ bytes_of f) ++ spelling fs) = subst (λ (k : ℕ). Stand k fs ((front ++ bytes_of f) ++ spelling fs)) next tail in
     (stands f front (spelling fs) w.0, subst (λ (bytes : List ℕ). Stand (length front + size_of f) fs bytes) (append_assoc front (bytes_of f) (spelling fs)) moved)
 
--- fields that stand in bytes spell them
+-- fields that are in bytes spell them
 pub spelled : (fs : List Field) (bytes : List ℕ) → IsBytes bytes → Stand 0 fs bytes → spelling fs ≡ bytes
 spelled fs bytes fits p = spelled_from 0 fs bytes fits p
 
--- fields that spell bytes stand in them
+-- fields that spell bytes are in them
 pub spelled_stand : (fs : List Field) (bytes : List ℕ) → AreWithin fs → spelling fs ≡ bytes → Stand 0 fs bytes
 spelled_stand fs bytes w e = subst (λ (b : List ℕ). Stand 0 fs b) e (stand_behind [] fs w)
 

@@ -1,8 +1,8 @@
--- Tables of fields, one behind another.
+-- Tables of fields, one after another.
 use Rattle.std.proofs.Common.{◌≡◌, ℕ, ◌+◌, Bool, true, false, cond, List, [], ◌∷◌, ◌++◌, Option, Some, None, refl, sym, ap, ◌∙◌, append_assoc, arith}
 use Rattle.md_fields.specs.Fields.{AreWithin, Field, bytes_of, first_wrong, holds_of, or_else, size_of, sizes, spelling}
 
--- the bytes of two tables are those of one behind those of the other
+-- the bytes of two tables are those of one after those of the other
 pub spelling_append : (xs ys : List Field) → spelling (xs ++ ys) ≡ spelling xs ++ spelling ys
 unfolding spelling
 spelling_append [] ys = refl
@@ -31,12 +31,12 @@ first_append place (x ∷ xs) ys =
     ap (λ (f : Option ℕ). cond (holds_of x) f (Some place)) (first_append (place + size_of x) xs ys ∙ ap (λ (p : ℕ). or_else (first_wrong (place + size_of x) xs) (first_wrong p ys)) (omega arith))
     ∙ either (holds_of x) place (first_wrong (place + size_of x) xs) (first_wrong (place + (size_of x + sizes xs)) ys)
 
--- the first rule that fails of a table is that of the table with another behind it
+-- the first rule that fails of a table is that of the table with another after it
 pub first_front : (place found : ℕ) (xs ys : List Field) → first_wrong place xs ≡ Some found → first_wrong place (xs ++ ys) ≡ Some found
 first_front place found xs ys e =
     first_append place xs ys ∙ ap (λ (f : Option ℕ). or_else f (first_wrong (place + sizes xs) ys)) e
 
--- where none fails it is that of the table behind
+-- where none fails it is that of the table after
 pub first_behind : (place : ℕ) (xs ys : List Field) → first_wrong place xs ≡ None → first_wrong place (xs ++ ys) ≡ first_wrong (place + sizes xs) ys
 first_behind place xs ys e =
     first_append place xs ys ∙ ap (λ (f : Option ℕ). or_else f (first_wrong (place + sizes xs) ys)) e

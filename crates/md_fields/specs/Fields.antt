@@ -88,7 +88,7 @@ unfoldable pub sizes : List Field → ℕ
 sizes [] = 0
 sizes (field ∷ rest) = size_of field + sizes rest
 
--- the place of the first field whose rule fails, where the first field stands at a place
+-- the offset of the first field whose rule fails, where the first field is at an offset
 unfoldable pub first_wrong : ℕ → List Field → Option ℕ
 first_wrong place [] = None
 first_wrong place (field ∷ rest) = if holds_of field then first_wrong (place + size_of field) rest else Some place

@@ -12,7 +12,7 @@ pub record Keeps {S : Type 0} (fields : S → List Field) (bytes : List ℕ) (sa
 abbrev pub IsRight : {S : Type 0} → (S → List Field) → S → Type 0
 IsRight fields saved = first_wrong 0 (fields saved) ≡ None
 
--- the bytes are those of some numbers, and this is the place of the first field whose rule fails
+-- the bytes are those of some numbers, and this is the offset of the first field whose rule fails
 pub record Breaks {S : Type 0} (fields : S → List Field) (bytes : List ℕ) (place : ℕ) : Type 0 where
   pub saved : S
   pub keeps : Keeps fields bytes saved

@@ -1,4 +1,4 @@
--- Where the fields stand in bytes.
+-- Where the fields are in bytes.
 use Rattle.std.specs.Prelude.{◌≡◌, ℕ, ◌+◌, ◌*◌, ◌<◌, List, [], ◌∷◌, length, get_or, take, drop, slice_index}
 use Rattle.std.specs.Int.{Width, w16, w32, w64, byte_len, from_be_bytes}
 use Rattle.md_fields.specs.Fields.{Field, byte, word, long, quad, words, block, size_of}
@@ -15,7 +15,7 @@ number_at w place bytes = from_be_bytes w (take (byte_len w) (drop place bytes))
 abbrev pub WordsAt : List ℕ → ℕ → List ℕ → Type 0
 WordsAt numbers place bytes = (k : ℕ) → k < length numbers → slice_index numbers k ≡ number_at w16 (place + 2 * k) bytes
 
--- the value of the field is the one that stands at the place
+-- the value of the field is the one at the offset
 abbrev pub IsAt : Field → ℕ → List ℕ → Type 0
 IsAt (byte number holds) place bytes = number ≡ slice_index bytes place
 IsAt (word number holds) place bytes = number ≡ number_at w16 place bytes
@@ -24,7 +24,7 @@ IsAt (quad number holds) place bytes = number ≡ number_at w64 place bytes
 IsAt (words count numbers holds) place bytes = (length numbers ≡ count) × WordsAt numbers place bytes
 IsAt (block size block_bytes holds) place bytes = block_bytes ≡ take size (drop place bytes)
 
--- the fields stand one after another, from a place to the end of the bytes
+-- the fields are one after another, from an offset to the end of the bytes
 unfoldable pub Stand : ℕ → List Field → List ℕ → Type 0
 Stand place [] bytes = length bytes ≡ place
 Stand place (field ∷ rest) bytes = IsAt field place bytes × Stand (place + size_of field) rest bytes

@@ -4,7 +4,7 @@ ghost use Rattle.md_fields.specs.Fields.{seen, size_of, holds_of, sizes, first_w
 /// A field of a saved state: its value, and whether its rule holds.
 ///
 /// Numbers are spelled with the highest byte first. Of a field that is spelled as several of
-/// these (a count and its list, say) the rule stands at the first one, and the others hold.
+/// these (a count and its list, say) the rule is at the first one, and the others hold.
 #[derive(Clone, Copy)]
 pub enum Field<'a> {
     /// A number of one byte.
@@ -17,7 +17,7 @@ pub enum Field<'a> {
     Quad(u64, bool),
     /// Numbers of two bytes each.
     Words(&'a [u16], bool),
-    /// Bytes as they stand, a memory for example.
+    /// Bytes as they are, a memory for example.
     Block(&'a [u8], bool),
 }
 
@@ -49,7 +49,8 @@ impl<'a> Field<'a> {
     }
 }
 
-/// The place of the first field whose rule fails, in bytes from the first field on.
+/// The offset of the first field whose rule fails, in bytes from the first field on; None where each
+/// rule holds.
 #[tactic(auto, unfolding(crate::specs::Fields::sizes, crate::specs::Fields::first_wrong))]
 pub fn first_wrong(fields: &[Field<'_>]) -> Option<usize>
     requires { sizes (map seen fields.now) < 2 ^ 32 }

@@ -2,7 +2,7 @@ ghost use Rattle.std.specs.Prelude.{◌≡◌, ◌+◌, ◌*◌, ◌≤◌, leng
 ghost use Rattle.std.specs.Int.{w16, w32, w64};
 ghost use Rattle.md_fields.specs.Places.{number_at, WordsAt};
 
-/// The byte at a place.
+/// The byte at an offset.
 pub fn u8_at(bytes: &[u8], place: usize) -> u8
     requires { place + 1 ≤ length bytes.now }
     ensures { result ≡ slice_index bytes.now place }
@@ -10,7 +10,7 @@ pub fn u8_at(bytes: &[u8], place: usize) -> u8
     bytes[place]
 }
 
-/// The big-endian number in two bytes from a place on.
+/// The big-endian number in two bytes from an offset on.
 #[tactic(auto, unfolding(crate::specs::Places::number_at))]
 pub fn u16_at(bytes: &[u8], place: usize) -> u16
     requires { place + 2 ≤ length bytes.now }
@@ -19,7 +19,7 @@ pub fn u16_at(bytes: &[u8], place: usize) -> u16
     u16::from_be_bytes([bytes[place], bytes[place + 1]])
 }
 
-/// The big-endian number in four bytes from a place on.
+/// The big-endian number in four bytes from an offset on.
 #[tactic(auto, unfolding(crate::specs::Places::number_at))]
 pub fn u32_at(bytes: &[u8], place: usize) -> u32
     requires { place + 4 ≤ length bytes.now }
@@ -33,7 +33,7 @@ pub fn u32_at(bytes: &[u8], place: usize) -> u32
     ])
 }
 
-/// The big-endian number in eight bytes from a place on.
+/// The big-endian number in eight bytes from an offset on.
 #[tactic(auto, unfolding(crate::specs::Places::number_at))]
 pub fn u64_at(bytes: &[u8], place: usize) -> u64
     requires { place + 8 ≤ length bytes.now }
@@ -51,7 +51,7 @@ pub fn u64_at(bytes: &[u8], place: usize) -> u64
     ])
 }
 
-/// The big-endian numbers in two bytes each from a place on.
+/// The big-endian numbers in two bytes each from an offset on.
 pub fn words_at<const N: usize>(bytes: &[u8], place: usize) -> [u16; N]
     requires { place + 2 * N ≤ length bytes.now }
     ensures { WordsAt result place bytes.now }

@@ -1,4 +1,4 @@
--- A journal and a file come to one outcome alone.
+-- A journal and a file have one outcome alone.
 use Rattle.std.proofs.Common.{◌≡◌, ◌∙◌, ◌≢◌, ◌⊎◌, ◌<◌, ℕ, Bool, List, Option, None, Some, ap, sym, subst, inl, inr, arith}
 use Rattle.std.proofs.lemmas.Bool.{cases_order}
 use Rattle.md_vgm.specs.Course.{ComesTo, Ends, Goes, Refused, Verdict, fm_before, head_fault, psg_before, stamp, verdict_of}
@@ -18,7 +18,7 @@ apart : (pal : Bool) (file : List ℕ) (m n : ℕ) → ComesTo pal file m → Co
 apart pal file m n comes comes' stops stops' (inl below) = absurd (stops (comes' m below))
 apart pal file m n comes comes' stops stops' (inr above) = absurd (stops' (comes n above))
 
--- a file has at most one command to which all before it go on and that does not go on itself
+-- a file has at most one command to which all before it continue and that does not continue itself
 stops_once : (pal : Bool) (file : List ℕ) (m n : ℕ) → ComesTo pal file m → ComesTo pal file n → verdict_of pal file m ≢ Goes → verdict_of pal file n ≢ Goes → m ≡ n
 stops_once pal file m n comes comes' stops stops' = elim (cases_order m n) [
   | inl same ↦ same

@@ -18,8 +18,8 @@ abbrev pub IsMade : Bool → List ℕ → Outcome → Type 0
 IsMade pal journal (Made file) = (right_bytes journal ≡ length journal) × (file ≡ file_of pal (entries journal))
 IsMade pal journal (Failed fault) = (right_bytes journal < length journal) × (fault ≡ Form (right_bytes journal))
 
--- a file whose head is right and whose commands go on up to the end has the sound of the writes before it; any
--- other is refused for the first field of its head that is wrong, or else for its first command that is refused
+-- a file whose header is right and whose commands continue up to the end has the sound of the writes before it; any
+-- other is refused for the first field of its header that is invalid, or else for its first command that is refused
 abbrev pub IsPlayed : Bool → List ℕ → Outcome → Type 0
 IsPlayed pal file (Made sound) =
     (head_fault file ≡ None) × ((n : ℕ) × ComesTo pal file n × (verdict_of pal file n ≡ Ends)

@@ -3,7 +3,7 @@
 ghost use Rattle.std.specs.Prelude.{◌≡◌, ℕ, Bool, List};
 ghost use Rattle.md_vgm.specs.Outcomes.{IsMade, IsPlayed, Outcome};
 
-/// A journal comes to one outcome alone: it is accepted or refused, and at one place.
+/// A journal has one outcome alone: it is accepted or refused, and at one place.
 pub fn journals_have_one_outcome()
     ensures { (pal : Bool) (journal : List ℕ) (first second : Outcome) → IsMade pal journal first → IsMade pal journal second → first ≡ second }
 {}

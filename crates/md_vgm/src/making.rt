@@ -33,7 +33,7 @@ fn low(value: u16) -> u8
     (value % 0x100) as u8
 }
 
-/// The command for what an entry tells the sound chips, where it is one.
+/// The command for what an entry sends to the sound chips, where it is one.
 fn command_of(told: SoundAccess, hearing: &Hearing) -> Option<Command>
     ensures { (key : Stamp) → sounds_of key told hearing.now ≡ map (command_at key.cycle) (option_to_list result) }
 {
@@ -57,7 +57,7 @@ struct Making {
 }
 
 impl Making {
-    /// With the head alone. The sound ends at a time.
+    /// With the header alone. The sound ends at a time. It fails where the host has no memory.
     fn begin(alloc: Global, pal: bool, end: u32) -> Result<Making, NoMemory>
         ensures pal { IfOk result (λ made. made.pal ≡ pal) }
         ensures start { IfOk result (λ made. (made.hearing ≡ at_power_on) × (made.time ≡ 0)) }
@@ -74,7 +74,8 @@ impl Making {
         })
     }
 
-    /// Appends the command of an entry, where it has one, behind a wait up to its time.
+    /// Appends the command of an entry, where it has one, after a wait up to its time. It fails where the host
+    /// has no memory.
     fn pass(&mut self, entry: &Entry) -> Result<(), NoMemory>
         requires low { entry.now.key.cycle < 2 ^ 39 }
         requires rising { self.old.time ≤ clocks.time_of self.old.pal entry.now.key.cycle }
@@ -96,7 +97,7 @@ impl Making {
         Ok(())
     }
 
-    /// Appends a command of some time.
+    /// Appends a command of some time. It fails where the host has no memory.
     fn put(&mut self, command: Command, time: u32) -> Result<(), NoMemory>
         requires { self.old.time ≤ time }
         ensures pal { self.new.pal ≡ self.old.pal }
@@ -114,7 +115,8 @@ impl Making {
         Ok(())
     }
 
-    /// Appends the wait up to the end and the end, and puts the length into the head.
+    /// Appends the wait up to the end and the end, and puts the length into the header. It fails where the
+    /// host has no memory.
     fn finish(self, end: u32) -> Result<Vec<u8>, NoMemory>
         requires head { 64 ≤ vec_len self.file }
         requires short { vec_len self.file ≤ 0x2000000 }
@@ -141,7 +143,7 @@ fn end_of(journal: &[u8], pal: bool) -> u32
     time_of(pal, entry_at(journal, ENTRY * (count - 1)).key.cycle)
 }
 
-/// The file of a journal.
+/// The file of a journal. It fails where the host has no memory.
 fn make(alloc: Global, journal: &[u8], pal: bool) -> Result<Vec<u8>, NoMemory>
     requires most { length journal.now ≤ 67108864 }
     requires right { grammar.right_bytes journal.now ≡ length journal.now }
@@ -156,19 +158,20 @@ fn make(alloc: Global, journal: &[u8], pal: bool) -> Result<Vec<u8>, NoMemory>
     making.finish(end)
 }
 
-/// Makes a VGM file of the sound writes of a journal from power-on, of at most 67,108,864 bytes. `pal` tells
+/// Makes a VGM file of the sound writes of a journal from power-on, of at most 67,108,864 bytes. `pal` selects
 /// the master clock: that of PAL, or else that of NTSC.
 ///
 /// A journal is whole entries of 16 bytes. Each is of a kind that its chip has, at a cycle below 2^39; their
-/// keys rise, and those of the 68000 stand at least 28 cycles apart, those of the Z80 45. What fails first is
-/// where a journal is refused. Memory is asked for only where it is not.
+/// keys rise, and those of the 68000 are at least 28 cycles apart, those of the Z80 45. A journal is refused
+/// (`Form`) at the offset of its first entry of which this fails. Memory is asked for only where it is not,
+/// and `NoMemory` says that the host had none.
 pub fn from_journal(alloc: Global, journal: &[u8], pal: bool) -> Result<Vec<u8>, VgmFault>
     requires { length journal.now ≤ 67108864 }
     ensures made { IfOk result (λ file. IsMade pal journal.now (Made file.items)) }
     ensures length { IfOk result (λ file. vec_len file ≤ 67108864) }
     // What is made is refused, when it is played, for its length alone.
     ensures playable { IfOk result (λ file. IsPlayable pal file.items) }
-    // Memory is wanting only where a file could be made.
+    // Memory can run out only where a file could be made.
     ensures fault { IfErr result (λ fault. IsMade pal journal.now (Failed fault)
         ⊎ ((fault ≡ VgmFault.NoMemory) × ((file : List ℕ) × IsMade pal journal.now (Made file)))) }
 {

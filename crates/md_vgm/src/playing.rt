@@ -1,4 +1,5 @@
 ghost use Rattle.std.specs.Prelude.{◌≡◌, ℕ, ◌≤◌, ◌<◌, ◌+◌, ◌*◌, ◌/◌, ◌++◌, ◌⊎◌, List, IfErr, IfOk, length};
+ghost use Rattle.md_word.specs.Clock.{batch as batch_length};
 ghost use Rattle.md_files.specs.Wav.{wav_head};
 ghost use Rattle.md_vgm.specs.Course as course;
 ghost use Rattle.md_vgm.specs.Course.{ComesTo, Ends, fm_before, psg_before, stamp, verdict_of};
@@ -18,7 +19,7 @@ use std::alloc::Global;
 /// The bytes of a batch's pairs.
 const PAIRS: usize = 64;
 
-/// The bytes of the head of a sound file.
+/// The bytes of the header of a sound file.
 const HEAD: usize = 44;
 
 /// The batches that end below a cycle.
@@ -39,10 +40,10 @@ fn sound(
     requires start { start ≡ course.start_of file.now }
     requires within { start ≤ length file.now }
     requires few { batches ≤ 2000000 }
-    ensures sound { IfOk result (λ sound. (n : ℕ) × ComesTo pal file.now n × (16128 * batches ≤ stamp pal file.now n)
+    ensures sound { IfOk result (λ sound. (n : ℕ) × ComesTo pal file.now n × (batch_length * batches ≤ stamp pal file.now n)
         × (sound.items ≡ wav_head (16 * batches) pal ++ pairs (psg_before pal file.now n) (fm_before pal file.now n) batches)) }
     ensures fine { (last : ℕ) → ComesTo pal file.now last → verdict_of pal file.now last ≡ Ends
-        → 16128 * batches < stamp pal file.now last + 1 → IfErr result (λ fault. fault ≡ VgmFault.NoMemory) }
+        → batch_length * batches < stamp pal file.now last + 1 → IfErr result (λ fault. fault ≡ VgmFault.NoMemory) }
 {
     let mut sound = Vec::with_capacity(alloc, HEAD + PAIRS * batches as usize)?;
     wav_head(16 * batches as u32, pal, &mut sound);
@@ -55,16 +56,17 @@ fn sound(
 }
 
 /// Plays a VGM file of at most 67,108,864 bytes: the sound file of its writes to both chips, for the whole
-/// batches below its end. `pal` tells the master clock: that of PAL, or else that of NTSC; the clocks that the
-/// file tells are not looked at.
+/// batches below its end. `pal` selects the master clock: that of PAL, or else that of NTSC; the clocks that the
+/// file names are not looked at.
 ///
-/// Its commands wait, or write a byte to a chip. A file is refused at the first place at which no such command
-/// stands whole, or one goes beyond ten minutes or beyond 1,024 writes to a chip in a batch; for its head at 0,
-/// 8 or 34h. Memory is asked for only where it is not.
+/// Its commands wait, or write a byte to a chip. A file is refused at the first offset at which no such command
+/// is whole (`Form`), a wait goes beyond ten minutes (`Long`), or a write is the 1,025th to a chip in a batch
+/// (`Dense`); for its header at 0, 8 or 34h (`Form`). Memory is asked for only where it is not, and
+/// `NoMemory` says that the host had none.
 pub fn play(alloc: Global, file: &[u8], pal: bool) -> Result<Vec<u8>, VgmFault>
     requires { length file.now ≤ 67108864 }
     ensures played { IfOk result (λ sound. IsPlayed pal file.now (Made sound.items)) }
-    // Memory is wanting only where the file has a sound.
+    // Memory can run out only where the file has a sound.
     ensures fault { IfErr result (λ fault. IsPlayed pal file.now (Failed fault)
         ⊎ ((fault ≡ VgmFault.NoMemory) × ((sound : List ℕ) × IsPlayed pal file.now (Made sound)))) }
 {

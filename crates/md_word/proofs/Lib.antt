@@ -3,3 +3,4 @@ pub mod Answered
 pub mod Below
 pub mod Choices
 pub mod Regions
+pub mod Tables

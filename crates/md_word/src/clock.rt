@@ -22,6 +22,12 @@ pub const PSG_TICK: u64 = 240;
 /// A batch of 16 samples of the sound chips.
 pub const BATCH: u64 = 16_128;
 
+/// The least number of cycles from an event of the 68000 to its next: an access takes four of its clocks.
+pub const MAIN_GAP: u64 = 28;
+
+/// The least number of cycles from an event of the Z80 to its next: an access takes three of its clocks.
+pub const SUB_GAP: u64 = 45;
+
 /// The last cycle to which a run may go: nearly three hours.
 pub const LAST_CYCLE: u64 = 549_755_813_888;
 

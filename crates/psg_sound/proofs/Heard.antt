@@ -1,5 +1,6 @@
 -- A batch on its way from sample to sample.
 use Rattle.std.proofs.Common.{◌≡◌, ◌∙◌, sym, ap, ℕ, ◌+◌, ◌-◌, ◌*◌, ◌<◌, ◌≤◌, List, arith}
+use Rattle.md_word.specs.Clock.{fm_sample, psg_tick}
 use Rattle.sound_writes.proofs.Courses.{made_below-zero}
 use Rattle.psg_sound.specs.declared.write.PsgWrite.{PsgWrite}
 use Rattle.psg_sound.specs.Synth.{Synth, level}
@@ -11,16 +12,16 @@ use Rattle.psg_sound.proofs.Courses.{due, finished, due-course_to, finished-cour
 -- the latest
 pub record IsHeard (first : ℕ) (s : Synth) (ws : List PsgWrite) (ticks bound : ℕ) (c : Course) : Type 0 where
   pub cycle : ℕ
-  pub course : c ≡ due cycle (course_to (1008 * first) s ws ticks)
-  pub soon : cycle ≤ 240 * (ticks + 1)
+  pub course : c ≡ due cycle (course_to (fm_sample * first) s ws ticks)
+  pub soon : cycle ≤ psg_tick * (ticks + 1)
   pub past : cycle ≤ bound
-  pub low : ticks_below (1008 * first) ≤ ticks
-  pub high : 240 * ticks ≤ bound - 1
+  pub low : ticks_below (fm_sample * first) ≤ ticks
+  pub high : psg_tick * ticks ≤ bound - 1
 
-pub IsHeard-first : (first : ℕ) (s : Synth) (ws rest : List PsgWrite) (ticks bound : ℕ) → rest ≡ ws → ticks ≡ ticks_below (1008 * first) → 1008 * first ≤ bound
+pub IsHeard-first : (first : ℕ) (s : Synth) (ws rest : List PsgWrite) (ticks bound : ℕ) → rest ≡ ws → ticks ≡ ticks_below (fm_sample * first) → fm_sample * first ≤ bound
     → IsHeard first s ws ticks bound (record { chip = s; rest = rest })
 IsHeard-first first s ws rest ticks bound e f h =
-    let low = ticks_below (1008 * first) in
+    let low = ticks_below (fm_sample * first) in
     let none : 0 ≡ ticks - low = omega (arith, f) in
     record {
       cycle = 0;
@@ -34,17 +35,17 @@ IsHeard-first first s ws rest ticks bound e f h =
     }
 
 -- the course at the next sample
-pub IsHeard-at : (first : ℕ) (s : Synth) (ws : List PsgWrite) (ticks k : ℕ) (c d : Course) → IsHeard first s ws ticks (1008 * k) c
-    → d ≡ due (1008 * k) (after_ticks ticks (ticks_to (1008 * k) - ticks) c)
-    → d ≡ due (1008 * k) (course_to (1008 * first) s ws (ticks_to (1008 * k)))
+pub IsHeard-at : (first : ℕ) (s : Synth) (ws : List PsgWrite) (ticks k : ℕ) (c d : Course) → IsHeard first s ws ticks (fm_sample * k) c
+    → d ≡ due (fm_sample * k) (after_ticks ticks (ticks_to (fm_sample * k) - ticks) c)
+    → d ≡ due (fm_sample * k) (course_to (fm_sample * first) s ws (ticks_to (fm_sample * k)))
 IsHeard-at first s ws ticks k c d h e =
-    e ∙ due-course_to (1008 * first) ticks (ticks_to (1008 * k)) h.cycle (1008 * k) s ws c h.low (omega (arith, h.high)) h.soon h.past h.course
+    e ∙ due-course_to (fm_sample * first) ticks (ticks_to (fm_sample * k)) h.cycle (fm_sample * k) s ws c h.low (omega (arith, h.high)) h.soon h.past h.course
 
-pub IsHeard-next : (first : ℕ) (s : Synth) (ws : List PsgWrite) (k bound : ℕ) (d : Course) → first ≤ k → 1008 * k < bound
-    → d ≡ due (1008 * k) (course_to (1008 * first) s ws (ticks_to (1008 * k)))
-    → IsHeard first s ws (ticks_to (1008 * k)) bound d
+pub IsHeard-next : (first : ℕ) (s : Synth) (ws : List PsgWrite) (k bound : ℕ) (d : Course) → first ≤ k → fm_sample * k < bound
+    → d ≡ due (fm_sample * k) (course_to (fm_sample * first) s ws (ticks_to (fm_sample * k)))
+    → IsHeard first s ws (ticks_to (fm_sample * k)) bound d
 IsHeard-next first s ws k bound d h b e = record {
-  cycle = 1008 * k;
+  cycle = fm_sample * k;
   course = e;
   soon = omega arith;
   past = omega (arith, b);
@@ -53,13 +54,13 @@ IsHeard-next first s ws k bound d h b e = record {
 }
 
 pub sample-is : (first : ℕ) (s : Synth) (ws : List PsgWrite) (k : ℕ) (d : Course)
-    → d ≡ due (1008 * k) (course_to (1008 * first) s ws (ticks_to (1008 * k))) → level d.chip ≡ sample first s ws k
+    → d ≡ due (fm_sample * k) (course_to (fm_sample * first) s ws (ticks_to (fm_sample * k))) → level d.chip ≡ sample first s ws k
 unfolding sample
 sample-is first s ws k d e = ap (λ (c : Course). level c.chip) e
 
 pub after_batch-is : (first : ℕ) (s : Synth) (ws : List PsgWrite) (ticks bound end : ℕ) (c : Course) → IsHeard first s ws ticks bound c
-    → ticks ≤ end → end ≡ ticks_below (1008 * (first + 16)) → finished (after_ticks ticks (end - ticks) c) ≡ after_batch first s ws
+    → ticks ≤ end → end ≡ ticks_below (fm_sample * (first + 16)) → finished (after_ticks ticks (end - ticks) c) ≡ after_batch first s ws
 unfolding after_batch
 after_batch-is first s ws ticks bound end c h le e =
-    finished-course_to (1008 * first) ticks end h.cycle s ws c h.low le h.soon h.course
-    ∙ ap (λ u. finished (course_to (1008 * first) s ws u)) e
+    finished-course_to (fm_sample * first) ticks end h.cycle s ws c h.low le h.soon h.course
+    ∙ ap (λ u. finished (course_to (fm_sample * first) s ws u)) e

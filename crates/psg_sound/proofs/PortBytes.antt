@@ -48,7 +48,7 @@ only_one : (at : ℕ) (bytes : List ℕ) (s t : SavedPort) → Stand 0 (port_fie
 unfolding Stand
 only_one at bytes s t p q = λ i. record { count = (p.0 ∙ sym q.0) i; entries = (p.1.0 ∙ sym q.1.0) i }
 
--- what stands in the bytes
+-- what is in the bytes
 abbrev pub read_port : List ℕ → SavedPort
 read_port bytes = record { count = number_at w16 0 bytes; entries = take 10240 (drop 2 bytes) }
 
@@ -119,7 +119,7 @@ chips_kept at (w ∷ ws) e =
     let p = and_parts _ _ e in
     All-cons (λ (v : PsgWrite). v.key.chip < 2) w ws (ltb-true w.key.chip 2 (and_parts _ _ p.0).0) (chips_kept at ws p.1)
 
--- the writes that stand in the bytes, where the rule holds
+-- the writes in the bytes, where the rule holds
 pub read_spells : (at : ℕ) (bytes : List ℕ) → IsBytes bytes → length bytes ≡ 10242 → are_writes at (read_port bytes) ≡ true
     → SpellsPort at bytes (writes_at (number_at w16 0 bytes) (take 10240 (drop 2 bytes)))
 read_spells at bytes fits long e =
@@ -172,7 +172,7 @@ unfolding spelling
 entries_size [] = omega arith
 entries_size (w ∷ ws) = omega (arith, entries_size ws, length-append (spelling (write_fields w)) (entries_bytes write_fields ws))
 
--- what is left behind so many writes
+-- what is left after so many writes
 pub left_there : (count size : ℕ) (bytes : List ℕ) → length bytes ≡ 10242 → size ≡ 10240 - 10 * count
     → take size (drop (10 * count) (take 10240 (drop 2 bytes))) ≡ drop (10 * count) (take 10240 (drop 2 bytes))
 left_there count size bytes long same =

@@ -14,7 +14,7 @@ pub synth_size : (s : SavedSynth) → sizes (synth_fields s) ≡ 26
 unfolding sizes
 synth_size s = refl
 
--- the numbers that stand in bytes are the only ones
+-- the numbers in bytes are the only ones
 only_one : (bytes : List ℕ) (s t : SavedSynth) → Stand 0 (synth_fields s) bytes → Stand 0 (synth_fields t) bytes → s ≡ t
 unfolding Stand
 only_one bytes s t p0 q0 =

@@ -1,6 +1,7 @@
 -- Ticks at once: those of a divider, of a channel and of the chip.
 use Rattle.std.proofs.Common.{◌≡◌, ◌∙◌, refl, ap, ℕ, zero, suc, ◌+◌, ◌-◌, ◌*◌, ◌%◌, ◌<◌, ◌≤◌, ◌==◌, Bool, true, false, not, if◌then◌else◌, List, arith}
 use Rattle.std.specs.Fn.{iterate}
+use Rattle.md_word.specs.Clock.{psg_tick}
 use Rattle.psg_sound.specs.declared.divider.Divider.{Divider}
 use Rattle.psg_sound.specs.declared.noise.Noise.{Noise}
 use Rattle.psg_sound.specs.declared.tone.Tone.{Tone}
@@ -70,10 +71,10 @@ ticked_parts zero s = refl
 ticked_parts (suc n) s = ticked_parts n (ticked s)
 
 -- ticks before which no write comes
-pub ticks-alone : (t n : ℕ) (s : Synth) (ws : List PsgWrite) → AreDueFrom (240 * (t + n)) ws
+pub ticks-alone : (t n : ℕ) (s : Synth) (ws : List PsgWrite) → AreDueFrom (psg_tick * (t + n)) ws
     → after_ticks t n (record { chip = s; rest = ws }) ≡ record { chip = iterate ticked n s; rest = ws }
 ticks-alone t zero s ws h = refl
 ticks-alone t (suc n) s ws h =
-    ap (next_tick (240 * (t + suc n))) (ticks-alone t n s ws (λ r at k. h r at (omega arith)))
-    ∙ ap (λ (c : Course). record { chip = ticked c.chip; rest = c.rest }) (h (iterate ticked n s) (240 * (t + suc n)) (omega arith))
+    ap (next_tick (psg_tick * (t + suc n))) (ticks-alone t n s ws (λ r at k. h r at (omega arith)))
+    ∙ ap (λ (c : Course). record { chip = ticked c.chip; rest = c.rest }) (h (iterate ticked n s) (psg_tick * (t + suc n)) (omega arith))
     ∙ (λ i. record { chip = iterate-next ticked n s i; rest = ws })

@@ -1,7 +1,8 @@
 -- A batch of sixteen samples, from any chip and any list of writes.
--- The PSG ticks every 240 cycles of the master clock; a sample stands every 1,008.
+-- The PSG ticks every 240 cycles of the master clock; a sample is made every 1,008.
 use Rattle.std.specs.Prelude.{◌≡◌, ◌≤◌, ℕ, zero, suc, ◌+◌, ◌-◌, ◌*◌, ◌/◌, ℤ, List, map}
 use Rattle.std.specs.List.{range_with_len}
+use Rattle.md_word.specs.Clock.{fm_sample, psg_tick}
 use Rattle.sound_writes.specs.Course as course
 use Rattle.psg_sound.specs.declared.write.PsgWrite.{PsgWrite}
 use Rattle.psg_sound.specs.Stamp.{stamp_of}
@@ -35,15 +36,15 @@ next_tick cycle c = let due = made_below cycle c.chip c.rest in record { chip = 
 -- n more ticks, of which tick number t has been the last
 abbrev pub after_ticks : ℕ → ℕ → Course → Course
 after_ticks t zero c = c
-after_ticks t (suc n) c = next_tick (240 * (t + suc n)) (after_ticks t n c)
+after_ticks t (suc n) c = next_tick (psg_tick * (t + suc n)) (after_ticks t n c)
 
--- how many ticks stand up to a cycle, and below it: they stand at 240, 480 and so on
+-- how many ticks are up to a cycle, and below it: they are at 240, 480 and so on
 abbrev pub ticks_to : ℕ → ℕ
-ticks_to cycle = cycle / 240
+ticks_to cycle = cycle / psg_tick
 
--- those that stand below it
+-- those that are below it
 abbrev pub ticks_below : ℕ → ℕ
-ticks_below cycle = (cycle - 1) / 240
+ticks_below cycle = (cycle - 1) / psg_tick
 
 -- the course of a chip that has made the ticks below a cycle, after the ticks up to number t
 abbrev pub course_to : ℕ → Synth → List PsgWrite → ℕ → Course
@@ -53,8 +54,8 @@ course_to from s writes t = after_ticks (ticks_below from) (t - ticks_below from
 -- that come before it
 unfoldable pub sample : ℕ → Synth → List PsgWrite → ℕ → ℤ
 sample first s writes k =
-    let course = course_to (1008 * first) s writes (ticks_to (1008 * k)) in
-    level (made_below (1008 * k) course.chip course.rest).chip
+    let course = course_to (fm_sample * first) s writes (ticks_to (fm_sample * k)) in
+    level (made_below (fm_sample * k) course.chip course.rest).chip
 
 -- the samples of a batch
 unfoldable pub samples : ℕ → Synth → List PsgWrite → List ℤ
@@ -63,5 +64,5 @@ samples first s writes = map (λ k. sample first s writes (first + k)) (range_wi
 -- the chip after a batch: after the ticks below the next batch's first sample, and all writes
 unfoldable pub after_batch : ℕ → Synth → List PsgWrite → Synth
 after_batch first s writes =
-    let course = course_to (1008 * first) s writes (ticks_below (1008 * (first + 16))) in
+    let course = course_to (fm_sample * first) s writes (ticks_below (fm_sample * (first + 16))) in
     written_all course.rest course.chip

@@ -11,7 +11,7 @@ pub record IsPort (writes : List PsgWrite) : Type 0 where
   pub most : length writes ≤ 1024
   pub chips : All (λ w. w.key.chip < 2) writes
 
--- a write goes behind those that are held, and is lost where the port is full
+-- a write goes after those that are held, and is lost where the port is full
 abbrev pub held_with : List PsgWrite → Key → ℕ → List PsgWrite
 held_with writes key value = held.held_with writes (record { key = key; value = value })
 

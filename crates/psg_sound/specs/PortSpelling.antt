@@ -20,7 +20,7 @@ pub record SavedPort : Type 0 where
 abbrev pub write_fields : PsgWrite → List Field
 write_fields w = quad w.key.cycle true ∷ byte w.key.chip true ∷ byte w.value true ∷ []
 
--- the write that stands at a place of the bytes
+-- the write at an offset of the bytes
 abbrev pub write_at : ℕ → List ℕ → PsgWrite
 write_at place bytes = record {
   key = record { cycle = number_at w64 place bytes; chip = slice_index bytes (place + 8) };
@@ -35,12 +35,12 @@ writes_at count entries = entries_from 10 write_at count 0 entries
 abbrev pub key_of : PsgWrite → Key
 key_of w = w.key
 
--- at most 1,024 writes, with keys that a port holds at the cycle, and zeros behind them
+-- at most 1,024 writes, with keys that a port holds at the cycle, and zeros after them
 abbrev pub are_writes : ℕ → SavedPort → Bool
 are_writes at s =
     nat_le s.count 1024 && (are_kept at (map key_of (writes_at s.count s.entries)) && are_zeros (drop (10 * s.count) s.entries))
 
--- the fields in their order, and their rules; count and writes are one, whose rule stands first
+-- the fields in their order, and their rules; count and writes are one, whose rule is at the first field
 abbrev pub port_fields : ℕ → SavedPort → List Field
 port_fields at s = word s.count (are_writes at s) ∷ block 10240 s.entries true ∷ []
 

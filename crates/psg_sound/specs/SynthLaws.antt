@@ -7,6 +7,7 @@ use Rattle.psg_sound.specs.Voices.{IsTone, IsNoise, tone_ticked, noise_ticked, s
 use Rattle.psg_sound.specs.Synth.{Synth, IsSynth, at_power_on, silent_tone, written, ticked, latched, stored, tone_stored, noise_stored}
 use Rattle.psg_sound.specs.Batches.{Course, written_all, made_below, after_ticks, after_batch, samples, sample, ticks_below}
 use Rattle.std.proofs.lemmas.List.FromFn.{length-map-range_with_len}
+use Rattle.md_word.specs.Clock.{fm_sample, psg_tick}
 
 IsTone-ticked : (t : Tone) → IsTone t → IsTone (tone_ticked t)
 IsTone-ticked t h = record { period = h.period; volume = h.volume; low = grind (arith, h.low, h.high, h.period); high = grind (arith, h.low, h.high, h.period) }
@@ -72,14 +73,14 @@ IsSynth-made_below cycle s (w ∷ ws) h = grind (arith, IsSynth-made_below cycle
 IsSynth-after_ticks : (t n : ℕ) (c : Course) → IsSynth c.chip → IsSynth (after_ticks t n c).chip
 IsSynth-after_ticks t zero c h = h
 IsSynth-after_ticks t (suc n) c h =
-    IsSynth-ticked _ (IsSynth-made_below (240 * (t + suc n)) (after_ticks t n c).chip (after_ticks t n c).rest (IsSynth-after_ticks t n c h))
+    IsSynth-ticked _ (IsSynth-made_below (psg_tick * (t + suc n)) (after_ticks t n c).chip (after_ticks t n c).rest (IsSynth-after_ticks t n c h))
 
 -- a batch keeps the ranges
 pub IsSynth-after_batch : (first : ℕ) (s : Synth) (ws : List PsgWrite) → IsSynth s → IsSynth (after_batch first s ws)
 unfolding after_batch
 IsSynth-after_batch first s ws h =
-    let from = ticks_below (1008 * first) in
-    let count = ticks_below (1008 * (first + 16)) - from in
+    let from = ticks_below (fm_sample * first) in
+    let count = ticks_below (fm_sample * (first + 16)) - from in
     let start : Course = record { chip = s; rest = ws } in
     let course = after_ticks from count start in
     IsSynth-written_all course.rest course.chip (IsSynth-after_ticks from count start h)

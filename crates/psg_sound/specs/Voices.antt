@@ -80,7 +80,7 @@ noise_ticked tone3 n =
     let after = divided (noise_period n.control tone3) n.divider in
     record n { divider = after; register = if after.bit && not n.divider.bit then shifted n.control n.register else n.register }
 
--- the noise channel whose control takes the low four bits of a byte: its register starts anew
+-- the noise channel whose control takes the low four bits of a byte: its register starts again
 abbrev pub with_noise_control : ℕ → Noise → Noise
 with_noise_control value n = record n { control = value % 16; register = 0x8000 }
 

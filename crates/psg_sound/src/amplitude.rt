@@ -2,6 +2,8 @@ ghost use Rattle.std.specs.Prelude.{◌≡◌, ◌<◌, ◌≤ℤ◌, pos, negsu
 ghost use Rattle.psg_sound.specs.Voices.{signed_level};
 
 /// The amplitude of each volume: 2 dB less a step, and none at 15.
+///
+/// Source: Texas Instruments, SN76489AN data sheet, attenuation; the scale is this project's profile.
 const AMPLITUDES: [u16; 16] = [
     2048, 1627, 1292, 1026, 815, 648, 514, 409, 325, 258, 205, 163, 129, 103, 82, 0,
 ];

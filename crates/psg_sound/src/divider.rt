@@ -3,6 +3,8 @@ ghost use Rattle.std.specs.Fn.{iterate};
 ghost use Rattle.psg_sound.specs.Voices.{divided};
 
 /// A counter of ticks and the bit that it inverts each time it runs out.
+///
+/// Source: Texas Instruments, SN76489AN data sheet, tone generators.
 #[derive(Clone, Copy)]
 pub struct Divider {
     /// The ticks until the bit is inverted, 1 to 1,023.

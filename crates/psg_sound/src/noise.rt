@@ -6,6 +6,9 @@ use crate::amplitude::signed_level;
 use crate::divider::Divider;
 
 /// The noise channel: a shift register of 16 bits, of which bit 0 is the output.
+///
+/// Source: Texas Instruments, SN76489AN data sheet, noise generator; the 16 bits and their taps are
+/// Sega's.
 #[derive(Clone, Copy)]
 pub struct Noise {
     /// Bit 2 chooses white noise, bits 1 and 0 the period.

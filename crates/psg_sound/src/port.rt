@@ -53,8 +53,8 @@ impl PsgPort {
         }
     }
 
-    /// Whether each held write stands its processor's gap before the next event of that processor, at
-    /// least: the 68000's stands at `main`, the Z80's at `sub`.
+    /// Whether each held write is its processor's gap before the next event of that processor, at
+    /// least: the 68000's is at `main`, the Z80's at `sub`.
     pub fn is_before_next(&self, main: u64, sub: u64) -> bool
         ensures { result ≡ list_all (λ w. before_next main sub w.key) self.now }
     {

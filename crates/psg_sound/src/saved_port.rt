@@ -74,7 +74,7 @@ pub fn known_writes(writes: &[PsgWrite])
     }
 }
 
-/// The write that stands at a place.
+/// The write at an offset.
 fn write_at(bytes: &[u8], place: usize) -> PsgWrite
     requires { place + 10 ≤ length bytes.now }
     ensures { result ≡ meaning.write_at place bytes.now }

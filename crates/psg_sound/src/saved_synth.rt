@@ -33,7 +33,7 @@ pub struct SavedSynth {
 }
 
 impl SavedSynth {
-    /// The numbers that stand in the bytes.
+    /// The numbers in the bytes.
     #[tactic(auto, unfolding(md_fields::specs::Places::Stand))]
     pub fn read(bytes: &[u8]) -> SavedSynth
         requires { length bytes.now ≡ 26 }

@@ -38,18 +38,19 @@ impl PsgPort {
         put_zeros(WRITE * (MOST - count), into);
     }
 
-    /// Tells that the bytes of this port are read again, where the writes' keys are those of a state at a cycle.
+    /// The bytes of this port are read again, where the writes' keys are those of a state at a cycle.
     pub fn is_read_again(&self)
         ensures { (at : ℕ) → are_kept at (map key_of self.now) ≡ true → SpellsPort at (port_bytes self.now) self.now }
     {
         known_writes(self.writes.as_slice());
     }
 
-    /// The port that the bytes of a saved state at a cycle keep. It takes no memory. Bytes that are not
-    /// 10,242 are refused at the lesser of their number and 10,242; else at 0, where the writes are
-    /// more than 1,024, where their keys are none of the two processors', do not rise, stand below the
-    /// last batch before the cycle or not below the cycle, or stand less than 28 cycles apart for the
-    /// 68000 or 45 for the Z80, and where an unused place is not 0.
+    /// The port that the bytes of a saved state at a cycle keep. It takes no memory, and fails with `Rule`
+    /// alone. Bytes that are not 10,242 are refused at the lesser of their number and 10,242. Others are
+    /// refused at 0 where the writes are more than 1,024, or an unused place is not 0. They are refused
+    /// there, too, where the keys of the writes are none of the two processors', do not rise, are below
+    /// the last batch before the cycle or not below the cycle, or are less than 28 cycles apart for the
+    /// 68000 or 45 for the Z80.
     pub fn unspell(_alloc: Global, bytes: &[u8], at: u64) -> Result<PsgPort, Unspell>
         ensures found { IfOk result (λ port. SpellsPort at bytes.now port) }
         ensures only { (port : List Write) → SpellsPort at bytes.now port → result ≡ Ok port }
@@ -85,7 +86,7 @@ impl PsgPort {
     }
 }
 
-/// Makes a list the writes that the bytes keep, where the rules hold; else the place of the refusal.
+/// Makes a list the writes that the bytes keep, where the rules hold; else the offset of the refusal.
 fn port_of(bytes: &[u8], at: u64, into: &mut PsgList) -> Result<(), usize>
     ensures found { IfOk result (λ nothing. SpellsPort at bytes.now into.new.items) }
     ensures refused { IfErr result (λ place. PortGoesWrongAt at bytes.now place) }
@@ -120,7 +121,7 @@ impl PsgSynth {
         put(&self.saved().fields(), into);
     }
 
-    /// Tells that the bytes of this chip are read again.
+    /// The bytes of this chip are read again.
     #[tactic(auto, using(crate::proofs::SynthKept::synth_spelled))]
     pub fn is_read_again(&self)
         ensures { SpellsSynth (synth_bytes self.now) self.now }
@@ -153,10 +154,10 @@ impl PsgSynth {
         }
     }
 
-    /// The chip that the bytes of a saved state keep. It takes no memory. Bytes that are not 26 are
-    /// refused at the lesser of their number and 26, others at the place of the first field whose rule
-    /// fails: the latch is to be below 8, periods below 1,024, control and volumes below 16, counters
-    /// 1 to 1,023, and the bits 0 or 1.
+    /// The chip that the bytes of a saved state keep. It takes no memory, and fails with `Rule` alone.
+    /// Bytes that are not 26 are refused at the lesser of their number and 26. Others are refused at the
+    /// offset of the first field whose rule fails: the latch is to be below 8, periods below 1,024,
+    /// control and volumes below 16, counters 1 to 1,023, and the bits 0 or 1.
     pub fn unspell(_alloc: Global, bytes: &[u8], _at: u64) -> Result<PsgSynth, Unspell>
         ensures found { IfOk result (λ synth. SpellsSynth bytes.now synth) }
         ensures only { (synth : Synth) → SpellsSynth bytes.now synth → result ≡ Ok synth }
@@ -178,7 +179,7 @@ impl PsgSynth {
     }
 }
 
-/// The numbers that the bytes keep, where the rules hold of them; else the place of the refusal.
+/// The numbers that the bytes keep, where the rules hold of them; else the offset of the refusal.
 fn saved_of(bytes: &[u8]) -> Result<SavedSynth, usize>
     ensures found { IfOk result (λ saved. Keeps synth_fields bytes.now saved × IsRight synth_fields saved) }
     ensures refused { IfErr result (λ place. SynthGoesWrongAt bytes.now place) }

@@ -1,6 +1,6 @@
 ghost use Rattle.std.specs.Prelude.{◌≡◌, false, ◌+◌, ◌-◌, ◌*◌, ◌/◌, ◌^◌, ◌<◌, ◌≤◌, ◌≤ℤ◌, pos, negsuc, List, [], ◌∷◌, length, All};
-ghost use Rattle.md_word.specs.Clock.{psg_tick};
 ghost use Rattle.std.specs.Fn.{iterate};
+ghost use Rattle.md_word.specs.Clock.{cycle_limit, psg_tick};
 ghost use Rattle.psg_sound.specs.Synth.{IsSynth, at_power_on, level, ticked, written};
 ghost use Rattle.psg_sound.specs.Batches.{AreDueFrom, after_batch, after_ticks, made_below, samples, ticks_below, written_all};
 ghost use Rattle.psg_sound.specs.History.{Continues, IsNextBatch, chip_before};
@@ -75,20 +75,20 @@ impl PsgSynth {
     ///
     /// The chip has made the ticks below the first sample's cycle. It makes those below the cycle
     /// of sample `first` + 16, and all writes, in the list's order: each after the ticks up to its
-    /// stamp and before the ticks and samples above it. A write behind one of a later stamp comes
+    /// stamp and before the ticks and samples above it. A write after one of a later stamp comes
     /// at once after that one; a write stamped past the batch comes at its end.
     ///
     /// A sample is at least −8,192 and at most 8,192.
     pub fn batch(&mut self, first: u64, list: &PsgList, out: &mut [i32; 16])
-        requires { first ≤ 2 ^ 50 }
+        requires { first ≤ cycle_limit }
         ensures chip { self.new ≡ after_batch first self.old list.now.items }
         ensures samples { out.new ≡ samples first self.old list.now.items }
         ensures sixteen { length out.new ≡ 16 }
         ensures range { All (λ y. (negsuc 8191 ≤ℤ y) × (y ≤ℤ pos 8192)) out.new }
         ensures synth { IsSynth self.new }
 
-        // From a chip that stands where a history of writes left it, the samples are the levels
-        // over that history and these writes, and the chip stands where both leave it.
+        // From a chip as a history of writes left it, the samples are the levels
+        // over that history and these writes, and the chip is as both leave it.
         ensures history { (history : List Write) → Continues history list.now.items first
             → self.old ≡ chip_before history first
             → IsNextBatch history list.now.items first self.new out.new }
@@ -231,7 +231,7 @@ fn is_due(cycle: u64, writes: &[PsgWrite]) -> bool
     }
 }
 
-/// How many ticks stand below a cycle; they stand at 240, 480 and so on.
+/// How many ticks are below a cycle; they are at 240, 480 and so on.
 fn ticks_below(cycle: u64) -> u64
     ensures { result ≡ ticks_below cycle }
 {

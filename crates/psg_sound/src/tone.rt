@@ -5,7 +5,7 @@ ghost use Rattle.psg_sound.specs.Voices.{IsTone, tone_level, tone_ticked, with_t
 use crate::amplitude::signed_level;
 use crate::divider::Divider;
 
-/// A tone channel: a square wave.
+/// A tone channel: a square wave. Source: Texas Instruments, SN76489AN data sheet, tone generators.
 #[derive(Clone, Copy)]
 pub struct Tone {
     /// The ticks of half a wave, below 1,024; 0 counts as 1.

@@ -1,7 +1,7 @@
 use arrayvec::ArrayVec;
 use md_word::Key;
 
-/// A byte written to the PSG.
+/// A byte written to the PSG. Source: Texas Instruments, SN76489AN data sheet, control registers.
 #[derive(Clone, Copy)]
 pub struct PsgWrite {
     /// The cycle of the write, its stamp, and the chip that wrote: 0 the 68000, 1 the Z80.

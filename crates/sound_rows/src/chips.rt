@@ -2,6 +2,7 @@
 use fm_chip::FmSynth;
 use fm_port::{FmList, FmPort};
 use md_word::Key;
+use md_word::clock::BATCH;
 use psg_sound::{PsgList, PsgPort, PsgSynth};
 use row_lines::{RowError, byte, number};
 use std::alloc::{AllocError, Global};
@@ -9,9 +10,6 @@ use std::fmt::Write;
 
 /// No cycle of a row is above this.
 pub const FAR: u64 = 1 << 40;
-
-/// Cycles of a batch of sixteen samples.
-const BATCH: u64 = 16_128;
 
 /// The chips of a row, and what was heard of them.
 #[derive(Drop)]
@@ -58,7 +56,7 @@ impl Sound {
         }
     }
 
-    /// Begins anew at power-on; what was kept stays.
+    /// Begins again at power-on; what was kept stays.
     pub fn restart(&mut self) {
         self.psg_port = PsgPort::power_on();
         self.psg = PsgSynth::power_on();
@@ -72,7 +70,7 @@ impl Sound {
         self.kept = String::new(self.alloc);
     }
 
-    /// Keeps what was heard, and begins anew.
+    /// Keeps what was heard, and begins again.
     pub fn keep(&mut self) {
         self.kept = std::mem::replace(&mut self.heard, String::new(self.alloc));
         self.restart();

@@ -59,7 +59,7 @@ impl Sound {
         Ok(bytes)
     }
 
-    /// Reads a chip of bytes: `kept` where it is spelled by the same bytes, or the place at which they are refused.
+    /// Reads a chip of bytes: `kept` where it is spelled by the same bytes, or the offset at which they are refused.
     fn read_again(&mut self, chip: &str, bytes: &[u8], at: u64) -> Result<String, RowError> {
         match self.read(chip, bytes, at) {
             Ok(()) => {
@@ -79,7 +79,7 @@ impl Sound {
         self.read_again(chip, &bytes, number(at)?)
     }
 
-    /// The same of the bytes that keep it: it goes on as what is read.
+    /// The same of the bytes that keep it: it continues as what is read.
     pub fn again(&mut self, words: &str) -> Result<String, RowError> {
         let (chip, at) = chip_and_cycle(words)?;
         let bytes = self.spelled(chip, at)?;

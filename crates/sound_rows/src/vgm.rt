@@ -8,7 +8,7 @@ use std::alloc::Global;
 /// The longest journal or file.
 const MOST: usize = 67_108_864;
 
-/// The head of a file whose commands begin behind it.
+/// The header of a file whose commands begin after it.
 static HEAD: [u8; 64] =
     *b"Vgm \0\0\0\0\x50\x01\0\0\0\0\0\0\0\0\0\0\0\0\0\0\0\0\0\0\0\0\0\0\0\0\0\0\0\0\0\0\0\0\0\0\0\0\0\0\0\0\0\0\x0c\0\0\0\0\0\0\0\0\0\0\0";
 
@@ -70,7 +70,7 @@ fn build(alloc: Global, words: &str) -> Result<(bool, Vec<u8>), RowError> {
     }
 }
 
-/// Tells a fault.
+/// The text of a fault.
 fn fault(alloc: Global, fault: VgmFault) -> Result<String, RowError> {
     Ok(match fault {
         VgmFault::Form { place } => format!(in alloc; "form {place}")?,
@@ -80,7 +80,7 @@ fn fault(alloc: Global, fault: VgmFault) -> Result<String, RowError> {
     })
 }
 
-/// The file of a journal, from a place on and up to another.
+/// The file of a journal, from an offset on and up to another.
 fn made(alloc: Global, words: &str, from: usize, to: usize) -> Result<String, RowError> {
     let (pal, journal) = build(alloc, words)?;
     if journal.len() > MOST {
@@ -96,7 +96,7 @@ fn made(alloc: Global, words: &str, from: usize, to: usize) -> Result<String, Ro
     }
 }
 
-/// The head of the file of a journal.
+/// The header of the file of a journal.
 pub fn head(alloc: Global, words: &str) -> Result<String, RowError> {
     made(alloc, words, 0, HEAD.len())
 }

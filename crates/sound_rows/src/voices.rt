@@ -106,7 +106,7 @@ pub fn tick(alloc: Global, words: &str) -> Result<String, RowError> {
     Ok(text)
 }
 
-/// An envelope in sustain at 500 behind a key: whether it was on and is on, and the rate.
+/// An envelope in sustain at 500 after a key: whether it was on and is on, and the rate.
 pub fn key(alloc: Global, words: &str) -> Result<String, RowError> {
     let [was, on, rate] = numbers::<3>(words)?;
     let mut envelope = Envelope {

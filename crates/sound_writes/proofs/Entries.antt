@@ -1,4 +1,4 @@
--- Entries that stand in bytes are those that are spelled there.
+-- Entries in bytes are those that are spelled there.
 use Rattle.std.proofs.Common.{◌≡◌, ℕ, zero, suc, ◌+◌, ◌*◌, ◌-◌, ◌<◌, ◌≤◌, Bool, true, false, List, [], ◌∷◌, ◌++◌, length, take, drop, refl, sym, ap, subst, ◌∙◌, append_assoc, arith}
 use Rattle.std.specs.Prelude.{◌&&◌}
 use Rattle.std.proofs.lemmas.List.{take_at, length-append, append-nil, length-drop}
@@ -43,7 +43,7 @@ entries_more size entry count index place bytes below =
     let more : count - index ≡ suc (count - (index + 1)) = omega (arith, below) in
     ap (λ (n : ℕ). entries_from size entry n place bytes) more
 
--- entries of a size; a table of one stands where it is read, and where it stands it is read
+-- entries of a size; the fields of one are where it is read, and what is there is read
 module _ {E : Type 0} (size : ℕ) (fields : E → List Field) (entry : ℕ → List ℕ → E) (sized : (e : E) → sizes (fields e) ≡ size)
     (stands : (place : ℕ) (bytes : List ℕ) (rest : List Field) → Stand (place + size) rest bytes → Stand place (fields (entry place bytes) ++ rest) bytes)
     (only : (place : ℕ) (bytes : List ℕ) (e : E) (rest : List Field) → Stand place (fields e ++ rest) bytes → e ≡ entry place bytes) where

@@ -1,4 +1,4 @@
--- Parts of writes in order, and parts of a history with the writes behind it.
+-- Parts of writes in order, and parts of a history with the writes after it.
 use Rattle.std.proofs.Common.{◌≡◌, ◌∙◌, refl, sym, ap, ℕ, ◌<◌, ◌≤◌, Bool, true, false, ◌&&◌, nat_lt, nat_le, List, [], ◌∷◌, ◌++◌, filter, arith}
 use Rattle.std.proofs.lemmas.List.{append-nil}
 use Rattle.std.proofs.lemmas.List.Elements.{filter-append}
@@ -33,7 +33,7 @@ pub filter-filter : {A : Type 0} (p q : A → Bool) (ws : List A) → filter p (
 filter-filter p q [] = refl
 filter-filter p q (w ∷ ws) = let rest = filter-filter p q ws in grind (arith, rest)
 
--- ---- a history and the writes behind it
+-- ---- a history and the writes after it
 
 pub stamped-before : {A : Type 0} (stamp : A → ℕ) (a b low high : ℕ) (history ws : List A) → IsInOrder stamp low high ws → b ≤ low
     → stamped stamp a b (history ++ ws) ≡ stamped stamp a b history

@@ -21,7 +21,7 @@ IsInOrder-filter stamp p low high (w ∷ ws) o =
       | false ↦ IsInOrder-low stamp low (stamp w) high (filter p ws) o.0 rest
     ]
 
--- writes behind writes that end where they begin
+-- writes after writes that end where they begin
 pub IsInOrder-append : {A : Type 0} (stamp : A → ℕ) (cut high low : ℕ) (xs ys : List A) → low ≤ cut → cut ≤ high
     → IsInOrder stamp low cut xs → IsInOrder stamp cut high ys → IsInOrder stamp low high (xs ++ ys)
 IsInOrder-append stamp cut high low [] ys h k p q = IsInOrder-low stamp low cut high ys h q

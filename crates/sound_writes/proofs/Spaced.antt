@@ -3,13 +3,14 @@ use Rattle.std.proofs.Common.{◌≡◌, ℕ, zero, suc, ◌+◌, ◌<◌, ◌^�
 use Rattle.std.specs.Prelude.{◌&&◌, ◌||◌, nat_le, nat_lt, max}
 use Rattle.std.specs.List.{list_all}
 use Rattle.std.proofs.lemmas.Bool.{and_parts, le-ltb, ltb-true}
+use Rattle.md_word.specs.Clock.{main_gap, sub_gap}
 use Rattle.md_word.specs.declared.key.Key.{Key}
 use Rattle.sound_writes.specs.declared.earliest.Earliest.{Earliest}
 use Rattle.sound_writes.specs.Keys.{all_fit, after, are_kept, are_spaced, behind_batch, fits, is_behind, is_kept, last_batch, later}
 
 -- the same over the parts of the keys
 main_main : (at main c d : ℕ) → at < 2 ^ 64 → (nat_le main c && nat_lt c at) ≡ true
-    → (nat_le (later c 28) d && nat_lt d at) ≡ ((nat_le main d && nat_lt d at) && ((nat_lt c d || (eqb c d && false)) && nat_le (c + 28) d))
+    → (nat_le (later c main_gap) d && nat_lt d at) ≡ ((nat_le main d && nat_lt d at) && ((nat_lt c d || (eqb c d && false)) && nat_le (c + main_gap) d))
 main_main at main c d few fit = grind (arith, few, fit)
 
 main_sub : (at main sub c d : ℕ) → at < 2 ^ 64 → (nat_le main c && nat_lt c at) ≡ true
@@ -21,7 +22,7 @@ sub_main : (at main sub c d : ℕ) → at < 2 ^ 64 → (nat_le sub c && nat_lt c
 sub_main at main sub c d few fit = grind (arith, few, fit)
 
 sub_sub : (at sub c d : ℕ) → at < 2 ^ 64 → (nat_le sub c && nat_lt c at) ≡ true
-    → (nat_le (later c 45) d && nat_lt d at) ≡ ((nat_le sub d && nat_lt d at) && ((nat_lt c d || (eqb c d && false)) && nat_le (c + 45) d))
+    → (nat_le (later c sub_gap) d && nat_lt d at) ≡ ((nat_le sub d && nat_lt d at) && ((nat_lt c d || (eqb c d && false)) && nat_le (c + sub_gap) d))
 sub_sub at sub c d few fit = grind (arith, few, fit)
 
 -- there is no third processor

@@ -6,7 +6,7 @@ use Rattle.sound_writes.specs.Order.{is_below}
 abbrev pub limit : ℕ
 limit = 1024
 
--- a write goes behind those that are held, and is lost where the port is full
+-- a write goes after those that are held, and is lost where the port is full
 abbrev pub held_with : {A : Type 0} → List A → A → List A
 held_with writes w = if nat_lt (length writes) limit then writes ++ w ∷ [] else writes
 

@@ -1,17 +1,18 @@
 -- The keys of the writes that a port holds at a cycle, which a saved state keeps. This project's profile.
 use Rattle.std.specs.Prelude.{ℕ, ◌+◌, ◌-◌, ◌*◌, ◌/◌, ◌^◌, ◌==◌, nat_le, nat_lt, min, max, Bool, true, ◌&&◌, if◌then◌else◌, List, [], ◌∷◌}
 use Rattle.std.specs.List.{list_all}
+use Rattle.md_word.specs.Clock.{batch as batch_length, main_gap, sub_gap}
 use Rattle.md_word.specs.Keys.{key_lt}
 use Rattle.md_word.specs.declared.key.Key.{Key}
 use Rattle.sound_writes.specs.declared.earliest.Earliest.{Earliest}
 
--- the last batch before a cycle: one stands at each multiple of 16,128 cycles
+-- the last batch before a cycle: one is at each multiple of 16,128 cycles
 abbrev pub last_batch : ℕ → ℕ
-last_batch at = (at - 1) / 16128 * 16128
+last_batch at = (at - 1) / batch_length * batch_length
 
--- a processor's writes stand so many cycles apart, at least: the 68000's 28, the Z80's 45
+-- a processor's writes are so many cycles apart, at least: the 68000's 28, the Z80's 45
 abbrev pub gap : ℕ → ℕ
-gap chip = if chip == 0 then 28 else 45
+gap chip = if chip == 0 then main_gap else sub_gap
 
 -- a write of one of the two processors, from the last batch before a cycle on and below the cycle
 abbrev pub is_kept : ℕ → Key → Bool
@@ -22,7 +23,7 @@ abbrev pub is_behind : Key → Key → Bool
 is_behind earlier later =
     key_lt earlier later && (if earlier.chip == later.chip then nat_le (earlier.cycle + gap earlier.chip) later.cycle else true)
 
--- each key stands behind all that are before it
+-- each key is after all that are before it
 abbrev pub are_spaced : List Key → Bool
 are_spaced [] = true
 are_spaced (key ∷ rest) = list_all (is_behind key) rest && are_spaced rest
@@ -31,7 +32,7 @@ are_spaced (key ∷ rest) = list_all (is_behind key) rest && are_spaced rest
 abbrev pub are_kept : ℕ → List Key → Bool
 are_kept at keys = list_all (is_kept at) keys && are_spaced keys
 
--- a write stands its processor's gap before the next event of that processor, at least
+-- a write is its processor's gap before the next event of that processor, at least
 abbrev pub is_before_next : ℕ → ℕ → Key → Bool
 is_before_next main sub key = nat_le (key.cycle + gap key.chip) (if key.chip == 0 then main else sub)
 
@@ -50,11 +51,11 @@ fits at e key =
 abbrev pub later : ℕ → ℕ → ℕ
 later cycle more = min (2 ^ 64 - 1) (cycle + more)
 
--- behind a write with this key
+-- after a write with this key
 abbrev pub after : Key → Earliest → Earliest
 after key e =
-    if key.chip == 0 then record { main = later key.cycle 28; sub = max e.sub key.cycle }
-    else record { main = max e.main (later key.cycle 1); sub = later key.cycle 45 }
+    if key.chip == 0 then record { main = later key.cycle main_gap; sub = max e.sub key.cycle }
+    else record { main = max e.main (later key.cycle 1); sub = later key.cycle sub_gap }
 
 -- whether the next writes can have these keys
 unfoldable pub all_fit : ℕ → Earliest → List Key → Bool

@@ -2,15 +2,9 @@ ghost use Rattle.std.specs.Prelude.{◌≡◌, ◌<◌};
 ghost use Rattle.sound_writes.specs.Keys as meaning;
 
 use md_word::Key;
-use md_word::clock::BATCH;
+use md_word::clock::{BATCH, MAIN_GAP, SUB_GAP};
 
-/// Cycles from one write of the 68000 to its next, at least.
-const MAIN_GAP: u64 = 28;
-
-/// Cycles from one write of the Z80 to its next, at least.
-const SUB_GAP: u64 = 45;
-
-/// The earliest cycles at which the next write of each processor can stand, behind those that were
+/// The earliest cycles at which the next write of each processor can be, after those that were
 /// looked at.
 #[derive(Clone, Copy)]
 pub struct Earliest {
@@ -40,7 +34,7 @@ impl Earliest {
         key.chip < 2 && from <= key.cycle && key.cycle < at
     }
 
-    /// Behind a write with this key.
+    /// After a write with this key.
     pub fn after(&self, key: &Key) -> Earliest
         ensures { result ≡ meaning.after key.now self.now }
     {
@@ -58,8 +52,8 @@ impl Earliest {
     }
 }
 
-/// Whether a write with this key stands its processor's gap before the next event of that processor,
-/// at least: the 68000's next stands at `main`, the Z80's at `sub`.
+/// Whether a write with this key is its processor's gap before the next event of that processor,
+/// at least: the 68000's next is at `main`, the Z80's at `sub`.
 pub fn is_before_next(key: &Key, main: u64, sub: u64) -> bool
     ensures { result ≡ meaning.is_before_next main sub key.now }
 {

@@ -1,5 +1,6 @@
 use Rattle.std.proofs.Common.{◌≡◌, ◌∙◌, ℕ, ◌+◌, ◌*◌, ◌<◌, List, ◌++◌, ap, arith, inr, refl}
 use Rattle.std.proofs.lemmas.Result.{IfErr-weaker, IfOk-weaker}
+use Rattle.md_word.specs.Clock.{batch as batch_length}
 use Rattle.md_files.specs.Wav.{wav_head}
 use Rattle.md_vgm.specs.Clocks.{stamp_of}
 use Rattle.md_vgm.specs.Course.{fm_before, psg_before, stamp}
@@ -36,7 +37,7 @@ returns-clause-fault c =
     let n = found.0 in
     let cycle : c.stamp_of.result ≡ stamp pal file n = c.stamp_of.ensures ∙ ap (stamp_of pal) found.2.1 in
     let batches : c.batches_below.result ≡ batches_below (stamp pal file n) = c.batches_below.ensures ∙ ap batches_below cycle in
-    let below : 16128 * c.batches_below.result < stamp pal file n + 1 = omega arith in
+    let below : batch_length * c.batches_below.result < stamp pal file n + 1 = omega arith in
     IfErr-weaker c.sound.result _ _
     (λ fault h. inr (
       h,

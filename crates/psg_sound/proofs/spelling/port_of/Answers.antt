@@ -7,7 +7,7 @@ use Rattle.psg_sound.proofs.PortBytes.{all_right, breaks_port, left_there, not_k
 use Rattle.psg_sound.proofs.spelling.port_of.Goals as goal
 use Rattle.psg_sound.proofs.spelling.port_of.Goals.{then-not-are_kept-via-then-not-are_kept, then-not-are_kept-via-else-not-are_kept+then-not-are_zeros}
 
--- what the answers of the two tests tell of the bytes
+-- what the answers of the two tests say of the bytes
 kept_there : (at count there : ℕ) (entries : List ℕ) (ws vs : List PsgWrite) (b : Bool) → count ≡ there → ws ≡ vs → vs ≡ writes_at count entries
     → b ≡ are_kept at (map key_of ws) → are_kept at (map key_of (writes_at there entries)) ≡ b
 kept_there at count there entries ws vs b same one two e =

@@ -4,7 +4,7 @@ use Rattle.md_fields.proofs.Tables.{spelling_append}
 use Rattle.fm_chip.specs.SynthSpelling.{fields1, fields2, fields3, fields4, fields5, fields6, four_fields, head_fields, last_fields, synth_fields}
 use Rattle.fm_chip.proofs.saved_synth.SavedSynth.put.Goals as goal
 
--- what stands behind a part stands behind what was before it
+-- what is after a part is after what was before it
 grow : (old new : List ℕ) (part rest : List Field) → new ≡ old ++ spelling part → new ++ spelling rest ≡ old ++ spelling (part ++ rest)
 grow old new part rest e =
     ap (λ (l : List ℕ). l ++ spelling rest) e ∙ append_assoc old (spelling part) (spelling rest) ∙ ap (λ (l : List ℕ). old ++ l) (sym (spelling_append part rest))

@@ -1,18 +1,17 @@
-use Rattle.std.proofs.Common.{◌≡◌, ◌∙◌, ◌++◌, ◌*◌, ◌-◌, ◌≤◌, List, ℕ, length, map, replicate, subst, sym, true, ap, append_assoc, arith}
+use Rattle.std.proofs.Common.{◌≡◌, ◌∙◌, ◌++◌, ◌*◌, ◌-◌, ◌≤◌, List, ℕ, length, map, replicate, ap, append_assoc, arith}
 use Rattle.std.specs.Int.{w16, to_be_bytes}
 use Rattle.md_fields.specs.Fields.{sizes, spelling}
 use Rattle.md_fields.proofs.Standing.{long_as_sized}
-use Rattle.sound_writes.specs.Entries.{AreFit, entries_bytes}
+use Rattle.sound_writes.specs.Entries.{entries_bytes}
 use Rattle.fm_port.specs.Port.{Port}
-use Rattle.fm_port.specs.Timed.{AreTimed}
-use Rattle.fm_port.specs.PortSpelling.{SpellsPort, are_right, number_fields, port_bytes, saved_numbers, saved_write_of, settled_port, write_fields}
+use Rattle.fm_port.specs.PortSpelling.{number_fields, port_bytes, saved_numbers, saved_write_of, settled_port, write_fields}
 use Rattle.fm_port.specs.declared.saved_port.SavedPort.{SavedPort as Numbers}
 use Rattle.fm_port.specs.declared.timers.Timers.{Timers}
 use Rattle.fm_port.specs.declared.write.FmWrite.{FmWrite}
-use Rattle.fm_port.proofs.PortBytes.{number_size, parts_are, port_kept, port_within}
+use Rattle.fm_port.proofs.PortBytes.{number_size, parts_are}
 use Rattle.fm_port.proofs.port.FmPort.spell.Goals as goal
 
--- four parts behind what was there
+-- four parts after what was there
 parts : (old one two three four bytes numbers count writes unused : List ℕ) → one ≡ old ++ numbers → two ≡ one ++ count → three ≡ two ++ writes → four ≡ three ++ unused
     → numbers ++ (count ++ (writes ++ unused)) ≡ bytes → four ≡ old ++ bytes
 parts old one two three four bytes numbers count writes unused a b d e f =

@@ -7,7 +7,7 @@ use Rattle.psg_sound.specs.declared.write.PsgWrite.{PsgWrite}
 use Rattle.psg_sound.proofs.PortBytes.{entries_size, parts_are, port_kept}
 use Rattle.psg_sound.proofs.port.PsgPort.spell.Goals as goal
 
--- three parts behind what was there
+-- three parts after what was there
 parts : (old one two three bytes count writes unused : List ℕ) → one ≡ old ++ count → two ≡ one ++ writes → three ≡ two ++ unused
     → count ++ (writes ++ unused) ≡ bytes → three ≡ old ++ bytes
 parts old one two three bytes count writes unused a b d e =

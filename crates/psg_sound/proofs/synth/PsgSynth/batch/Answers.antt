@@ -2,6 +2,7 @@ use Rattle.std.proofs.Common.{◌≡◌, ◌≢◌, ◌∙◌, rules, arith, ap,
 use Rattle.std.proofs.lemmas.Int.{ints}
 use Rattle.std.proofs.lemmas.List.Elements.{All-from_get_or}
 use Rattle.std.proofs.lemmas.List.FromFn.{fill_by_all}
+use Rattle.md_word.specs.Clock.{fm_sample}
 use Rattle.psg_sound.specs.Batches.{Course, ticks_to, course_to, sample, samples}
 use Rattle.psg_sound.proofs.Courses.{due, finished}
 use Rattle.psg_sound.proofs.Heard.{IsHeard-first, IsHeard-at, IsHeard-next, sample-is, after_batch-is}
@@ -22,15 +23,15 @@ loop-k-preserved c =
     let s = c.args.self.now in
     let ws = c.args.list.now.items in
     let k = c.loop-k.k in
-    let cycle = 1008 * (first + k) in
+    let cycle = fm_sample * (first + k) in
     let before : Course = record { chip = c.loop-k.self; rest = c.loop-k.rest.now } in
     let now : Course = record { chip = c.write_below-rest.new.self; rest = c.write_below-rest.result.now } in
-    let at : now ≡ due cycle (course_to (1008 * first) s ws (ticks_to cycle)) =
+    let at : now ≡ due cycle (course_to (fm_sample * first) s ws (ticks_to cycle)) =
     IsHeard-at first s ws c.loop-k.ticks (first + k) before now c.loop-k.invariant.heard (c.write_below-rest.ensures ∙ ap (due cycle) c.run-rest.ensures) in
     let heard : to_z w32 (of_z w32 c.level.result) ≡ c.level.result = omega (arith, ints) in
     let room : k < length c.loop-k.out = omega (arith, c.loop-k.invariant.sixteen) in
     record {
-      heard = IsHeard-next first s ws (first + k) (1008 * (first + (k + 1))) now (omega arith) (omega arith) at;
+      heard = IsHeard-next first s ws (first + k) (fm_sample * (first + (k + 1))) now (omega arith) (omega arith) at;
       sixteen = search rules;
       samples = below_more _ _
           (λ j h. let ne : j ≢ k = omega arith in rw get_or-set_other (c.loop-k.invariant.samples j h))
