@@ -9,7 +9,8 @@ use Rattle.vdp_planes.specs.View.{clear, display_height, dot_at}
 use Rattle.vdp_sprites.specs.Sprites.{sprite_dot}
 use Rattle.vdp_chip.specs.Picture.{row_of}
 use Rattle.vdp_chip.proofs.Rows.{row_hidden, row_same}
-use Rattle.vdp_ahead.specs.Lines.{row_on, sprites_on}
+use Rattle.vdp_sprites.specs.Lines.{sprites_on}
+use Rattle.vdp_ahead.specs.Lines.{row_on}
 
 -- the dots of the sprites, by their places
 sprites-at : (view : LineView) (y x : ℕ) → nat_lt y (display_height view) ≡ true → x < 320 → dot_at (sprites_on y view) x ≡ sprite_dot view y x

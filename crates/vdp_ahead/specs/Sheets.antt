@@ -2,7 +2,8 @@
 use Rattle.std.specs.Prelude.{◌≡◌, ℕ, ◌≤◌, ◌<◌, false, List, [], slice_index_or}
 use Rattle.vdp_planes.specs.declared.view.LineView.{LineView}
 use Rattle.vdp_planes.specs.declared.view.SpriteNote.{SpriteNote}
-use Rattle.vdp_ahead.specs.Lines.{note_on, row_on}
+use Rattle.vdp_sprites.specs.Lines.{note_on}
+use Rattle.vdp_ahead.specs.Lines.{row_on}
 
 -- the view, the first line, the first behind it that is not drawn, and the one below which lines are to be drawn
 pub record SheetValue : Type 0 where

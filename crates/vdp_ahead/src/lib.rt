@@ -10,7 +10,6 @@ mod place;
 mod sheet;
 mod tray;
 
-pub use line::draw_line_sprites;
 pub use place::Place;
 pub use sheet::Sheet;
 pub use tray::Tray;

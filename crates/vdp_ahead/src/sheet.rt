@@ -1,6 +1,7 @@
 ghost use Rattle.std.specs.Prelude.{◌≡◌, ℕ, ◌+◌, ◌<◌, ◌≤◌, true, length};
 ghost use Rattle.vdp_planes.specs.View.{display_height, view_of};
-ghost use Rattle.vdp_ahead.specs.Lines as lines;
+ghost use Rattle.vdp_sprites.specs.Lines.{note_on};
+ghost use Rattle.vdp_ahead.specs.Lines.{row_on};
 ghost use Rattle.vdp_ahead.specs.Sheets.{SheetValue};
 
 use crate::line::draw_line;
@@ -125,7 +126,7 @@ impl Sheet {
     pub fn row(&self, line: u32) -> &[u8]
         requires from { self.now.from ≤ line }
         requires to { line < self.now.to }
-        ensures { result.now ≡ lines.row_on line self.now.view }
+        ensures { result.now ≡ row_on line self.now.view }
     {
         &self.rows[line as usize]
     }
@@ -134,7 +135,7 @@ impl Sheet {
     pub fn note(&self, line: u32) -> SpriteNote
         requires from { self.now.from ≤ line }
         requires to { line < self.now.to }
-        ensures { result ≡ lines.note_on line self.now.view }
+        ensures { result ≡ note_on line self.now.view }
     {
         self.notes[line as usize]
     }

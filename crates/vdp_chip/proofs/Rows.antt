@@ -93,7 +93,7 @@ line_row_same view s t y same =
     ∙ same n within
     ∙ sym (get_or-map-range_with_len (line_byte view a b t) 0 960 n n 0 within (omega arith)))
 
--- behind the lines of the display no dot of the sprites is seen
+-- after the lines of the display no dot of the sprites is seen
 pub row_hidden : (view : LineView) (s t : List Dot) (y : ℕ) → display_height view ≤ y → row_of view s y ≡ row_of view t y
 unfolding row_of on_row
 row_hidden view s t y past =
@@ -151,7 +151,7 @@ length-with_row y row old h r o =
     let behind = length-drop (960 * y + 960) old in
     omega (arith, all, front, behind, o)
 
--- the rows behind it stay
+-- the scanlines after it stay
 pub with_row-behind : (y n : ℕ) (row old : List ℕ) → y < 240 → length row ≡ row_length → length old ≡ memory_length → 960 * y + 960 ≤ n
     → slice_index (with_row y row old) n ≡ slice_index old n
 unfolding with_row

@@ -26,7 +26,7 @@ impl ChipVdp {
         }
     }
 
-    /// Tells what holds of every chip: its lengths and its lines, and that its cycle has eight bytes.
+    /// States what holds of every chip: its lengths and its lines, and that its cycle has eight bytes.
     fn known(&self)
         ensures drawing { IsDrawing self.now }
         ensures next { self.now.next < 2 ^ 64 }
@@ -48,7 +48,7 @@ impl ChipVdp {
         put(&self.saved().fields(at, true), into);
     }
 
-    /// Tells that the bytes of this chip are read again where its next event is the first of a line from a cycle
+    /// States that the bytes of this chip are read again where its next event is the first of a line from a cycle
     /// on, with its view here and without a frame.
     pub fn is_read_again(&self)
         ensures { (at : ℕ) → IsReady at self.now → Spells at self.now.pal (drawing_bytes self.now) (drained self.now) }

@@ -59,7 +59,7 @@ fn levels_of(word: u16) -> u32
 }
 
 /// The bytes of a colour in a shade, and one that no dot shows, so that a dot is written at once. All
-/// three levels are multiplied at once: none comes to more than 252.
+/// three levels are multiplied at once: none is more than 252.
 #[inline(always)]
 #[tactic(auto, unfolding(crate::specs::Mixing::rgb_of))]
 fn entry_of(scene: &Scene, colour: usize, shade: Shade) -> [u8; 4]

@@ -21,7 +21,7 @@ pub struct LineView {
     pub tall: bool,
 }
 
-/// The same, borrowed from where it stands.
+/// The same, borrowed from where it is.
 #[derive(Clone, Copy)]
 pub struct Scene<'a> {
     pub registers: &'a [u8; 24],
@@ -121,7 +121,7 @@ impl LineView {
     }
 }
 
-/// The VDP's registers and memories, borrowed as they stand, for a picture of a region.
+/// The VDP's registers and memories, borrowed as they are, for a picture of a region.
 pub fn scene_of(state: &VdpState, pal: bool) -> Scene<'_>
     ensures { seen result ≡ view_of pal state.now }
 {
@@ -147,7 +147,7 @@ pub fn fill_view(view: &mut LineView, state: &VdpState)
 }
 
 impl<'a> Scene<'a> {
-    /// The lines of the display, 224 or 240; behind them the rows of the picture show the backdrop.
+    /// The lines of the display, 224 or 240; after them the scanlines of the picture show the backdrop.
     #[inline]
     pub fn height(&self) -> u32
         ensures value { result ≡ display_height (seen self.now) }
