@@ -97,7 +97,7 @@ impl Shared {
         self.vdp.pal
     }
 
-    /// Tells what holds of every board.
+    /// States what holds of every board.
     pub fn known(&self)
         ensures { IsBoard self.now }
     {

@@ -22,7 +22,7 @@ pub enum Kept {
 }
 
 /// Makes room for a scanline: line 0 begins a picture, and the one before is set aside where it is kept.
-/// The answer is where the frame stands then.
+/// The answer is where the frame is then.
 #[tactic(auto, unfolding(crate::specs::Picture::cleared))]
 fn make_room(
     pal: bool,
@@ -68,8 +68,8 @@ fn begin(line: u32, picture: &mut [u8; PICTURE])
     }
 }
 
-/// Makes the picture and the frame those behind the event of this line. The answer is where the frame
-/// stands then.
+/// Makes the picture and the frame those after the event of this line. The answer is where the frame
+/// is then.
 #[tactic(auto, unfolding(crate::specs::Picture::drawn, crate::specs::Picture::finished))]
 pub fn draw(
     pal: bool,
