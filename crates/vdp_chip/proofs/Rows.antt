@@ -14,12 +14,6 @@ use Rattle.vdp_planes.specs.Mixing.{border_of, in_picture, line_byte, shown_at}
 use Rattle.vdp_chip.specs.Picture.{hidden, line_row, memory_length, on_row, plane_dots, row_length, row_of, with_row, without_bit_6}
 
 -- clear dots, and that they are colours
-pub clear_at : (x : ℕ) → x < 320 → dot_at (replicate 320 clear) x ≡ clear
-clear_at x below = get_or-replicate 320 x clear clear below
-
-pub clear_colours : AllColours (replicate 320 clear)
-clear_colours x below = subst (λ (dot : Dot). dot.colour < 64) (sym (clear_at x below)) (lit< tt)
-
 pub all_clear : (d : Dot) → d ≡ clear → (x : ℕ) → x < 320 → dot_at (replicate 320 d) x ≡ clear
 all_clear d e x below = get_or-replicate 320 x d clear below ∙ e
 
