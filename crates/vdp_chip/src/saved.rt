@@ -47,7 +47,7 @@ impl<'a> SavedDrawing<'a> {
     /// The numbers in the bytes.
     #[tactic(auto, unfolding(md_fields::specs::Places::Stand))]
     fn read(bytes: &'a [u8]) -> SavedDrawing<'a>
-        requires { length bytes.now ≡ 230410 }
+        requires { length bytes.now ≡ drawing_size }
         ensures { (at : ℕ) (pal : Bool) → Stand 0 (drawing_fields at pal result) bytes.now }
     {
         SavedDrawing {

@@ -130,7 +130,7 @@ impl<'a> SavedVdp<'a> {
     /// The numbers in the bytes.
     #[tactic(auto, unfolding(md_fields::specs::Places::Stand))]
     fn read(bytes: &'a [u8]) -> SavedVdp<'a>
-        requires { length bytes.now ≡ 65813 }
+        requires { length bytes.now ≡ vdp_size }
         ensures { (at : ℕ) (pal : Bool) → Stand 0 (vdp_fields at pal result) bytes.now }
     {
         SavedVdp {
