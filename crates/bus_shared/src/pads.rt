@@ -1,4 +1,5 @@
 //! The pads on the board: the registers by which the 68000 reaches them, and the words of a recording.
+//! Source: Genesis Technical Overview, the I/O area.
 ghost use Rattle.std.specs.Prelude.{◌≡◌, ◌^◌, ◌≤◌};
 ghost use Rattle.bus_shared.specs.Accesses as accesses;
 ghost use Rattle.bus_shared.specs.Registers as registers;

@@ -1,4 +1,5 @@
-//! The Z80's bus request and reset, and its RAM, which the board has while the bus is granted.
+//! The Z80's bus request and reset, and its RAM, which the board has while the bus is granted. Source:
+//! Genesis Technical Overview, the Z80's bus request and reset.
 ghost use Rattle.std.specs.Prelude.{◌≡◌, ◌≤◌};
 ghost use Rattle.bus_shared.specs.Accesses as accesses;
 ghost use Rattle.bus_shared.specs.Lines as lines;

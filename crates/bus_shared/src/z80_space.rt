@@ -1,4 +1,5 @@
-//! The Z80's space, as the 68000 reaches it while the bus is granted, and the sound chips in it.
+//! The Z80's space, as the 68000 reaches it while the bus is granted, and the sound chips in it. Source:
+//! Genesis Technical Overview, the Z80's area.
 ghost use Rattle.std.specs.Prelude.{◌≡◌, ◌^◌, ◌<◌, ◌≤◌};
 ghost use Rattle.bus_shared.specs.Accesses as accesses;
 ghost use Rattle.bus_shared.specs.Fm as fm;

@@ -169,9 +169,9 @@ impl ChipVdp {
         self.next += LINE;
     }
 
-    /// The latest frame that was finished and not dropped: 224 rows, on PAL 240, of 320 dots of red,
-    /// green and blue. Lines that are drawn later do not change it.
-    /// `None`: no frame is kept.
+    /// The latest frame that was finished and not dropped: 224 scanlines, on PAL 240, of 320
+    /// dots of red, green and blue, a byte each. Lines that are drawn later do not change it. `None`: no frame
+    /// is kept.
     pub fn frame(&self) -> Option<&[u8]>
         ensures { option_copied result ≡ self.now.frame }
     {

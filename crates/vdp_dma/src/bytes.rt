@@ -142,7 +142,7 @@ fn make_due(state: &mut VdpState, cycle: u64)
     }
 }
 
-/// Writes the bytes of a fill or copy that are stamped below a cycle. To settle at an earlier cycle
+/// Writes the bytes of a fill or copy that are stamped below a master cycle. To settle at an earlier cycle
 /// before changes nothing, and where bytes are left, the next one is not due.
 ///
 /// It takes the time of the bytes that it writes, and of one test where there is none.

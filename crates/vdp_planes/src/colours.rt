@@ -5,7 +5,7 @@ ghost use Rattle.vdp_planes.specs.Mixing.{IsSeen, ShadedColour, at_shade, entry_
 use crate::register::MODE_4;
 use crate::view::Scene;
 
-/// How bright a colour is shown.
+/// How bright a colour is shown. Source: Genesis Technical Overview, shadow and highlight.
 #[derive(Clone, Copy)]
 pub enum Shade {
     Shadow,
@@ -13,7 +13,7 @@ pub enum Shade {
     Highlight,
 }
 
-/// The three bytes of a dot of the picture.
+/// The three bytes of a dot of the picture, in this order.
 #[derive(Clone, Copy)]
 pub struct Rgb {
     pub red: u8,

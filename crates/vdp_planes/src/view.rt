@@ -9,6 +9,7 @@ use vdp_ports::VdpState;
 
 /// What a line of a picture is drawn from: the registers and memories of the VDP at the line's event,
 /// and the height of its display. The region is that of the picture. It takes 64 KiB: keep it in a box.
+/// Source: Genesis Technical Overview, the VDP.
 #[derive(Drop)]
 pub struct LineView {
     pub registers: [u8; 24],
@@ -165,7 +166,7 @@ impl<'a> Scene<'a> {
     }
 }
 
-/// What the sprites of a line have set.
+/// What the sprites of a line have set in the status. Source: Genesis Technical Overview, the VDP's status.
 #[derive(Clone, Copy, PartialEq, Eq, Debug)]
 pub struct SpriteNote {
     /// More sprites or pixels than a line shows.

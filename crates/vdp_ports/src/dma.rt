@@ -16,7 +16,8 @@ pub const FILL_STEP: u64 = 17;
 /// Master cycles from one byte of a copy to the next.
 pub const COPY_STEP: u64 = 34;
 
-/// What is left of a fill or copy; all is 0 where neither is in progress.
+/// What is left of a fill or copy; all is 0 where neither is in progress. Source: Genesis Technical Overview,
+/// DMA; the times of the bytes are this project's profile.
 #[derive(Clone, Copy)]
 pub struct Rest {
     /// What is in progress: `NO_DMA`, `FILL` or `COPY`.

@@ -12,7 +12,7 @@ use vdp_ports::register::{LINE_INTERVAL, MODE_2};
 /// The event of the line that begins at a master cycle. That of line 0 first latches, on PAL, whether the
 /// display is tall. It counts down to the horizontal interrupt, and on the line after the display
 /// raises the vertical one and asks for the Z80's during the line. It does not touch the sprites'
-/// overflow and collision.
+/// overflow and collision. Source: Genesis Technical Overview, interrupts.
 #[tactic(auto, unfolding(crate::specs::Lines::line_started))]
 pub fn start_line(state: &mut VdpState, cycle: u64)
     requires { cycle ≤ 2 ^ 50 }
