@@ -1,5 +1,5 @@
 //! The ports of the sound chips, and the lines and the pads, read from a saved state.
-ghost use Rattle.std.specs.Prelude.{◌≡◌, ◌^◌, ◌≤◌, ℕ, length, drop, take, IfOk, IsErrOf, Ok, Err};
+ghost use Rattle.std.specs.Prelude.{◌≡◌, ◌^◌, ◌≤◌, ℕ, length, drop, take, IfOk, IsErrOf};
 ghost use Rattle.fm_port.specs.PortSpelling as fm_spelling;
 ghost use Rattle.md_fields.specs.Items.{IsRight, Keeps};
 ghost use Rattle.psg_sound.specs.PortSpelling as psg_spelling;
