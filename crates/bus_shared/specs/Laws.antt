@@ -17,8 +17,8 @@ use Rattle.bus_shared.specs.declared.request.Request.{Request}
 abbrev pub looked_at : Board → Board → Board
 looked_at board other = record board { vdp = other.vdp; fm = record board.fm { timers = other.fm.timers } }
 
--- the 68000 changes neither the recording, the buttons nor the region, nothing but the VDP and the FM chip's timers
--- where it reads, and nothing at all where it reads beside the VDP's ports and the Z80's space
+-- the 68000 changes neither the recording, the buttons nor the region; where it reads it changes nothing but the
+-- VDP and the FM chip's timers. A read beside the VDP's ports and the Z80's space changes nothing at all
 pub record MainLeaves (board : Board) (key : Key) : Type 0 where
   pub recording : (request : Request68) → (main_board board key request).recording ≡ board.recording
   pub pads : (request : Request68) → (main_board board key request).pads ≡ board.pads

@@ -68,8 +68,8 @@ pub record IsCounted (at : ℕ) (port : Port) : Type 0 where
   pub none : port.count ≡ 0 → port.fall ≡ 0
   pub some : port.count ≢ 0 → port.fall < at
 
--- a board may be kept at a cycle: the VDP, the timers and the writes that the ports of the sound chips hold
--- have their rules, no more resets were written than cycles went by, a pad has at most twelve buttons, and
+-- a board may be kept at a cycle. The VDP, the timers and the writes that the ports of the sound chips hold
+-- have their rules. No more resets were written than cycles went by, a pad has at most twelve buttons, and
 -- the falls of TH that it counted were before
 pub record IsReady (at : ℕ) (board : Board) : Type 0 where
   pub vdp : HasRules at board.vdp

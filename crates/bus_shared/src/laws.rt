@@ -12,9 +12,9 @@ ghost use Rattle.vdp_planes.specs.declared.view.SpriteNote.{SpriteNote};
 ghost use Rattle.vdp_ports.specs.Vdp.{Vdp};
 ghost use Rattle.z80_parcel.specs.Requests.{RequestValue80};
 
-/// What an access of each chip leaves as it was: the 68000's the recording and the buttons, and all
-/// but the VDP and the FM chip's timers where it reads; the Z80's these, the pads' latches, its own
-/// lines and the VDP; a line's all but the buttons and the VDP; a batch's all but the writes that the
+/// What an access of each chip leaves as it was. The 68000 leaves the recording and the buttons, and where
+/// it reads all but the VDP and the FM chip's timers. The Z80 leaves these, the pads' latches, its own lines
+/// and the VDP. A line leaves all but the buttons and the VDP. A batch leaves all but the writes that the
 /// port of its chip holds.
 #[tactic(auto, using(crate::proofs::Touches::left_by_main, crate::proofs::Touches::left_by_sub, crate::proofs::Touches::left_by_line, crate::proofs::Touches::left_by_batch, crate::proofs::Touches::left_by_fm_batch))]
 pub fn each_chip_touches_its_part()

@@ -1,6 +1,6 @@
-//! What the chips share: the pads and their recording, the version register, the VDP, the ports of the
-//! PSG and of the FM chip, the Z80's bus request and reset and its RAM while the bus is granted, with
-//! each shared access and the pins that it leaves.
+//! What the chips share, with each shared access and the pins that it leaves. It has the pads and their
+//! recording, the version register, the VDP, the ports of the PSG and of the FM chip, the Z80's bus request
+//! and reset, and its RAM while the bus is granted.
 #![tactic(auto)]
 
 mod accesses;
