@@ -7,7 +7,7 @@ use psg_sound::{PsgList, PsgWrite};
 use row_lines::{Answer, RowError, arguments};
 use std::alloc::{AllocError, Global};
 
-/// Tells a write's cycle, chip, port, register and value.
+/// Answers a write's cycle, chip, port, register and value.
 fn tell_fm(write: &FmWrite, answer: &mut Answer) -> Result<(), RowError> {
     answer.say_number(write.key.cycle)?;
     answer.say_number(u64::from(write.key.chip))?;
@@ -16,7 +16,7 @@ fn tell_fm(write: &FmWrite, answer: &mut Answer) -> Result<(), RowError> {
     answer.say_bytes(&[write.value])
 }
 
-/// Tells a write's cycle and value.
+/// Answers a write's cycle and value.
 fn tell_psg(write: &PsgWrite, answer: &mut Answer) -> Result<(), RowError> {
     answer.say_number(write.key.cycle)?;
     answer.say_bytes(&[write.value])
@@ -31,7 +31,7 @@ fn psg_list(alloc: Global) -> Result<Box<PsgList>, AllocError> {
 }
 
 impl Board {
-    /// Hands a batch of the FM chip at a cycle its writes, and tells their number and each of them.
+    /// Hands a batch of the FM chip at a cycle its writes, and answers their number and each of them.
     pub(crate) fn take_fm(
         &mut self,
         alloc: Global,

@@ -6,7 +6,7 @@ use std::alloc::{AllocError, Global};
 use std::sync::Arc;
 use vdp_ahead::Sheet;
 
-/// The board of a row, the entry of its last access, the Z80's RAM and a sheet of lines that are not on the board, and
+/// The board of a row, the entry of its last access, the Z80's RAM and a line buffer that are not on the board, and
 /// bytes.
 #[derive(Drop)]
 pub(crate) struct Board {
@@ -68,7 +68,7 @@ impl Board {
         })
     }
 
-    /// Begins anew with a board of a region and a recording; bytes stay.
+    /// Begins again with a board of a region and a recording; bytes stay.
     fn restart(&mut self, alloc: Global, pal: bool, text: &str) -> Result<(), RowError> {
         self.parcel = None;
         self.sheet = None;

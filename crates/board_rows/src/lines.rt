@@ -38,7 +38,7 @@ fn key_of(cycle: u32) -> Key
 }
 
 impl Board {
-    /// Starts the line of a cycle behind one whose sprites have set overflow or collision, and tells the kind of its
+    /// Starts the line of a cycle after one whose sprites have set overflow or collision, and answers the kind of its
     /// entry, its number and the interrupt level.
     pub(crate) fn start(&mut self, rest: &str, answer: &mut Answer) -> Result<(), RowError> {
         let [cycle, overflow, collision, _] = arguments(rest, "dbb")?;
@@ -52,7 +52,7 @@ impl Board {
         answer.say_number(u64::from(self.entry.value))
     }
 
-    /// Starts a line and takes the interrupt of its level: tells the line's number and the level, as the entry has them,
+    /// Starts a line and takes the interrupt of its level: answers the line's number and the level, as the entry has them,
     /// the level of the pins, and that after the interrupt is taken.
     fn take_interrupt(&mut self, cycle: u32, answer: &mut Answer) -> Result<(), RowError> {
         let entry = start_line(&mut self.shared, key_of(cycle), NONE_SET);
@@ -77,7 +77,7 @@ impl Board {
         Ok(())
     }
 
-    /// Starts a line with a view of bytes and words of 7, and tells of what it is then a byte of video memory, register
+    /// Starts a line with a view of bytes and words of 7, and answers of what it is then a byte of video memory, register
     /// 1, colour 1 and vertical scroll 1.
     pub(crate) fn tell_view(
         &mut self,

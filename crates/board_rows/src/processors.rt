@@ -48,7 +48,7 @@ fn request_of(text: &str) -> Result<Request68, RowError> {
     }
 }
 
-/// Tells what the 68000 is answered: the value, a transfer that starts, and the cycles to its next word.
+/// Writes what the 68000 is answered: the value, a transfer that starts, and the cycles to its next word.
 fn tell(told: &Answer68, answer: &mut Answer) -> Result<(), RowError> {
     answer.say_word(u32::from(told.value))?;
     if let Some(transfer) = told.transfer {
@@ -62,7 +62,7 @@ fn tell(told: &Answer68, answer: &mut Answer) -> Result<(), RowError> {
     Ok(())
 }
 
-/// A cycle, and what stands behind it.
+/// A cycle, and what follows it.
 fn cycle_of(rest: &str) -> Result<(u32, &str), RowError> {
     let Some((cycle, behind)) = rest.split_once(' ') else {
         return Err(RowError::NoSuchLine);
@@ -82,7 +82,7 @@ impl Board {
         told.main()
     }
 
-    /// Carries out accesses of the 68000 at a cycle, and tells what the last is answered.
+    /// Carries out accesses of the 68000 at a cycle, and writes what the last is answered.
     pub(crate) fn access_all(&mut self, rest: &str, answer: &mut Answer) -> Result<(), RowError> {
         let (cycle, accesses) = cycle_of(rest)?;
         for text in accesses.split_whitespace() {
@@ -130,7 +130,7 @@ impl Board {
         Ok(Request80::Write(word(address)?, byte(value)?))
     }
 
-    /// Carries out an access of the Z80, and tells what it is answered: a value, `done`, or `back` with its RAM.
+    /// Carries out an access of the Z80, and writes what it is answered: a value, `done`, or `back` with its RAM.
     pub(crate) fn access_by_z80(
         &mut self,
         alloc: Global,

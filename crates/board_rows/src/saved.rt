@@ -1,4 +1,4 @@
-// The bytes of saved states that keep the board, and sheets of lines that are drawn ahead.
+// The bytes of saved states that keep the board, and buffers of pre-rendered lines.
 use crate::board::{Board, empty};
 use bus_shared::Shared;
 use md_word::Unspell;
@@ -28,7 +28,7 @@ impl Board {
         }
     }
 
-    /// Puts the bytes of a state at a cycle that keep the board in place of the bytes.
+    /// Replaces the bytes by those of a state at a cycle that keep the board.
     fn save(&mut self, alloc: Global, rest: &str) -> Result<(), RowError> {
         let at = arguments(rest, "d")?[0];
         let mut bytes = Vec::with_capacity(alloc, LONG)?;
@@ -37,8 +37,8 @@ impl Board {
         Ok(())
     }
 
-    /// Takes the board that the bytes keep in a state at a cycle: tells the place at which they are refused, if they
-    /// are.
+    /// Takes the board that the bytes keep in a state at a cycle: answers the offset at which they are invalid, if
+    /// they are.
     fn load(&mut self, alloc: Global, rest: &str, answer: &mut Answer) -> Result<(), RowError> {
         let at = self.buffer.cycle_of(alloc, rest)?;
         let pal = self.shared.pal();
@@ -53,7 +53,7 @@ impl Board {
         }
     }
 
-    /// Begins a sheet of the lines from one on and below another, and lays it on the board.
+    /// Begins a buffer of the lines from one on and below another, and gives it to the board.
     fn begin_sheet(&mut self, alloc: Global, rest: &str) -> Result<(), RowError> {
         let [from, until, _, _] = arguments(rest, "dd")?;
         if from > 240 {
@@ -65,14 +65,14 @@ impl Board {
         Ok(())
     }
 
-    /// Takes the sheet off the board, and tells whether one lay there.
+    /// Takes the buffer off the board, and answers whether there was one.
     fn lift(&mut self, rest: &str, answer: &mut Answer) -> Result<(), RowError> {
         arguments(rest, "")?;
         self.sheet = self.shared.take_sheet();
         answer.say_bit(self.sheet.is_some())
     }
 
-    /// Lays the sheet on the board again.
+    /// Gives the buffer to the board again.
     fn lay(&mut self, rest: &str) -> Result<(), RowError> {
         arguments(rest, "")?;
         match self.sheet.take() {
@@ -84,7 +84,7 @@ impl Board {
         }
     }
 
-    /// Whether the sheet on the board is of use.
+    /// Whether the buffer on the board is of use.
     fn tell_used(&self, rest: &str, answer: &mut Answer) -> Result<(), RowError> {
         arguments(rest, "")?;
         answer.say_bit(self.shared.sheet().is_some())

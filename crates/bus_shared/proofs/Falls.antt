@@ -1,4 +1,4 @@
--- The falls of TH that the pads counted are before a cycle, and stay so behind each access of the 68000 before
+-- The falls of TH that the pads counted are before a cycle, and stay so after each access of the 68000 before
 -- it.
 use Rattle.std.proofs.Common.{ℕ, ◌+◌, ◌/◌, ◌%◌, ◌==◌, ◌<◌, Bool, true, false, not, ◌&&◌, Option, Some, None, if◌then◌else◌, arith}
 use Rattle.md_word.specs.Map.{area_of}

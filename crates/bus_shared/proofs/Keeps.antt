@@ -302,7 +302,7 @@ status-below true timers cycle =
     omega (arith, flag (shown cycle (timers.control / 4 % 2 == 1) timers.a), flag (shown cycle (timers.control / 8 % 2 == 1) timers.b))
 status-below false timers cycle = lit< tt
 
--- what it is told fits
+-- what it is answered fits
 pub sub-fits : (board : Board) (key : Key) (request : RequestValue80) → HandsOver request → IsBoard board → Fits request (sub_access board key request).answer
 unfolding sub_access
 sub-fits board key (ReadByte at) hands ok = status-below (is_fm at) (both_settled key.cycle board.fm.timers) key.cycle

@@ -22,7 +22,7 @@ pub same_bytes : (at other : ℕ) (n : SavedLines) → spelling (lines_fields at
 unfolding spelling
 same_bytes at other n = refl
 
--- the numbers that stand in bytes are the only ones
+-- bytes have one list of numbers only
 pub only_one : (at : ℕ) (bytes : List ℕ) (s t : SavedLines) → Stand 0 (lines_fields at s) bytes → Stand 0 (lines_fields at t) bytes → s ≡ t
 unfolding Stand
 only_one at bytes s t p0 q0 =

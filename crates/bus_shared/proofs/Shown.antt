@@ -1,4 +1,4 @@
--- What a picture is drawn from of the VDP stays where no fill or copy goes on.
+-- What a picture is drawn from of the VDP stays where no fill or copy is in progress.
 use Rattle.std.proofs.Common.{◌≡◌, ◌∙◌, refl, ap, sym, ℕ, ◌==◌, nat_lt, Bool, true, false, if◌then◌else◌, Option, Some, None}
 use Rattle.vdp_ports.specs.Vdp.{Vdp}
 use Rattle.vdp_ports.specs.Control.{acknowledged, status_read}
@@ -57,7 +57,7 @@ pub line_shown : (cycle : ℕ) (note : SpriteNote) (pal : Bool) (s : Vdp) → s.
 unfolding line_begun
 line_shown cycle note pal s none later = rw (still cycle s none) (started-shown cycle pal (joined note s) later)
 
--- a sheet fits on where what is seen stays
+-- a buffer continues to fit where what is seen stays
 pub fits_on : (fits on : Bool) (sheet : Option SheetValue) (v w : Vdp) → (on ≡ true → fits ≡ true) → (on ≡ true → (pal : Bool) → view_of pal w ≡ view_of pal v)
     → Fits fits sheet v → Fits on sheet w
 fits_on fits on None v w keeps same h = λ yes. tt

@@ -108,7 +108,7 @@ cut_is at pal bytes board p =
     ∙ cut_of (store_bytes board.store) (vdp_spelling.vdp_bytes board.vdp) (fm_spelling.port_bytes board.fm) (psg_spelling.port_bytes board.psg) (lines_bytes (lines_of board))
     (vdp_long at pal _ board.vdp p.vdp) (fm_long at _ board.fm p.fm) (psg_long at _ board.psg p.psg) (lines_long at _ (lines_of board) p.lines)
 
--- parts one behind the other are the bytes
+-- parts one after the other are the bytes
 pub joined_again : (bytes : List ℕ) → (cut bytes).store ++ ((cut bytes).vdp ++ ((cut bytes).fm ++ ((cut bytes).psg ++ (cut bytes).lines))) ≡ bytes
 joined_again bytes =
     let n = store_length bytes in
@@ -172,7 +172,7 @@ right_nowhere at pal bytes board p place (inl w) = w.0 (spelled_length at pal by
 right_nowhere at pal bytes board p place (inr w) =
     none_here at pal (store_length bytes) bytes board place p (subst (λ (parts : Parts). PartsGoWrongAt at pal (store_length bytes) parts place) (cut_is at pal bytes board p) w.1)
 
--- ---- there is one place of a refusal
+-- ---- there is one offset of a refusal
 
 from_once : (start : ℕ) (Wrong Behind : ℕ → Type 0) → ((a b : ℕ) → Wrong a → Wrong b → a ≡ b) → ((a b : ℕ) → Behind a → Behind b → a ≡ b)
     → (p q : ℕ) → GoesWrongFrom start Wrong Behind p → GoesWrongFrom start Wrong Behind q → p ≡ q
@@ -254,7 +254,7 @@ spelled_once at pal bytes s t p q recording =
       vdp = vdp i;
     }
 
--- ---- places are near
+-- ---- offsets are near
 
 pub vdp_near : (at : ℕ) (pal : Bool) (bytes : List ℕ) (place : ℕ) → vdp_spelling.GoesWrongAt at pal bytes place → place ≤ 65813
 vdp_near at pal bytes place wrong = refused_within (vdp_fields at pal) bytes 65813 (vdp_laws.fields_size at pal) place wrong
@@ -262,7 +262,7 @@ vdp_near at pal bytes place wrong = refused_within (vdp_fields at pal) bytes 658
 pub psg_near : (at : ℕ) (bytes : List ℕ) (place : ℕ) → psg_spelling.PortGoesWrongAt at bytes place → place ≤ 10242
 psg_near at bytes place wrong = refused_within (psg_spelling.port_fields at) bytes 10242 (psg_laws.port_size at) place wrong
 
--- ---- what stands in the bytes
+-- ---- what the bytes hold
 
 pub lines_back : (recording : Recorded) (store : Option Store) (vdp : Vdp) (fm : fm_ports.Port) (psg : List PsgWrite) (n : SavedLines) → lines_laws.Flags n
     → lines_of (board_from recording store vdp fm psg n) ≡ n
@@ -325,12 +325,12 @@ no_memory_not place e = absurd cc
 pub place_is : (p q : ℕ) → Rule p ≡ Rule q → p ≡ q
 place_is p q e = cc
 
--- a refusal behind a start is one of what stands there
+-- a refusal after a start is one of what is there
 pub behind_rule : (start : ℕ) (fault : Unspell) (place : ℕ) → behind start fault ≡ Rule place → (p : ℕ) × (fault ≡ Rule p) × (place ≡ start + p)
 behind_rule start (Rule q) place e = (q, refl, sym (place_is (start + q) place e))
 behind_rule start NoMemory place e = absurd (no_memory_not place e)
 
--- the ports in the bytes behind the VDP's
+-- the ports in the bytes after the VDP's
 abbrev pub PortsIn : ℕ → List ℕ → ℕ → Type 0
 PortsIn at bytes = PortsGoWrongAt at 0 (take 12316 bytes) (take 10242 (drop 12316 bytes)) (drop 10242 (drop 12316 bytes))
 
@@ -394,7 +394,7 @@ ports_near at fm psg lines place (inr (no_fm, inl w)) = omega (arith, w.2, psg_n
 ports_near at fm psg lines place (inr (no_fm, inr (no_psg, inl w))) = omega (arith, w.2, refused_within (lines_fields at) lines 36 (lines_laws.lines_size at) w.0 w.1)
 ports_near at fm psg lines place (inr (no_fm, inr (no_psg, inr w))) = absurd w.1
 
--- ---- a refusal that is no want of memory
+-- ---- a refusal that is not out of memory
 
 pub fault_only : (at : ℕ) (pal : Bool) (bytes : List ℕ) (board : Board) → Spells at pal bytes board → (fault : Unspell)
     → ((place : ℕ) → fault ≡ Rule place → GoesWrongAt at pal bytes place) → (fault ≡ NoMemory → ⊥) → ⊥

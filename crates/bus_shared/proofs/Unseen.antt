@@ -1,4 +1,4 @@
--- A fill or copy that was settled earlier is seen by nobody.
+-- No access observes that a fill or copy was settled earlier.
 use Rattle.std.proofs.Common.{◌≡◌, ◌∙◌, refl, sym, ap, ℕ, zero, suc, ◌/◌, ◌%◌, ◌≤◌, ◌==◌, nat_lt, Bool, true, false, if◌then◌else◌, List, length, slice_index, inl, inr, arith}
 use Rattle.std.proofs.lemmas.Bool.{cases_lt}
 use Rattle.vdp_ports.specs.Vdp.{Vdp}
@@ -38,7 +38,7 @@ Kept = List ℕ × Marks
 abbrev kept_of : Vdp → Kept
 kept_of s = (s.registers, marks_of s)
 
-same-if : {A : Type 0} (f : Vdp → A) (b : Bool) (s t : Vdp) (x : A) → f s ≡ x → f t ≡ x → f (if b then s else t) ≡ x
+pub same-if : {A : Type 0} (f : Vdp → A) (b : Bool) (s t : Vdp) (x : A) → f s ≡ x → f t ≡ x → f (if b then s else t) ≡ x
 same-if f true s t x h k = h
 same-if f false s t x h k = k
 

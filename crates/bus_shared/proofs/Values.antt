@@ -128,7 +128,7 @@ transfer-ok board key (Write16 address value) ok = area-transfer (area_of addres
 transfer-ok board key (Ack level) ok = tt
 transfer-ok board key (Word value) ok = tt
 
--- what the 68000 is told
+-- what the 68000 is answered
 pub tells : (board : Board) (key : Key) → IsBoard board → TellsMain board key
 unfolding main_value main_cost
 tells board key ok = record {

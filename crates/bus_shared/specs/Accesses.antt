@@ -46,7 +46,7 @@ main_transfer board key (Write8 address value) = transfer_at (area_of address) b
 main_transfer board key (Write16 address value) = transfer_at (area_of address) board key address value
 main_transfer board key request = None
 
--- the cycles until the next word of a transfer, told to a word of one
+-- the cycles until the next word of a transfer, answered to a word of one
 unfoldable pub main_cost : Board → Key → Request68 → ℕ
 main_cost board key (Word value) = word_cost key.cycle board.vdp
 main_cost board key request = 0
@@ -69,7 +69,7 @@ main_board board key (Write16 address value) = word_written_at (area_of address)
 main_board board key (Ack level) = video_acknowledged board level
 main_board board key (Word value) = word_taken board key value
 
--- an access of the Z80: what it is told, its entry, and the board after it
+-- an access of the Z80: what it is answered, its entry, and the board after it
 pub record SubOutcome : Type 0 where
   pub answer : AnswerValue80
   pub entry : Entry
@@ -105,7 +105,7 @@ sub_access board key (WriteByte at value) = record {
 sub_access board key (HandOver store) = yielded board.request board key store
 sub_access board key TakeBack = taken_back board.request board.store board key
 
--- at the start of the line behind the picture the pads take the recording's words of the frame
+-- at the start of the line after the picture the pads take the recording's words of the frame
 unfoldable pub pads_board : Board → ℕ → Board
 pads_board board cycle =
     let pal = board.vdp.pal in
@@ -123,7 +123,7 @@ line_board board cycle note = pads_board (video_started board cycle note) cycle
 unfoldable pub psg_board : Board → ℕ → Board
 psg_board board cycle = record board { psg = left_from cycle board.psg }
 
--- an answer, without where its list lies in memory
+-- an answer, without where its list is in memory
 pub data AnswerValue : Type 0 where
   Main : Answer68 → AnswerValue
   Sub : AnswerValue80 → AnswerValue
@@ -139,7 +139,7 @@ answer_value_of (answers.Line view) = Line view.value
 answer_value_of (answers.Fm list) = Fm list.value.items
 answer_value_of (answers.Psg list) = Psg list.value.items
 
--- what an access comes to: the answer, the entry in the journal, and the board after it
+-- the outcome of an access: the answer, the entry in the journal, and the board after it
 pub record AccessOutcome : Type 0 where
   pub answer : AnswerValue
   pub entry : Entry

@@ -19,7 +19,7 @@ byte_in BusRequest board key address = if address % 2 == 0 then request_bit boar
 byte_in Z80Reset board key address = 0
 byte_in VideoPorts board key address = half_at address (port_word (port_at address) key.cycle board.vdp)
 
--- a word, area by area: a register's byte stands in both halves, and so does that of the Z80's space
+-- a word, area by area: a register's byte is in both halves, and so does that of the Z80's space
 -- at the even address
 unfoldable pub word_in : Area → Board → Key → ℕ → ℕ
 word_in Z80Space board key address = space_byte (granted board.request board.store) board key.cycle (z80_address address) * 0x101

@@ -1,4 +1,4 @@
--- How the journal tells an access. This project's profile.
+-- How the journal reports an access. This project's profile.
 use Rattle.std.specs.Prelude.{ℕ, ◌/◌, ◌%◌, ◌^◌, Bool}
 use Rattle.md_word.specs.Clock.{batch}
 use Rattle.md_word.specs.declared.event.Entry.{Entry}
@@ -8,7 +8,7 @@ use Rattle.md_word.specs.declared.main_bus.Request68.TheVariants.{Read8, Read16,
 use Rattle.vdp_time.specs.Lines.{line_of}
 
 -- an access of the 68000 that gave this value, with the VDP's address before it, at which the word of
--- a transfer is told
+-- a transfer is reported
 abbrev pub main_entry : Key → Request68 → ℕ → ℕ → Entry
 main_entry key (Read8 address) given a = record { key = key; kind = 0; address = address; value = given }
 main_entry key (Read16 address) given a = record { key = key; kind = 1; address = address; value = given }
@@ -17,7 +17,7 @@ main_entry key (Write16 address value) given a = record { key = key; kind = 3; a
 main_entry key (Ack level) given a = record { key = key; kind = 4; address = 0; value = level }
 main_entry key (Word value) given a = record { key = key; kind = 5; address = a; value = value }
 
--- an access of the Z80: 6 reads and 7 writes a byte, and 8 and 9 tell a yield and a take, with 1 where
+-- an access of the Z80: 6 reads and 7 writes a byte, and 8 and 9 are a yield and a take, with 1 where
 -- the RAM moved
 abbrev pub sub_entry : Key → ℕ → ℕ → ℕ → Entry
 sub_entry key kind address value = record { key = key; kind = kind; address = address; value = value }

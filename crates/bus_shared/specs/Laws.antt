@@ -17,8 +17,8 @@ use Rattle.bus_shared.specs.declared.request.Request.{Request}
 abbrev pub looked_at : Board → Board → Board
 looked_at board other = record board { vdp = other.vdp; fm = record board.fm { timers = other.fm.timers } }
 
--- the 68000 changes neither the recording, the buttons nor the region, nothing but the VDP and the FM chip's timers
--- where it reads, and nothing at all where it reads beside the VDP's ports and the Z80's space
+-- the 68000 changes neither the recording, the buttons nor the region; where it reads it changes nothing but the
+-- VDP and the FM chip's timers. A read beside the VDP's ports and the Z80's space changes nothing at all
 pub record MainLeaves (board : Board) (key : Key) : Type 0 where
   pub recording : (request : Request68) → (main_board board key request).recording ≡ board.recording
   pub pads : (request : Request68) → (main_board board key request).pads ≡ board.pads
@@ -89,7 +89,7 @@ pub record IsTransfer (transfer : Transfer) : Type 0 where
   pub on_bus : transfer.source < 2 ^ 24
   pub cost : IsWordCost transfer.cost
 
--- what the 68000 is told: a byte, a word, a transfer, and what a word of one costs
+-- what the 68000 is answered: a byte, a word, a transfer, and what a word of one costs
 pub record TellsMain (board : Board) (key : Key) : Type 0 where
   pub byte : (address : ℕ) → main_value board key (Read8 address) < 0x100
   pub word : (address : ℕ) → main_value board key (Read16 address) < 0x1_0000

@@ -14,7 +14,7 @@ request_bit board = if is_some (granted board.request board.store) then 0 else 1
 abbrev pub requested : Board → ℕ → Board
 requested board bit = record board { request = bit == 1 }
 
--- a count that stands still at its greatest value
+-- a count that stops at its greatest value
 abbrev pub counted : ℕ → ℕ
 counted n = if n == 2 ^ 64 - 1 then n else n + 1
 

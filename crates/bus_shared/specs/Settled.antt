@@ -1,4 +1,4 @@
--- That a fill or copy which was settled earlier, as in a state that is saved, is seen by nobody.
+-- That no access observes that a fill or copy was settled earlier, as in a state that is saved.
 use Rattle.std.specs.Prelude.{◌≡◌, ℕ}
 use Rattle.vdp_ports.specs.Vdp.{Vdp}
 use Rattle.vdp_ports.specs.Control.{acknowledged}
@@ -9,7 +9,7 @@ use Rattle.vdp_planes.specs.declared.view.SpriteNote.{SpriteNote}
 use Rattle.bus_shared.specs.Video.{line_begun, port_read, port_transfer, port_word, port_written, word_cost}
 use Rattle.bus_shared.specs.declared.port.VideoPort.{VideoPort}
 
--- each access at a cycle tells the same, and leaves the same VDP at that cycle
+-- each access at a cycle answers the same, and leaves the same VDP at that cycle
 pub record SeesNoSettling (earlier cycle : ℕ) (vdp : Vdp) : Type 0 where
   pub word : (port : VideoPort) → port_word port cycle (settled earlier vdp) ≡ port_word port cycle vdp
   pub transfer : (port : VideoPort) (word : ℕ) → port_transfer port cycle word (settled earlier vdp) ≡ port_transfer port cycle word vdp

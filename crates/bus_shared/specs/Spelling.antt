@@ -23,7 +23,7 @@ use Rattle.bus_shared.specs.Board.{Board}
 use Rattle.bus_shared.specs.Saved.{lines_fields, lines_of}
 use Rattle.bus_shared.specs.declared.saved_lines.SavedLines.{SavedLines}
 
--- the board with the bytes of fill and copy, and the overflows of the timers, made that stand below a
+-- the board with the bytes of fill and copy, and the overflows of the timers, made that are below a
 -- cycle, as it is kept
 abbrev pub settled_board : ℕ → Board → Board
 settled_board at board = record board { vdp = settled at board.vdp; fm = fm_spelling.settled_port at board.fm }
@@ -68,8 +68,8 @@ pub record IsCounted (at : ℕ) (port : Port) : Type 0 where
   pub none : port.count ≡ 0 → port.fall ≡ 0
   pub some : port.count ≢ 0 → port.fall < at
 
--- a board may be kept at a cycle: the VDP, the timers and the writes that the ports of the sound chips hold
--- have their rules, no more resets were written than cycles went by, a pad has at most twelve buttons, and
+-- a board may be kept at a cycle. The VDP, the timers and the writes that the ports of the sound chips hold
+-- have their rules. No more resets were written than cycles went by, a pad has at most twelve buttons, and
 -- the falls of TH that it counted were before
 pub record IsReady (at : ℕ) (board : Board) : Type 0 where
   pub vdp : HasRules at board.vdp
@@ -107,7 +107,7 @@ cut bytes =
       lines = drop 10242 (drop 12316 (drop 65813 behind));
     }
 
--- the place of a refusal in what stands behind a start
+-- the offset of a refusal in what follows a start
 abbrev pub behind : ℕ → Unspell → Unspell
 behind start (Rule place) = Rule (start + place)
 behind start NoMemory = NoMemory
@@ -116,16 +116,16 @@ behind start NoMemory = NoMemory
 abbrev pub StoreGoesWrongAt : List ℕ → ℕ → Type 0
 StoreGoesWrongAt bytes place = (0 < length bytes) × (512 ≤ number_at w16 8192 bytes) × (place ≡ 8192)
 
--- bytes that keep no lines and pads are refused at this place
+-- bytes that keep no lines and pads are invalid at this offset
 abbrev pub LinesGoWrongAt : ℕ → List ℕ → ℕ → Type 0
 LinesGoWrongAt at bytes place = IsRefused 36 (lines_fields at) bytes place
 
--- a part that begins at a place goes wrong, or it goes wrong nowhere and what stands behind it does
+-- a part that begins at a place is invalid, or it is invalid nowhere and what follows it is
 abbrev pub GoesWrongFrom : ℕ → (ℕ → Type 0) → (ℕ → Type 0) → ℕ → Type 0
 GoesWrongFrom start Wrong Behind place =
     ((p : ℕ) × Wrong p × (place ≡ start + p)) ⊎ (((p : ℕ) → Wrong p → ⊥) × Behind place)
 
--- the first of the two ports and the lines, which begin at a place, that goes wrong does so there
+-- the offset of the first of the two ports and the lines, which begin at a place, that is invalid
 abbrev pub PortsGoWrongAt : ℕ → ℕ → List ℕ → List ℕ → List ℕ → ℕ → Type 0
 PortsGoWrongAt at start fm psg lines =
     GoesWrongFrom start (fm_spelling.PortGoesWrongAt at fm)
@@ -143,8 +143,8 @@ PartsGoWrongAt at pal start parts =
 abbrev pub IsLength : List ℕ → Type 0
 IsLength bytes = (length bytes ≡ 88407) ⊎ (length bytes ≡ 96601)
 
--- bytes of a state at a cycle and of a region that keep no board are refused at this place: by their
--- length, at the lesser one, or by the first part that goes wrong
+-- bytes of a state at a cycle and of a region that keep no board are invalid at this offset: by their
+-- length, at the lesser one, or by the first part that is invalid
 abbrev pub GoesWrongAt : ℕ → Bool → List ℕ → ℕ → Type 0
 GoesWrongAt at pal bytes place =
     ((IsLength bytes → ⊥) × (place ≡ min (length bytes) 96601))

@@ -79,7 +79,7 @@ port_transfer port cycle word vdp = None
 abbrev pub half_at : ℕ → ℕ → ℕ
 half_at address word = if address % 2 == 0 then word / 0x100 else word % 0x100
 
--- a byte that is written stands in both halves
+-- a byte that is written is in both halves
 abbrev pub both_halves : ℕ → ℕ
 both_halves value = value * 0x101
 
@@ -114,7 +114,7 @@ joined note vdp = record vdp { overflow = vdp.overflow || note.overflow; collisi
 unfoldable pub line_begun : ℕ → SpriteNote → Vdp → Vdp
 line_begun cycle note vdp = line_started cycle (joined note (settled cycle vdp))
 
--- what the line at a cycle is drawn from, for a picture of the view's region; behind the picture a view
+-- what the line at a cycle is drawn from, for a picture of the view's region; after the picture a view
 -- stays as it was
 unfoldable pub line_view : ℕ → Vdp → LineView → LineView
 line_view cycle vdp view = if nat_lt (line_of cycle view.pal) (rows view.pal) then view_of view.pal vdp else view

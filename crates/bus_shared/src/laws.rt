@@ -1,4 +1,4 @@
-//! Laws of the board, as calls that do nothing and stand for what they ensure.
+//! Laws of the board, each the contract of a call that does nothing.
 
 ghost use Rattle.std.specs.Prelude.{ℕ, ◌≤◌};
 ghost use Rattle.md_word.specs.declared.key.Key.{Key};
@@ -12,9 +12,9 @@ ghost use Rattle.vdp_planes.specs.declared.view.SpriteNote.{SpriteNote};
 ghost use Rattle.vdp_ports.specs.Vdp.{Vdp};
 ghost use Rattle.z80_parcel.specs.Requests.{RequestValue80};
 
-/// What an access of each chip leaves as it was: the 68000's the recording and the buttons, and all
-/// but the VDP and the FM chip's timers where it reads; the Z80's these, the pads' latches, its own
-/// lines and the VDP; a line's all but the buttons and the VDP; a batch's all but the writes that the
+/// What an access of each chip leaves as it was. The 68000 leaves the recording and the buttons, and where
+/// it reads all but the VDP and the FM chip's timers. The Z80 leaves these, the pads' latches, its own lines
+/// and the VDP. A line leaves all but the buttons and the VDP. A batch leaves all but the writes that the
 /// port of its chip holds.
 #[tactic(auto, using(crate::proofs::Touches::left_by_main, crate::proofs::Touches::left_by_sub, crate::proofs::Touches::left_by_line, crate::proofs::Touches::left_by_batch, crate::proofs::Touches::left_by_fm_batch))]
 pub fn each_chip_touches_its_part()
@@ -33,8 +33,8 @@ pub fn pins_have_two_writers()
     ensures fm_batch { (board : Board) (cycle : ℕ) → LeavesPins board (fm_board board cycle) }
 {}
 
-/// What a board tells the 68000: a byte, a word, a transfer of 1 to 65,536 words at an even address
-/// below 2^24, and what a word of one costs, 34 or 380 cycles.
+/// What a board answers the 68000: a byte, a word, a transfer of 1 to 65,536 words at an even address
+/// below 2^24, and what a word of one costs, 34 or 380 master cycles.
 #[tactic(auto, using(crate::proofs::Values::tells))]
 pub fn answers_have_their_ranges()
     ensures { (board : Board) (key : Key) → IsBoard board → TellsMain board key }
@@ -46,7 +46,7 @@ pub fn boards_stay()
     ensures { (board : Board) (key : Key) → IsBoard board → StaysBoard board key }
 {}
 
-/// That a fill or copy was settled to an earlier cycle is seen by no access: each tells the same, and
+/// No access observes whether a fill or copy was settled to an earlier cycle: each answers the same, and
 /// leaves the same VDP once that is settled to the access's cycle.
 pub fn settling_is_unseen()
     ensures { (earlier : ℕ) (cycle : ℕ) (vdp : Vdp) → earlier ≤ cycle → SeesNoSettling earlier cycle vdp }

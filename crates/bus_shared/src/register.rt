@@ -1,7 +1,7 @@
 ghost use Rattle.std.specs.Prelude.{◌≡◌};
 ghost use Rattle.bus_shared.specs.Registers as registers;
 
-/// A register of the input/output area, A10000h to A1001Fh. Each stands at an odd address, and the
+/// A register of the input/output area, A10000h to A1001Fh. Each is at an odd address, and the
 /// even address before it acts as the same. Source: Genesis Technical Overview, the I/O area.
 #[derive(Clone, Copy, PartialEq, Eq, Debug)]
 pub enum Register {
@@ -11,7 +11,7 @@ pub enum Register {
     Data1,
     /// The data of pad 2's port, A10005h.
     Data2,
-    /// The data of the expansion port, A10007h, at which nothing hangs.
+    /// The data of the expansion port, A10007h, to which nothing is connected.
     DataExpansion,
     /// The control of pad 1's port, A10009h.
     Control1,

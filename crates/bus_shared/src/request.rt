@@ -19,7 +19,7 @@ pub enum Request {
     Main(Request68),
     /// Of the Z80, chip 1.
     Sub(Request80),
-    /// The start of a line, by the drawing half of the VDP, chip 2: the view that is to be filled, and what
+    /// The start of a line, by the VDP renderer, chip 2: the view that is to be filled, and what
     /// the sprites of the line before have set.
     Line(Box<LineView>, SpriteNote),
     /// A batch of the FM synthesis, chip 3: the list into which the writes for it are moved.
@@ -44,7 +44,7 @@ pub enum Answer {
 }
 
 impl Answer {
-    /// What it answers to the 68000, if it does.
+    /// What it answers to the 68000. `None`: it answers another chip.
     pub fn main(self) -> Option<Answer68>
         ensures { (answer : MainAnswer) → answer_value_of self ≡ accesses.Main answer → result ≡ Some answer }
     {
@@ -54,7 +54,7 @@ impl Answer {
         }
     }
 
-    /// What it answers to the Z80, if it does.
+    /// What it answers to the Z80. `None`: it answers another chip.
     pub fn sub(self) -> Option<Answer80>
         ensures { (answer : AnswerValue80) → answer_value_of self ≡ accesses.Sub answer → option_map answer_value80_of result ≡ Some answer }
     {
@@ -64,7 +64,7 @@ impl Answer {
         }
     }
 
-    /// The view that it hands to the drawing half of the VDP, if it does.
+    /// The view that it hands to the VDP renderer. `None`: it answers another chip.
     pub fn line_view(self) -> Option<Box<LineView>>
         ensures { (view : View) → answer_value_of self ≡ accesses.Line view → option_map (λ held. held.value) result ≡ Some view }
     {
@@ -74,7 +74,7 @@ impl Answer {
         }
     }
 
-    /// The writes that it hands to the FM synthesis, if it does.
+    /// The writes that it hands to the FM synthesis. `None`: it answers another chip.
     pub fn fm_list(self) -> Option<Box<FmList>>
         ensures { (writes : List WriteFm) → answer_value_of self ≡ accesses.Fm writes → option_map (λ list. list.value.items) result ≡ Some writes }
     {
@@ -84,7 +84,7 @@ impl Answer {
         }
     }
 
-    /// The writes that it hands to the PSG synthesis, if it does.
+    /// The writes that it hands to the PSG synthesis. `None`: it answers another chip.
     pub fn psg_list(self) -> Option<Box<PsgList>>
         ensures { (writes : List Write) → answer_value_of self ≡ accesses.Psg writes → option_map (λ list. list.value.items) result ≡ Some writes }
     {

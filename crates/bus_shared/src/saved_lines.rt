@@ -39,7 +39,7 @@ pub struct SavedLines {
 }
 
 impl SavedLines {
-    /// The numbers that stand in the bytes.
+    /// The numbers in the bytes.
     #[tactic(auto, unfolding(md_fields::specs::Places::Stand))]
     fn read(bytes: &[u8]) -> SavedLines
         requires { length bytes.now ≡ 36 }
@@ -85,7 +85,8 @@ impl SavedLines {
         ]
     }
 
-    /// The numbers that the bytes keep, where the rules hold of them; else the place of the refusal.
+    /// The numbers that the bytes keep, where the rules hold of them. The error is the offset of the first
+    /// field whose rule fails, or the lesser of the number of bytes and 36 where it is not 36.
     pub fn checked(bytes: &[u8], at: u64) -> Result<SavedLines, usize>
         ensures found { IfOk result (λ lines. Keeps (lines_fields at) bytes.now lines × IsRight (lines_fields at) lines) }
         ensures refused { IfErr result (λ place. LinesGoWrongAt at bytes.now place) }

@@ -1,16 +1,14 @@
-ghost use Rattle.std.specs.Prelude.{◌≡◌, ◌≢◌, ◌⊎◌, ◌^◌, ◌+◌, ◌≤◌, ◌++◌, ℕ, length, drop, take, is_some, map, option_map, vec_len, vec_capacity, IfOk, IfSome, IsErrOf, Ok, Err, Some};
-ghost use Rattle.fm_port.specs.PortSpelling as fm_spelling;
+ghost use Rattle.std.specs.Prelude.{◌≡◌, ◌≢◌, ◌⊎◌, ◌^◌, ◌+◌, ◌≤◌, ◌++◌, ℕ, length, is_some, option_map, vec_len, vec_capacity, IfOk, IfSome, IsErrOf, Ok, Err, Some};
 ghost use Rattle.md_word.specs.Coding.{flag_number};
-ghost use Rattle.md_fields.specs.Items.{IsRight, Keeps};
-ghost use Rattle.psg_sound.specs.PortSpelling as psg_spelling;
 ghost use Rattle.z80_parcel.specs.Parcels.{IsStore, store_of};
 ghost use Rattle.psg_sound.specs.Port.{IsPort};
 ghost use Rattle.bus_shared.specs.Board.{AreBytes, Board, IsFewFm};
-ghost use Rattle.bus_shared.specs.Saved.{AreFalls, board_from, lines_fields, lines_of};
+ghost use Rattle.bus_shared.specs.Saved.{AreFalls, board_from, lines_of};
 ghost use Rattle.std.specs.Arc.{arc_value};
-ghost use Rattle.bus_shared.specs.Spelling.{GoesWrongAt, IsReady, PortsGoWrongAt, Spells, StoreGoesWrongAt, behind as place_behind, board_bytes, board_size, lines_bytes, settled_board, store_bytes};
+ghost use Rattle.bus_shared.specs.Spelling.{GoesWrongAt, IsReady, Spells, StoreGoesWrongAt, board_bytes, board_size, settled_board, store_bytes};
 
 use crate::saved_lines::SavedLines;
+use crate::saved_ports::{Ports, behind, ports_in};
 use crate::shared::Shared;
 use fm_port::FmPort;
 use md_fields::{put, u16_at};
@@ -28,23 +26,11 @@ const SHORT: usize = 88_407;
 
 const LONG: usize = 96_601;
 
-/// Where the bank register stands behind the RAM.
+/// Where the bank register is, after the RAM.
 const BANK: usize = 8_192;
 
-/// How many bytes keep the VDP, the FM chip's port and the PSG's.
+/// How many bytes keep the VDP.
 const VDP: usize = 65_813;
-
-const FM: usize = 12_316;
-
-const PSG: usize = 10_242;
-
-/// The ports of the sound chips, and the lines and the pads.
-#[derive(Drop)]
-struct Ports {
-    fm: Box<FmPort>,
-    psg: Box<PsgPort>,
-    lines: SavedLines,
-}
 
 impl Shared {
     /// Whether the board has the Z80's RAM.
@@ -54,10 +40,10 @@ impl Shared {
         self.parcel.is_some()
     }
 
-    /// Appends the bytes of a saved state at a cycle that keep this board, as it is once fill, copy and
-    /// timers are settled to the cycle: 88,407, and 8,194 more in front where the board has the Z80's
-    /// RAM. There is room for them. They are read again where the rules of the parts hold. The board stays
-    /// as it is.
+    /// Appends the bytes of a saved state at a master cycle that keep this board, as it is once fill, copy
+    /// and timers are settled to the cycle. They are 88,407, and 8,194 more before them where the board has
+    /// the Z80's RAM. There is room for them. They are read again where the rules of the parts hold. The
+    /// board does not change.
     pub fn spell(&self, at: u64, into: &mut Vec<u8>)
         requires cycle { at ≤ 2 ^ 50 }
         requires room { vec_len into.old + board_size (is_some self.now.store) ≤ vec_capacity into.old }
@@ -73,7 +59,7 @@ impl Shared {
         put(&self.saved_lines().fields(at), into);
     }
 
-    /// Tells that the bytes of this board, settled to a cycle of at most 2^50, are read again where the rules
+    /// States that the bytes of this board, settled to a cycle of at most 2^50, are read again where the rules
     /// of the parts hold.
     pub fn is_read_again(&self, at: u64)
         requires { at ≤ 2 ^ 50 }
@@ -106,10 +92,12 @@ impl Shared {
         }
     }
 
-    /// The board that the bytes of a saved state at a cycle, of at most 2^50, and of a region keep, over a
-    /// recording.
-    /// Bytes that are neither 88,407 nor 96,601 are refused at the lesser of their number and 96,601,
-    /// others at the place of the first field whose rule fails. Memories are copied.
+    /// The board that the bytes of a saved state at a master cycle, of at most 2^50, and of a region keep,
+    /// over a recording. Memories are copied.
+    ///
+    /// `Rule` has the offset of the first invalid byte: where there are neither 88,407 nor 96,601 bytes, the
+    /// lesser of their number and 96,601; else where the first field begins whose rule fails. The only other
+    /// error is out of memory.
     pub fn unspell(
         alloc: Global,
         bytes: &[u8],
@@ -139,7 +127,7 @@ fn flag_byte(flag: bool) -> u8
     u8::from(flag)
 }
 
-/// The board that the bytes keep.
+/// The board that the bytes keep, with the errors of [`Shared::unspell`].
 fn read(
     alloc: Global,
     bytes: &[u8],
@@ -174,7 +162,7 @@ fn read(
     Ok(board_of(alloc, recording, parcel, vdp, fm, psg, lines)?)
 }
 
-/// The board of these parts.
+/// The board of these parts. The only error is out of memory.
 fn board_of(
     alloc: Global,
     recording: Arc<Recording>,
@@ -208,28 +196,14 @@ fn board_of(
     })
 }
 
-/// Tells that bytes are below 256.
+/// States that bytes are below 256.
 fn are_bytes(bytes: &[u8])
     ensures { AreBytes bytes.now }
 {
     let _bytes = bytes;
 }
 
-/// The place of a refusal in what stands behind a start.
-fn behind(start: u64, fault: Unspell) -> Unspell
-    requires start { start ≤ 2 ^ 32 }
-    requires near { (place : ℕ) → fault ≡ Unspell.Rule place → place ≤ 2 ^ 32 }
-    ensures { result ≡ place_behind start fault }
-{
-    match fault {
-        Unspell::Rule { place } => Unspell::Rule {
-            place: start + place,
-        },
-        Unspell::NoMemory => Unspell::NoMemory,
-    }
-}
-
-/// RAM and bank register, where they are there.
+/// RAM and bank register, `None` where there are no bytes of them. The errors are those of `held_in`.
 fn parcel_in(alloc: Global, store: &[u8]) -> Result<Option<Parcel>, Unspell>
     requires { (length store.now ≡ 0) ⊎ (length store.now ≡ 8194) }
     ensures found { IfOk result (λ parcel. (store.now ≡ store_bytes (option_map store_of parcel)) × IfSome (option_map store_of parcel) IsStore) }
@@ -245,7 +219,8 @@ fn parcel_in(alloc: Global, store: &[u8]) -> Result<Option<Parcel>, Unspell>
     }
 }
 
-/// RAM and bank register that 8,194 bytes keep.
+/// RAM and bank register that 8,194 bytes keep. `Rule`: the bank register has more than 9 bits. The only
+/// other error is out of memory.
 fn held_in(alloc: Global, store: &[u8]) -> Result<Parcel, Unspell>
     requires { length store.now ≡ 8194 }
     ensures found { IfOk result (λ parcel. (store.now ≡ store_bytes (Some (store_of parcel))) × IsStore (store_of parcel)) }
@@ -258,90 +233,4 @@ fn held_in(alloc: Global, store: &[u8]) -> Result<Parcel, Unspell>
     }
     let (ram, _) = store.split_at(BANK);
     Ok(parcel_of(alloc, ram, bank)?)
-}
-
-/// The FM chip's port that bytes keep, made in its place.
-fn fm_in(alloc: Global, bytes: &[u8], at: u64) -> Result<Box<FmPort>, Unspell>
-    requires { at ≤ 2 ^ 50 }
-    ensures found { IfOk result (λ port. fm_spelling.SpellsPort at bytes.now port.value) }
-    ensures few { IfOk result (λ port. IsFewFm port.value.writes) }
-    ensures right { IfOk result (λ port. (place : ℕ) → fm_spelling.PortGoesWrongAt at bytes.now place → ⊥) }
-    ensures rule { (place : ℕ) → IsErrOf result (Unspell.Rule place) → fm_spelling.PortGoesWrongAt at bytes.now place }
-{
-    match Box::new(alloc, FmPort::power_on()) {
-        Ok(port) => restored_fm(port, bytes, at),
-        Err(_) => Err(Unspell::NoMemory),
-    }
-}
-
-/// A port that is made the one that bytes keep.
-fn restored_fm(port: Box<FmPort>, bytes: &[u8], at: u64) -> Result<Box<FmPort>, Unspell>
-    requires { at ≤ 2 ^ 50 }
-    ensures found { IfOk result (λ port. fm_spelling.SpellsPort at bytes.now port.value) }
-    ensures few { IfOk result (λ port. IsFewFm port.value.writes) }
-    ensures right { IfOk result (λ port. (place : ℕ) → fm_spelling.PortGoesWrongAt at bytes.now place → ⊥) }
-    ensures rule { (place : ℕ) → IsErrOf result (Unspell.Rule place) → fm_spelling.PortGoesWrongAt at bytes.now place }
-{
-    let mut port = port;
-    match port.restore(bytes, at) {
-        Ok(()) => Ok(port),
-        Err(fault) => Err(fault),
-    }
-}
-
-/// The PSG's port that bytes keep, made in its place.
-fn psg_in(alloc: Global, bytes: &[u8], at: u64) -> Result<Box<PsgPort>, Unspell>
-    ensures found { IfOk result (λ port. psg_spelling.SpellsPort at bytes.now port.value) }
-    ensures port { IfOk result (λ port. IsPort port.value) }
-    ensures right { IfOk result (λ port. (place : ℕ) → psg_spelling.PortGoesWrongAt at bytes.now place → ⊥) }
-    ensures rule { (place : ℕ) → IsErrOf result (Unspell.Rule place) → psg_spelling.PortGoesWrongAt at bytes.now place }
-{
-    match Box::new(alloc, PsgPort::power_on()) {
-        Ok(port) => restored(port, bytes, at),
-        Err(_) => Err(Unspell::NoMemory),
-    }
-}
-
-/// A port that is made the one that bytes keep.
-fn restored(port: Box<PsgPort>, bytes: &[u8], at: u64) -> Result<Box<PsgPort>, Unspell>
-    ensures found { IfOk result (λ port. psg_spelling.SpellsPort at bytes.now port.value) }
-    ensures port { IfOk result (λ port. IsPort port.value) }
-    ensures right { IfOk result (λ port. (place : ℕ) → psg_spelling.PortGoesWrongAt at bytes.now place → ⊥) }
-    ensures rule { (place : ℕ) → IsErrOf result (Unspell.Rule place) → psg_spelling.PortGoesWrongAt at bytes.now place }
-{
-    let mut port = port;
-    match port.restore(bytes, at) {
-        Ok(()) => Ok(port),
-        Err(fault) => Err(fault),
-    }
-}
-
-/// The ports, and the lines and the pads, that 22,594 bytes keep.
-fn ports_in(alloc: Global, bytes: &[u8], at: u64) -> Result<Ports, Unspell>
-    requires cycle { at ≤ 2 ^ 50 }
-    requires length { length bytes.now ≡ 22594 }
-    ensures fm { IfOk result (λ ports. fm_spelling.SpellsPort at (take 12316 bytes.now) ports.fm.value) }
-    ensures psg { IfOk result (λ ports. psg_spelling.SpellsPort at (take 10242 (drop 12316 bytes.now)) ports.psg.value) }
-    ensures few { IfOk result (λ ports. IsFewFm ports.fm.value.writes) }
-    ensures port { IfOk result (λ ports. IsPort ports.psg.value) }
-    ensures lines { IfOk result (λ ports. Keeps (lines_fields at) (drop 10242 (drop 12316 bytes.now)) ports.lines × IsRight (lines_fields at) ports.lines) }
-    ensures rule { (place : ℕ) → IsErrOf result (Unspell.Rule place)
-        → PortsGoWrongAt at 0 (take 12316 bytes.now) (take 10242 (drop 12316 bytes.now)) (drop 10242 (drop 12316 bytes.now)) place }
-{
-    let (fm, rest) = bytes.split_at(FM);
-    let fm = match fm_in(alloc, fm, at) {
-        Ok(fm) => fm,
-        Err(fault) => return Err(fault),
-    };
-    let (psg, rest) = rest.split_at(PSG);
-    let psg = match psg_in(alloc, psg, at) {
-        Ok(psg) => psg,
-        Err(fault) => return Err(behind(FM as u64, fault)),
-    };
-    match SavedLines::checked(rest, at) {
-        Ok(lines) => Ok(Ports { fm, psg, lines }),
-        Err(place) => Err(Unspell::Rule {
-            place: (FM + PSG + place) as u64,
-        }),
-    }
 }

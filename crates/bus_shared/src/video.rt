@@ -26,7 +26,7 @@ const DRAWN_COST: u16 = 380;
 /// The master cycles of a transferred word while nothing is drawn.
 const UNDRAWN_COST: u16 = 34;
 
-/// The VDP at power-on, of a region.
+/// The VDP at power-on, of a region. The only error is out of memory.
 pub(crate) fn power_on(alloc: Global, pal: bool) -> Result<Box<VdpState>, NoMemory>
     ensures value { IfOk result (λ vdp. vdp.value ≡ at_power_on pal) }
     ensures bytes { IfOk result (λ vdp. AreBytes vdp.value.registers) }
@@ -50,7 +50,7 @@ fn is_wide(vdp: &VdpState) -> bool
     vdp.registers[MODE_4] % 2 == 1
 }
 
-/// The master cycles to the next word of a transfer, as an access at a cycle tells them.
+/// The master cycles to the next word of a transfer, as an access at a master cycle answers them.
 #[tactic(auto, unfolding(crate::specs::Video::word_cost))]
 fn word_cost(vdp: &VdpState, cycle: u64) -> u16
     ensures { result ≡ video.word_cost cycle vdp.now }
@@ -107,7 +107,7 @@ fn write_data(vdp: &mut VdpState, cycle: u64, word: u16)
 }
 
 /// Writes a word to the control port at a cycle, to which fill and copy are settled first: the
-/// transfer that it starts.
+/// transfer that it starts, `None` where it starts none.
 fn write_control(vdp: &mut VdpState, cycle: u64, word: u16) -> Option<Transfer>
     requires { cycle ≤ 2 ^ 50 }
     ensures after { vdp.new ≡ controlled cycle word (settled cycle vdp.old) }
@@ -125,7 +125,7 @@ fn write_control(vdp: &mut VdpState, cycle: u64, word: u16) -> Option<Transfer>
     }
 }
 
-/// Writes a word to a port at a cycle: the transfer that it starts.
+/// Writes a word to a port at a cycle: the transfer that it starts, `None` where it starts none.
 #[tactic(auto, using(crate::proofs::Ports::data_written_bytes, crate::proofs::Ports::control_written_bytes), unfolding(crate::specs::Video::port_written, crate::specs::Video::port_transfer))]
 pub(crate) fn write_port(
     port: VideoPort,

@@ -14,7 +14,7 @@ use Rattle.vdp_sprites.specs.Sprites.{sprite_dot}
 use Rattle.vdp_chip.specs.Drawing.{Drawing, IsDrawing, answered, line_drawn, picture_after}
 use Rattle.vdp_chip.specs.Picture.{cleared, drawn, finished, row_of}
 use Rattle.vdp_chip.proofs.Lined.{drawing_drawn}
-use Rattle.vdp_ahead.specs.Lines.{note_on, sprites_on}
+use Rattle.vdp_sprites.specs.Lines.{note_on, sprites_on}
 use Rattle.vdp_ahead.proofs.Drawn.{row_drawn}
 use Rattle.bus_shared.specs.Video.{line_view}
 use Rattle.md_machine.specs.Parts.{IsDraw}

@@ -4,7 +4,7 @@ use Rattle.std.specs.Prelude.{ℕ, nat_lt, Bool, true, false, if◌then◌else�
 use Rattle.md_word.specs.Region.{rows}
 use Rattle.vdp_time.specs.Lines.{line_of}
 use Rattle.vdp_planes.specs.declared.view.LineView.{LineView}
-use Rattle.vdp_ahead.specs.Lines.{note_on, sprites_on}
+use Rattle.vdp_sprites.specs.Lines.{note_on, sprites_on}
 use Rattle.vdp_chip.specs.Drawing.{Drawing, line_drawn}
 
 -- the event of the next line, drawn from a view

@@ -1,4 +1,4 @@
--- A row that is drawn from the dots of the sprites, by their places.
+-- A scanline that is drawn from the dots of the sprites, by their places.
 use Rattle.std.specs.Prelude.{◌≡◌, ℕ, ◌<◌, nat_lt, true, List}
 use Rattle.std.proofs.Common.{sym, ◌∙◌, arith, inl, inr}
 use Rattle.std.proofs.lemmas.Bool.{cases_Bool, ltb-false, ltb-true}
@@ -9,14 +9,15 @@ use Rattle.vdp_planes.specs.View.{clear, display_height, dot_at}
 use Rattle.vdp_sprites.specs.Sprites.{sprite_dot}
 use Rattle.vdp_chip.specs.Picture.{row_of}
 use Rattle.vdp_chip.proofs.Rows.{row_hidden, row_same}
-use Rattle.vdp_ahead.specs.Lines.{row_on, sprites_on}
+use Rattle.vdp_sprites.specs.Lines.{sprites_on}
+use Rattle.vdp_ahead.specs.Lines.{row_on}
 
 -- the dots of the sprites, by their places
 sprites-at : (view : LineView) (y x : ℕ) → nat_lt y (display_height view) ≡ true → x < 320 → dot_at (sprites_on y view) x ≡ sprite_dot view y x
 unfolding sprites_on
 sprites-at view y x below within = rw below (get_or-map-range_with_len (sprite_dot view y) 0 320 x x clear within (omega arith))
 
--- a row that is drawn from these dots
+-- a scanline that is drawn from these dots
 pub row_drawn : (view : LineView) (s : List Dot) (y : ℕ) → (y < display_height view → (x : ℕ) → x < 320 → dot_at s x ≡ sprite_dot view y x)
     → row_of view s y ≡ row_on y view
 row_drawn view s y dots = elim (cases_Bool (nat_lt y (display_height view))) [

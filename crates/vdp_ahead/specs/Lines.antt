@@ -1,23 +1,9 @@
 -- A line of the picture with its sprites. Genesis Technical Overview, the display and sprites.
-use Rattle.std.specs.Prelude.{ℕ, nat_lt, false, if◌then◌else◌, List, [], map}
-use Rattle.std.specs.List.{range_with_len}
-use Rattle.vdp_planes.specs.Dots.{Dot}
-use Rattle.vdp_planes.specs.View.{display_height}
+use Rattle.std.specs.Prelude.{ℕ, List}
 use Rattle.vdp_planes.specs.declared.view.LineView.{LineView}
-use Rattle.vdp_planes.specs.declared.view.SpriteNote.{SpriteNote}
-use Rattle.vdp_sprites.specs.Sprites.{collides, overflow, parts, sprite_dot}
+use Rattle.vdp_sprites.specs.Lines.{sprites_on}
 use Rattle.vdp_chip.specs.Picture.{row_of}
 
--- the dots of the sprites of a line; behind the lines of the display none are drawn
-unfoldable pub sprites_on : ℕ → LineView → List Dot
-sprites_on y view = if nat_lt y (display_height view) then map (sprite_dot view y) (range_with_len 0 320) else []
-
--- what they set
-unfoldable pub note_on : ℕ → LineView → SpriteNote
-note_on y view =
-    if nat_lt y (display_height view) then record { overflow = overflow view y; collision = collides view y (parts view y) }
-    else record { overflow = false; collision = false }
-
--- the row of the picture
+-- the scanline of the picture
 abbrev pub row_on : ℕ → LineView → List ℕ
 row_on y view = row_of view (sprites_on y view) y

@@ -1,7 +1,7 @@
-//! Lines of the picture that are drawn ahead of their events: a sheet of them with the view that they are
-//! drawn from, and the tray on which two such sheets go to the one who draws and come back.
+//! Scanlines that are rendered ahead of their events: a buffer of them with the view that they are drawn
+//! from, and the double buffer by which two such buffers reach the worker that renders them, and return.
 //!
-//! A line that was drawn ahead is the line where the VDP is still what the sheet's view shows of it; else it is
+//! A line that was rendered ahead is the line where the VDP is still as the buffer's view shows it; else it is
 //! of no use, and nothing is lost.
 #![tactic(auto)]
 
@@ -10,7 +10,6 @@ mod place;
 mod sheet;
 mod tray;
 
-pub use line::draw_line_sprites;
 pub use place::Place;
 pub use sheet::Sheet;
 pub use tray::Tray;

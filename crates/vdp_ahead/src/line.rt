@@ -1,32 +1,13 @@
-ghost use Rattle.std.specs.Prelude.{◌≡◌, ℕ, ◌<◌, length};
-ghost use Rattle.vdp_planes.specs.View.{AllColours, display_height, dot_at, seen};
-ghost use Rattle.vdp_sprites.specs.Sprites.{sprite_dot};
+ghost use Rattle.std.specs.Prelude.{◌≡◌, ◌<◌, length};
+ghost use Rattle.vdp_sprites.specs.Lines.{note_on};
 ghost use Rattle.vdp_chip.specs.Picture.{row_length};
-ghost use Rattle.vdp_ahead.specs.Lines.{note_on, row_on};
+ghost use Rattle.vdp_ahead.specs.Lines.{row_on};
 
 use vdp_chip::{clear_dots, fill_row};
-use vdp_planes::{Dot, LineView, Scene, SpriteNote};
-use vdp_sprites::draw_sprites;
+use vdp_planes::{LineView, SpriteNote};
+use vdp_sprites::draw_line_sprites;
 
-/// Draws the sprites of a line of the display over clear dots: what they set. Behind the display nothing
-/// is drawn or set.
-#[tactic(auto, unfolding(crate::specs::Lines::note_on))]
-pub fn draw_line_sprites(scene: &Scene, line: u32, dots: &mut [Dot; 320]) -> SpriteNote
-    requires { AllColours dots.old }
-    ensures note { result ≡ note_on line (seen scene.now) }
-    ensures dots { line < display_height (seen scene.now) → (x : ℕ) → x < 320 → dot_at dots.new x ≡ sprite_dot (seen scene.now) line x }
-    ensures colours { AllColours dots.new }
-{
-    if line < scene.height() {
-        return draw_sprites(scene, line, dots);
-    }
-    SpriteNote {
-        overflow: false,
-        collision: false,
-    }
-}
-
-/// Draws a row of the picture as a view has it: what the sprites of its line set.
+/// Draws a scanline of the picture as a view has it: what the sprites of its line set.
 #[tactic(auto, using(crate::proofs::Drawn::row_drawn))]
 pub(crate) fn draw_line(view: &LineView, line: u32, row: &mut [u8]) -> SpriteNote
     requires line { line < 240 }

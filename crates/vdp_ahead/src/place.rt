@@ -2,7 +2,7 @@ use crate::Sheet;
 use std::sync::atomic::{AtomicBool, Ordering};
 use std::sync::{Mutex, Wait};
 
-/// The sheets that lie in a place.
+/// The line buffers in a slot.
 #[derive(Drop)]
 struct Laid {
     /// To be drawn.
@@ -11,20 +11,20 @@ struct Laid {
     drawn: Option<Box<Sheet>>,
 }
 
-/// A place on the tray: by way of it a sheet goes to the one who draws, and comes back.
+/// A slot of the double buffer: by it a line buffer reaches the worker that renders, and returns.
 ///
-/// The one who asks never waits: where the other has the place, it goes without.
+/// The thread that asks never waits: where the worker has the slot, it continues without the buffer.
 #[derive(Drop)]
 pub struct Place {
     laid: Mutex<Laid>,
-    /// Whether a sheet to be drawn lies here.
+    /// Whether a buffer to be drawn is here.
     asked: AtomicBool,
-    /// Whether a drawn sheet does.
+    /// Whether a drawn buffer is.
     drawn: AtomicBool,
 }
 
 impl Place {
-    /// An empty place.
+    /// An empty slot.
     pub(crate) fn new() -> Place {
         Place {
             laid: Mutex::new(Laid {
@@ -36,13 +36,13 @@ impl Place {
         }
     }
 
-    /// Whether a sheet to be drawn lies here.
+    /// Whether a buffer to be drawn is here.
     #[inline]
     pub(crate) fn is_asked(&self) -> bool {
         self.asked.load(Ordering::SeqCst)
     }
 
-    /// Lays down a sheet to be drawn. It comes back where the place cannot be had at once.
+    /// Offers a buffer to be drawn. `None`: it was taken; where the worker has the slot, it is returned.
     pub fn ask(&self, sheet: Box<Sheet>) -> Option<Box<Sheet>> {
         let Some(mut guard) = self.laid.try_lock() else {
             return Some(sheet);
@@ -53,7 +53,7 @@ impl Place {
         None
     }
 
-    /// Takes the sheet that was drawn, if one lies here and can be had at once.
+    /// Takes the buffer that was drawn. `None`: there is none, or the worker has the slot.
     pub fn take_drawn(&self) -> Option<Box<Sheet>> {
         if !self.drawn.load(Ordering::SeqCst) {
             return None;
@@ -66,7 +66,7 @@ impl Place {
         laid.drawn.take()
     }
 
-    /// Takes the sheet that is still to be drawn, if one lies here and can be had at once.
+    /// Takes the buffer that is still to be drawn. `None`: there is none, or the worker has the slot.
     fn take_back(&self) -> Option<Box<Sheet>> {
         if !self.is_asked() {
             return None;
@@ -79,7 +79,7 @@ impl Place {
         laid.asked.take()
     }
 
-    /// Takes the sheet that lies here, drawn or not, if one does and can be had at once.
+    /// Takes the buffer that is here, drawn or not. `None`: there is none, or the worker has the slot.
     pub fn take(&self) -> Option<Box<Sheet>> {
         match self.take_drawn() {
             Some(sheet) => Some(sheet),
@@ -87,7 +87,7 @@ impl Place {
         }
     }
 
-    /// Takes the sheet that is to be drawn, if one lies here.
+    /// Takes the buffer that is to be drawn, `None` where there is none. It may wait.
     fn begin<R: Wait>(&self, rt: &R) -> Option<Box<Sheet>> {
         let mut guard = self.laid.lock(rt);
         let laid = &mut *guard;
@@ -95,7 +95,7 @@ impl Place {
         laid.asked.take()
     }
 
-    /// Lays down a sheet that was drawn.
+    /// Returns a buffer that was drawn. It may wait.
     fn end<R: Wait>(&self, rt: &R, sheet: Box<Sheet>) {
         let mut guard = self.laid.lock(rt);
         let laid = &mut *guard;
@@ -103,7 +103,7 @@ impl Place {
         self.drawn.store(true, Ordering::SeqCst);
     }
 
-    /// Draws the lines of the sheet that is to be drawn, if one lies here; answers whether one did.
+    /// Draws the lines of the buffer that is to be drawn; false: there is none.
     pub(crate) fn draw<R: Wait>(&self, rt: &R) -> bool {
         if let Some(mut sheet) = self.begin(rt) {
             sheet.draw();

@@ -1,6 +1,7 @@
 ghost use Rattle.std.specs.Prelude.{◌≡◌, ℕ, ◌+◌, ◌<◌, ◌≤◌, true, length};
 ghost use Rattle.vdp_planes.specs.View.{display_height, view_of};
-ghost use Rattle.vdp_ahead.specs.Lines as lines;
+ghost use Rattle.vdp_sprites.specs.Lines.{note_on};
+ghost use Rattle.vdp_ahead.specs.Lines.{row_on};
 ghost use Rattle.vdp_ahead.specs.Sheets.{SheetValue};
 
 use crate::line::draw_line;
@@ -11,10 +12,11 @@ use vdp_chip::ROW;
 use vdp_planes::{LineView, SpriteNote, fill_view};
 use vdp_ports::VdpState;
 
-/// The rows of a picture at most.
+/// The scanlines of a picture at most.
 const ROWS: usize = 240;
 
-/// Lines of a picture from one to another, with the view that they are drawn from: some 300 KB.
+/// A line buffer: pre-rendered lines of a picture from one to another, with the view that they are drawn from,
+/// some 300 KB.
 #[derive(Drop)]
 pub struct Sheet {
     view: LineView,
@@ -36,7 +38,7 @@ impl Model for Sheet {
 }
 
 impl Sheet {
-    /// A sheet without a line.
+    /// A buffer without a line. The only error is out of memory.
     pub fn blank(alloc: Global) -> Result<Box<Sheet>, NoMemory> {
         let sheet = Sheet {
             view: LineView {
@@ -62,8 +64,8 @@ impl Sheet {
         }
     }
 
-    /// Takes the VDP's registers and memories as they stand, for the lines of a picture of a region from one
-    /// on and below another, of which none is drawn yet: a copy of 64 KiB.
+    /// Takes the VDP's registers and memories as they are, for the lines of a picture of a region from `from` on
+    /// and below `until`, of which none is drawn yet: a copy of 64 KiB.
     pub fn begin(&mut self, state: &VdpState, pal: bool, from: u32, until: u32)
         requires { from ≤ 240 }
         ensures { self.new ≡ record { view = view_of pal state.now; from = from; to = from; until = until } }
@@ -88,7 +90,7 @@ impl Sheet {
         self.to = line + 1;
     }
 
-    /// Draws the lines of the display that the sheet is for and that are not drawn.
+    /// Draws the lines of the display that the buffer is for and that are not drawn.
     pub fn draw(&mut self)
         ensures same { self.new ≡ record self.old { to = self.new.to } }
         ensures all { (y : ℕ) → y < self.old.until → y < display_height self.old.view → y < self.new.to }
@@ -99,7 +101,7 @@ impl Sheet {
         }
     }
 
-    /// Whether the VDP is what the view shows of it.
+    /// Whether the VDP is as the view shows it.
     pub fn is_of(&self, state: &VdpState) -> bool
         ensures same { result ≡ true → self.now.view ≡ view_of self.now.view.pal state.now }
         ensures found { self.now.view ≡ view_of self.now.view.pal state.now → result ≡ true }
@@ -121,11 +123,11 @@ impl Sheet {
         self.view.pal == pal && self.from <= line && line < self.to
     }
 
-    /// The row of a line.
+    /// The scanline of a line, 960 bytes of red, green and blue.
     pub fn row(&self, line: u32) -> &[u8]
         requires from { self.now.from ≤ line }
         requires to { line < self.now.to }
-        ensures { result.now ≡ lines.row_on line self.now.view }
+        ensures { result.now ≡ row_on line self.now.view }
     {
         &self.rows[line as usize]
     }
@@ -134,7 +136,7 @@ impl Sheet {
     pub fn note(&self, line: u32) -> SpriteNote
         requires from { self.now.from ≤ line }
         requires to { line < self.now.to }
-        ensures { result ≡ lines.note_on line self.now.view }
+        ensures { result ≡ note_on line self.now.view }
     {
         self.notes[line as usize]
     }

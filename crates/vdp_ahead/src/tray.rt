@@ -2,18 +2,18 @@ use crate::Place;
 use std::sync::Wait;
 use std::sync::atomic::{AtomicBool, Ordering};
 
-/// Where sheets of lines go to the one who draws, and come back: two, so that the lines of the one may be shown
-/// while those of the other are drawn.
+/// The double buffer by which line buffers reach the worker that renders, and return: the lines of the one may
+/// be shown while those of the other are drawn.
 #[derive(Drop)]
 pub struct Tray {
     first: Place,
     second: Place,
-    /// Whether anyone has looked for a sheet to draw.
+    /// Whether a worker has looked for a buffer to draw.
     watched: AtomicBool,
 }
 
 impl Tray {
-    /// An empty tray.
+    /// A double buffer without a buffer.
     pub fn new() -> Tray {
         Tray {
             first: Place::new(),
@@ -22,19 +22,19 @@ impl Tray {
         }
     }
 
-    /// The place of the sheet that is drawn first.
+    /// The slot of the buffer that is drawn first.
     #[inline]
     pub fn first(&self) -> &Place {
         &self.first
     }
 
-    /// The place of the other one.
+    /// The slot of the other one.
     #[inline]
     pub fn second(&self) -> &Place {
         &self.second
     }
 
-    /// Whether a sheet to be drawn lies here, for one who draws.
+    /// Whether a buffer to be drawn is here, as a worker asks.
     #[inline]
     pub fn look(&self) -> bool {
         if !self.is_watched() {
@@ -43,13 +43,13 @@ impl Tray {
         self.first.is_asked() || self.second.is_asked()
     }
 
-    /// Whether anyone has ever looked for a sheet to draw.
+    /// Whether a worker has ever looked for a buffer to draw.
     #[inline]
     pub fn is_watched(&self) -> bool {
         self.watched.load(Ordering::SeqCst)
     }
 
-    /// Draws the lines of the first sheet that is to be drawn, if one lies here.
+    /// Draws the lines of the first buffer that is to be drawn, if there is one. It may wait.
     pub fn draw<R: Wait>(&self, rt: &R) {
         if !self.first.draw(rt) {
             self.second.draw(rt);

@@ -1,4 +1,4 @@
--- What holds behind the event of a line.
+-- What holds after the event of a line.
 use Rattle.std.proofs.Common.{◌≡◌, ◌⊎◌, ◌∙◌, refl, ap, ℕ, ◌+◌, ◌-◌, ◌*◌, ◌/◌, ◌%◌, ◌<◌, ◌≤◌, ◌==◌, min, if◌then◌else◌, nat_lt, Bool, true, false, inl, inr, List, length, arith, IfSome, Option, rules}
 use Rattle.std.specs.Prelude.{slice_index}
 use Rattle.std.proofs.Math.Nat.{min-eq_left, min-eq_right}
@@ -116,7 +116,7 @@ after-length view s d h =
     let number = line_of d.next d.pal in
     drawn-length d.pal number (row_of view s number) (cleared number d.picture) (length-row_of view s number) (cleared-length number d.picture h.picture)
 
--- behind the row that is drawn all is 0
+-- after the scanline that is drawn all is 0
 cleared-undrawn : (d : Drawing) → IsDrawing d → (n : ℕ) → row_length * min (line_of d.next d.pal) (rows d.pal) ≤ n → n < memory_length
     → slice_index (cleared (line_of d.next d.pal) d.picture) n ≡ 0
 unfolding cleared
@@ -171,7 +171,7 @@ drawing_drawn view s note d h = record {
   undrawn = after-undrawn view s d h;
 }
 
--- lines behind the picture leave it as it is
+-- lines after the picture leave it as it is
 pub undrawn_behind : (pal : Bool) (number : ℕ) (row picture : List ℕ) → rows pal ≤ number → picture ≡ drawn pal number row (cleared number picture)
 unfolding drawn cleared
 undrawn_behind pal number row picture h =
@@ -179,7 +179,7 @@ undrawn_behind pal number row picture h =
     let some : (number == 0) ≡ false = ne_eqb number 0 (λ e. omega (arith, e, h, some-rows pal)) in
     rw (test, some) refl
 
--- the same of a picture and a frame that are those behind the event
+-- the same of a picture and a frame that are those after the event
 pub drawing_told : (pal : Bool) (view : LineView) (s : List Dot) (next number : ℕ) (was note : SpriteNote) (has_view : Bool) (old picture : List ℕ) (kept frame : Option (List ℕ))
     → IsDrawing (record { next = next; note = was; has_view = has_view; picture = old; frame = kept; pal = pal })
     → number ≡ line_of next pal → picture ≡ drawn pal number (row_of view s number) (cleared number old) → frame ≡ finished pal number picture kept

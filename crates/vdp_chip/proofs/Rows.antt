@@ -14,12 +14,6 @@ use Rattle.vdp_planes.specs.Mixing.{border_of, in_picture, line_byte, shown_at}
 use Rattle.vdp_chip.specs.Picture.{hidden, line_row, memory_length, on_row, plane_dots, row_length, row_of, with_row, without_bit_6}
 
 -- clear dots, and that they are colours
-pub clear_at : (x : ℕ) → x < 320 → dot_at (replicate 320 clear) x ≡ clear
-clear_at x below = get_or-replicate 320 x clear clear below
-
-pub clear_colours : AllColours (replicate 320 clear)
-clear_colours x below = subst (λ (dot : Dot). dot.colour < 64) (sym (clear_at x below)) (lit< tt)
-
 pub all_clear : (d : Dot) → d ≡ clear → (x : ℕ) → x < 320 → dot_at (replicate 320 d) x ≡ clear
 all_clear d e x below = get_or-replicate 320 x d clear below ∙ e
 
@@ -93,7 +87,7 @@ line_row_same view s t y same =
     ∙ same n within
     ∙ sym (get_or-map-range_with_len (line_byte view a b t) 0 960 n n 0 within (omega arith)))
 
--- behind the lines of the display no dot of the sprites is seen
+-- after the lines of the display no dot of the sprites is seen
 pub row_hidden : (view : LineView) (s t : List Dot) (y : ℕ) → display_height view ≤ y → row_of view s y ≡ row_of view t y
 unfolding row_of on_row
 row_hidden view s t y past =
@@ -151,7 +145,7 @@ length-with_row y row old h r o =
     let behind = length-drop (960 * y + 960) old in
     omega (arith, all, front, behind, o)
 
--- the rows behind it stay
+-- the scanlines after it stay
 pub with_row-behind : (y n : ℕ) (row old : List ℕ) → y < 240 → length row ≡ row_length → length old ≡ memory_length → 960 * y + 960 ≤ n
     → slice_index (with_row y row old) n ≡ slice_index old n
 unfolding with_row

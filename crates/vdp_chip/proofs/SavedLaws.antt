@@ -1,4 +1,4 @@
--- Laws of what a saved state keeps of the drawing half of the VDP.
+-- Laws of what a saved state keeps of the VDP renderer.
 use Rattle.std.proofs.Common.{◌≡◌, ℕ, zero, suc, ◌+◌, ◌-◌, ◌*◌, ◌/◌, ◌%◌, ◌<◌, ◌≤◌, ◌==◌, min, Bool, true, false, List, length, drop, get_or, slice_index, refl, sym, ap, subst, ◌∙◌, ◌^◌, arith}
 use Rattle.std.proofs.lemmas.Bool.{and_parts, eq-eqb, eqb-true, le-leb, leb-true, lt-ltb, ltb-true, and_from}
 use Rattle.std.proofs.lemmas.List.{get_or-drop, length-drop}
@@ -34,7 +34,7 @@ size_by at holds n = refl
 pub fields_size : (at : ℕ) (pal : Bool) (n : DrawingNumbers) → sizes (drawing_fields at pal n) ≡ drawing_size
 fields_size at pal n = size_by at (is_picture at pal n.picture) n
 
--- the numbers that stand in bytes are the only ones
+-- bytes have one list of numbers only
 pub only_one : (at : ℕ) (pal : Bool) (bytes : List ℕ) (s t : DrawingNumbers) → Stand 0 (drawing_fields at pal s) bytes → Stand 0 (drawing_fields at pal t) bytes → s ≡ t
 unfolding Stand
 only_one at pal bytes s t p0 q0 =

@@ -1,4 +1,4 @@
--- The drawing half of the VDP: the state between two events, and the event of a line. Genesis
+-- The VDP renderer: the state between two events, and the event of a line. Genesis
 -- Technical Overview, the display; the places of the events are this project's profile.
 use Rattle.std.specs.Prelude.{◌≡◌, ℕ, ◌+◌, ◌-◌, ◌*◌, ◌%◌, ◌<◌, ◌≤◌, ◌==◌, Bool, true, false, if◌then◌else◌, min, List, length, slice_index, Option, None, IfSome}
 use Rattle.md_word.specs.Clock.{line}
@@ -24,7 +24,7 @@ pub record Drawing : Type 0 where
   -- whether the picture is one for PAL
   pub pal : Bool
 
--- rows from this one on are not drawn: those behind the line of the last event, and behind the picture
+-- rows from this one on are not drawn: those after the line of the last event, and after the picture
 unfoldable pub undrawn_from : ℕ → Bool → ℕ
 undrawn_from next pal = if next == 0 then 0 else min (line_of (next - 1) pal + 1) (rows pal)
 
@@ -50,13 +50,13 @@ at_power_on pal = record {
 abbrev pub next_of : Drawing → Next
 next_of d = record { key = record { cycle = d.next; chip = 2 }; sample = false }
 
--- the picture behind the event of the next line
+-- the picture after the event of the next line
 unfoldable pub picture_after : LineView → List Dot → Drawing → List ℕ
 picture_after view sprites d =
     let number = line_of d.next d.pal in
     drawn d.pal number (row_of view sprites number) (cleared number d.picture)
 
--- all behind the event of the next line
+-- all after the event of the next line
 unfoldable pub line_drawn : LineView → List Dot → SpriteNote → Drawing → Drawing
 line_drawn view sprites note d = record d {
   next = d.next + line;

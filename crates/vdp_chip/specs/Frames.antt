@@ -19,12 +19,12 @@ unfoldable pub rows_from : ℕ → List Line → List ℕ
 rows_from y [] = []
 rows_from y (first ∷ rest) = row_of first.view first.sprites y ++ rows_from (y + 1) rest
 
--- behind the events of lines that follow one another
+-- after the events of lines that follow one another
 unfoldable pub after : List Line → Drawing → Drawing
 after [] d = d
 after (first ∷ rest) d = after rest (line_drawn first.view first.sprites first.note d)
 
--- from line 0 on: behind the events of the picture's lines and of the one behind it the frame is their
+-- from line 0 on: after the events of the picture's lines and of the one after it the frame is their
 -- rows, each as its own event found it
 abbrev pub IsItsRows : Drawing → Type 0
 IsItsRows d = (lines : List Line) (last : Line) → line_of d.next d.pal ≡ 0 → length lines ≡ rows d.pal

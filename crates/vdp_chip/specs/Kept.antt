@@ -1,4 +1,4 @@
--- Where the finished frame stands. This project's profile.
+-- Where the finished frame is. This project's profile.
 use Rattle.std.specs.Prelude.{◌≡◌, ℕ, ◌<◌, Bool, List, length, Option, Some, None}
 use Rattle.md_word.specs.Region.{rows}
 use Rattle.vdp_time.specs.Lines.{line_of}

@@ -33,7 +33,7 @@ without_bit_6 byte = byte / 128 * 128 + byte % 64
 unfoldable pub hidden : LineView → LineView
 hidden view = record view { registers = slice_set view.registers 1 (without_bit_6 (register view 1)) }
 
--- what a row is drawn from: behind the lines of the display that is as where it is off
+-- what a row is drawn from: after the lines of the display that is as where it is off
 unfoldable pub on_row : ℕ → LineView → LineView
 on_row y view = if nat_lt y (display_height view) then view else hidden view
 
@@ -61,6 +61,6 @@ drawn pal line row picture = if nat_lt line (rows pal) then with_row line row pi
 abbrev pub frame_of : Bool → List ℕ → List ℕ
 frame_of pal picture = take (picture_length pal) picture
 
--- the first line behind the picture finishes it
+-- the first line after the picture finishes it
 unfoldable pub finished : Bool → ℕ → List ℕ → Option (List ℕ) → Option (List ℕ)
 finished pal line picture frame = if line == rows pal then Some (frame_of pal picture) else frame

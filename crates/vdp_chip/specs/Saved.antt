@@ -1,6 +1,6 @@
--- What a saved state keeps of the drawing half of the VDP: its numbers, whatever they are, with their
+-- What a saved state keeps of the VDP renderer: its numbers, whatever they are, with their
 -- order, their sizes and their rules. What is finished is handed out before a state is kept, the view
--- is filled anew with each line, and the region stands elsewhere in the state. This project's profile.
+-- is filled again with each line, and the region is elsewhere in the state. This project's profile.
 use Rattle.std.specs.Prelude.{ℕ, ◌-◌, ◌*◌, ◌%◌, ◌==◌, ◌&&◌, Bool, true, nat_le, nat_lt, List, [], ◌∷◌, drop, None}
 use Rattle.md_fields.specs.Fields.{Field, byte, quad, block}
 use Rattle.md_fields.specs.Padding.{are_zeros}
@@ -44,7 +44,7 @@ is_first next at = (next % line == 0) && (nat_le at next && nat_lt (next - at) l
 abbrev pub is_note : DrawingNumbers → Bool
 is_note n = nat_le n.overflow 1 && nat_le n.collision 1
 
--- rows behind the line of the last cycle below `at` are not drawn
+-- scanlines after the line of the last cycle below `at` are not drawn
 abbrev pub is_picture : ℕ → Bool → List ℕ → Bool
 is_picture at pal picture = are_zeros (drop (row_length * undrawn_from at pal) picture)
 

@@ -1,4 +1,4 @@
--- The bytes of a saved state that keep the drawing half of the VDP. This project's profile.
+-- The bytes of a saved state that keep the VDP renderer. This project's profile.
 use Rattle.std.specs.Prelude.{◌≡◌, ℕ, ◌+◌, ◌<◌, ◌≤◌, Bool, true, false, None, List}
 use Rattle.md_fields.specs.Fields.{spelling}
 use Rattle.md_fields.specs.Items.{IsRefused, IsRight, Keeps}
@@ -26,7 +26,7 @@ pub record Spells (at : ℕ) (pal : Bool) (bytes : List ℕ) (d : Drawing) : Typ
   pub region : d.pal ≡ pal
   pub drained : IsDrained d
 
--- bytes of a state at a cycle and of a region that keep no chip are refused at this place: by their
+-- bytes of a state at a cycle and of a region that keep no chip are invalid at this offset: by their
 -- length, or by the first rule that fails
 abbrev pub GoesWrongAt : ℕ → Bool → List ℕ → ℕ → Type 0
 GoesWrongAt at pal bytes place = IsRefused drawing_size (drawing_fields at pal) bytes place

@@ -19,8 +19,8 @@ use vdp_time::line_of;
 /// The number of this chip.
 const DRAWING: u8 = 2;
 
-/// The drawing half of the VDP. Its events are the lines, each 3,420 master cycles behind the one
-/// before: those of lines 0 to 223, on PAL 0 to 239, draw a row of the picture, the event of the next
+/// The VDP renderer. Its events are the lines, each 3,420 master cycles after the one before: those of
+/// lines 0 to 223, on PAL 0 to 239, draw a scanline of the picture, the event of the next
 /// line finishes the frame, and the others draw nothing. Contracts see the cycle of the next event, the note
 /// of the last line's sprites, whether the view is there, the picture, the frame that is kept and the
 /// region.
@@ -52,7 +52,7 @@ impl Model for ChipVdp {
 
 impl ChipVdp {
     /// The chip at power-on, of a region: the picture is black, no frame is kept, and the event of line 0 comes at
-    /// cycle 0. It is refused where there is no memory for the picture and the view.
+    /// cycle 0. The only error is out of memory.
     pub fn power_on(alloc: Global, pal: bool) -> Result<ChipVdp, NoMemory>
         ensures { IfOk result (λ chip. chip ≡ at_power_on pal) }
     {
@@ -99,7 +99,7 @@ impl ChipVdp {
     }
 
     /// Gives the view of this region, to be filled with the VDP's registers and memories, and what the
-    /// sprites of the last line have set. What else the view holds is not told.
+    /// sprites of the last line have set. What else the view holds is left open.
     pub fn request(&mut self) -> (Box<LineView>, SpriteNote)
         requires { self.old.has_view ≡ true }
         ensures note { result.1 ≡ self.old.note }
@@ -148,7 +148,7 @@ impl ChipVdp {
         self.next += LINE;
     }
 
-    /// `draw_line` with the row of the picture as it comes to be, and what the line's sprites have set.
+    /// `draw_line` with the scanline of the picture as it results, and what the line's sprites have set.
     #[tactic(auto, unfolding(crate::specs::Drawing::line_drawn, crate::specs::Drawing::picture_after))]
     pub fn place_line(&mut self, row: &[u8], note: SpriteNote)
         requires row { (view : LineView) × (sprites : List Dot) × (row.now ≡ row_of view sprites (line_of self.old.next self.old.pal)) }
@@ -169,8 +169,9 @@ impl ChipVdp {
         self.next += LINE;
     }
 
-    /// The latest frame that was finished and not dropped: 224 rows, on PAL 240, of 320 dots of red,
-    /// green and blue. Lines that are drawn later do not change it.
+    /// The latest frame that was finished and not dropped: 224 scanlines, on PAL 240, of 320
+    /// dots of red, green and blue, a byte each. Lines that are drawn later do not change it. `None`: no frame
+    /// is kept.
     pub fn frame(&self) -> Option<&[u8]>
         ensures { option_copied result ≡ self.now.frame }
     {

@@ -10,19 +10,19 @@ use md_word::region::rows;
 use std::mem::swap;
 use vdp_planes::{Dot, Scene};
 
-/// Where the finished frame stands.
+/// Where the finished frame is.
 #[derive(Clone, Copy)]
 pub enum Kept {
     /// There is none.
     Nowhere,
     /// It is the picture, of which no further line is drawn.
     Picture,
-    /// It was put aside when the next picture began.
+    /// It was set aside when the next picture began.
     Aside,
 }
 
-/// Makes room for a row: line 0 begins a picture, and the one before is put aside where it is kept.
-/// The answer is where the frame stands then.
+/// Makes room for a scanline: line 0 begins a picture, and the one before is set aside where it is kept.
+/// The answer is where the frame is then.
 #[tactic(auto, unfolding(crate::specs::Picture::cleared))]
 fn make_room(
     pal: bool,
@@ -68,8 +68,8 @@ fn begin(line: u32, picture: &mut [u8; PICTURE])
     }
 }
 
-/// Makes the picture and the frame those behind the event of this line. The answer is where the frame
-/// stands then.
+/// Makes the picture and the frame those after the event of this line. The answer is where the frame
+/// is then.
 #[tactic(auto, unfolding(crate::specs::Picture::drawn, crate::specs::Picture::finished))]
 pub fn draw(
     pal: bool,

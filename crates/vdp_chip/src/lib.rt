@@ -1,4 +1,4 @@
-//! The drawing half of the video display processor (VDP): the picture, drawn line by line from a view
+//! The renderer of the video display processor (VDP): the picture, drawn line by line from a view
 //! of the registers and memories.
 #![tactic(auto)]
 

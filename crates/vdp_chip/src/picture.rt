@@ -47,7 +47,7 @@ pub fn clear_dots() -> [Dot; 320]
     [Dot::new(0, false); 320]
 }
 
-/// Fills a row of the picture from the two planes and the sprites' dots. Behind the lines of the display
+/// Fills a scanline of the picture from the two planes and the sprites' dots. After the lines of the display
 /// it shows the backdrop.
 #[tactic(auto, unfolding(crate::specs::Picture::row_of, crate::specs::Picture::on_row, crate::specs::Picture::hidden))]
 pub fn fill_row(scene: &Scene, line: u32, sprites: &[Dot; 320], row: &mut [u8])
@@ -94,7 +94,7 @@ fn fill_line(scene: &Scene, line: u32, sprites: &[Dot; 320], row: &mut [u8])
     mix_dots(scene, &a, &b, sprites, row);
 }
 
-/// Draws a row of the picture where it stands.
+/// Draws a scanline of the picture in its place.
 pub fn draw_row(scene: &Scene, line: u32, sprites: &[Dot; 320], picture: &mut [u8; PICTURE])
     requires line { line < 240 }
     requires colours { AllColours sprites.now }
@@ -105,7 +105,7 @@ pub fn draw_row(scene: &Scene, line: u32, sprites: &[Dot; 320], picture: &mut [u
     fill_row(scene, line, sprites, &mut picture[at..at + ROW]);
 }
 
-/// Puts a row into the picture.
+/// Writes a scanline into the picture.
 pub fn put_row(row: &[u8], line: u32, picture: &mut [u8; PICTURE])
     requires line { line < 240 }
     requires row { length row.now ≡ row_length }

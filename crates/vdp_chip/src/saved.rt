@@ -15,13 +15,13 @@ use md_word::region::rows;
 use std::marker::Model;
 use vdp_time::line_of;
 
-/// How many bytes of a saved state keep the drawing half of a VDP.
+/// How many bytes of a saved state keep a VDP renderer.
 const LENGTH: usize = 230_410;
 
-/// Where the picture stands among them.
+/// The offset of the picture among them.
 const DOTS: usize = 10;
 
-/// The numbers that a saved state keeps of the drawing half of the VDP, whatever they are, in their
+/// The numbers that a saved state keeps of the VDP renderer, whatever they are, in their
 /// order. Cycles are master cycles.
 #[derive(Drop)]
 pub struct SavedDrawing<'a> {
@@ -44,10 +44,10 @@ impl<'a> Model for SavedDrawing<'a> {
 }
 
 impl<'a> SavedDrawing<'a> {
-    /// The numbers that stand in the bytes.
+    /// The numbers in the bytes.
     #[tactic(auto, unfolding(md_fields::specs::Places::Stand))]
     fn read(bytes: &'a [u8]) -> SavedDrawing<'a>
-        requires { length bytes.now ≡ 230410 }
+        requires { length bytes.now ≡ drawing_size }
         ensures { (at : ℕ) (pal : Bool) → Stand 0 (drawing_fields at pal result) bytes.now }
     {
         SavedDrawing {
@@ -80,7 +80,8 @@ impl<'a> SavedDrawing<'a> {
         are_zeros(&self.picture[ROW * undrawn_from(at, pal) as usize..])
     }
 
-    /// The numbers that the bytes keep, where the rules hold of them; else the place of the refusal.
+    /// The numbers that the bytes keep, where the rules hold of them. The error is the offset of the first
+    /// field whose rule fails, or the lesser of the number of bytes and 230,410 where it is not 230,410.
     pub fn checked(bytes: &'a [u8], at: u64, pal: bool) -> Result<SavedDrawing<'a>, usize>
         ensures found { IfOk result (λ n. Keeps (drawing_fields at pal) bytes.now n × IsRight (drawing_fields at pal) n) }
         ensures refused { IfErr result (λ place. IsRefused drawing_size (drawing_fields at pal) bytes.now place) }

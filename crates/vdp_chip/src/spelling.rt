@@ -26,7 +26,7 @@ impl ChipVdp {
         }
     }
 
-    /// Tells what holds of every chip: its lengths and its lines, and that its cycle has eight bytes.
+    /// States what holds of every chip: its lengths and its lines, and that its cycle has eight bytes.
     fn known(&self)
         ensures drawing { IsDrawing self.now }
         ensures next { self.now.next < 2 ^ 64 }
@@ -48,7 +48,7 @@ impl ChipVdp {
         put(&self.saved().fields(at, true), into);
     }
 
-    /// Tells that the bytes of this chip are read again where its next event is the first of a line from a cycle
+    /// States that the bytes of this chip are read again where its next event is the first of a line from a cycle
     /// on, with its view here and without a frame.
     pub fn is_read_again(&self)
         ensures { (at : ℕ) → IsReady at self.now → Spells at self.now.pal (drawing_bytes self.now) (drained self.now) }
@@ -56,9 +56,12 @@ impl ChipVdp {
         self.known();
     }
 
-    /// The chip that the bytes of a saved state at a cycle and of a region keep, with its view here and
-    /// without a frame. Bytes that are not 230,410 are refused at the lesser of the two lengths, others at
-    /// the place of the first field whose rule fails. The picture is copied.
+    /// The chip that the bytes of a saved state at a master cycle and of a region keep, with its view here and
+    /// without a frame. The picture is copied.
+    ///
+    /// `Rule` has the offset of the first invalid byte: where there are not 230,410 bytes, the lesser of their
+    /// number and 230,410; else where the first field begins whose rule fails. The only other error is out of
+    /// memory.
     pub fn unspell(alloc: Global, bytes: &[u8], at: u64, pal: bool) -> Result<ChipVdp, Unspell>
         ensures found { IfOk result (λ d. Spells at pal bytes.now d) }
         ensures only { (d : Drawing) → Spells at pal bytes.now d → result ≢ Err Unspell.NoMemory → result ≡ Ok d }
@@ -74,7 +77,8 @@ impl ChipVdp {
 }
 
 impl<'a> SavedDrawing<'a> {
-    /// The chip of a region of which these numbers are kept. The picture is copied.
+    /// The chip of a region of which these numbers are kept. The picture is copied. The only error is out of
+    /// memory.
     fn chip(&self, alloc: Global, pal: bool) -> Result<ChipVdp, NoMemory>
         requires { IsDrawing (drawing_of pal self.now) }
         ensures { IfOk result (λ chip. chip ≡ drawing_of pal self.now) }

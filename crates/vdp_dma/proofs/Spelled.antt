@@ -1,4 +1,4 @@
--- VRAM among the bytes that keep a VDP: where it stands, and another memory in its place.
+-- VRAM among the bytes that keep a VDP: its offset, and another memory in its place.
 use Rattle.std.proofs.Common.{◌≡◌, ◌∙◌, ap, sym, ℕ, ◌+◌, ◌≤◌, List, ◌++◌, length, take, drop, append_assoc, take_all, arith}
 use Rattle.std.proofs.lemmas.List.{length-append, take_at, drop_at, take-append-le}
 use borrow.Rule.Slice.PartMut.{put_mid}

@@ -5,13 +5,13 @@ use Rattle.std.specs.List.{range_with_len}
 use Rattle.vdp_ports.specs.Vdp.{Vdp, register}
 use Rattle.vdp_ports.specs.Data.{other}
 
--- a byte put into VRAM at a cycle
+-- a byte written into VRAM at a cycle
 pub record StampedByte : Type 0 where
   pub stamp : ℕ
   pub address : ℕ
   pub byte : ℕ
 
--- whether it is a copy that goes on, and not a fill
+-- whether a copy is in progress, and not a fill
 abbrev pub copies : Vdp → Bool
 copies s = s.dma_kind == 2
 
@@ -71,7 +71,7 @@ advanced n vram s = if nat_lt n s.left then moved n vram s else finished vram s
 unfoldable pub vram_at : ℕ → Vdp → List ℕ
 vram_at cycle s = fold done s.vram (due cycle s)
 
--- the VDP at a cycle: the memory is that of the cycle, and what is left goes on from there
+-- the VDP at a cycle: the memory is that of the cycle, and what is left continues from there
 unfoldable pub settled : ℕ → Vdp → Vdp
 settled cycle s = if length (due cycle s) == 0 then s else advanced (length (due cycle s)) (vram_at cycle s) s
 

@@ -10,7 +10,7 @@ ghost use Rattle.vdp_dma.specs.Settling as meaning;
 use vdp_ports::register::INCREMENT;
 use vdp_ports::{COPY, COPY_STEP, FILL_STEP, NO_DMA, Rest, VdpState, other_byte};
 
-/// How many bytes of a saved state keep the registers, and how many keep VRAM behind them.
+/// How many bytes of a saved state keep the registers, and how many keep VRAM after them.
 const REGISTERS: usize = 24;
 
 const VRAM: usize = 65_536;
@@ -55,7 +55,7 @@ fn write_of(state: &VdpState, k: u32, vram: &[u8]) -> (u16, u8)
     }
 }
 
-/// Puts byte k of what is left into VRAM.
+/// Writes byte k of what is left into VRAM.
 fn put_one(state: &mut VdpState, k: u32)
     ensures { state.new ≡ record state.old { vram = meaning.done state.old.vram (meaning.write state.old k state.old.vram) } }
 {
@@ -84,7 +84,7 @@ pub fn busy(state: &VdpState, cycle: u64) -> bool
     due(state, cycle) < state.left
 }
 
-/// Puts the next bytes into VRAM.
+/// Writes the next bytes into VRAM.
 #[tactic(auto, unfolding(crate::specs::Settling::vram_after))]
 fn put_bytes(state: &mut VdpState, count: u32)
     ensures { state.new ≡ record state.old { vram = meaning.vram_after state.old count } }
@@ -94,7 +94,7 @@ fn put_bytes(state: &mut VdpState, count: u32)
     }
 }
 
-/// Counts the bytes that were put; some are left.
+/// Counts the bytes that were written; some are left.
 #[tactic(auto, unfolding(crate::specs::Settling::moved))]
 fn go_on(state: &mut VdpState, count: u32)
     requires left { count < state.old.left }
@@ -124,7 +124,7 @@ fn finish(state: &mut VdpState)
     state.next_stamp = 0;
 }
 
-/// Makes the bytes that are due. `settle` promises more of it.
+/// Writes the bytes that are due. `settle` promises more of it.
 #[tactic(auto, using(crate::proofs::Settled::settled_none, crate::proofs::Settled::settled_some, crate::proofs::Settled::settled_all))]
 fn make_due(state: &mut VdpState, cycle: u64)
     requires { cycle ≤ 2 ^ 50 }
@@ -142,10 +142,10 @@ fn make_due(state: &mut VdpState, cycle: u64)
     }
 }
 
-/// Makes the bytes of a fill or copy that are stamped below a cycle. To settle at an earlier cycle
+/// Writes the bytes of a fill or copy that are stamped below a master cycle. To settle at an earlier cycle
 /// before changes nothing, and where bytes are left, the next one is not due.
 ///
-/// It takes the time of the bytes that it makes, and of one test where there is none.
+/// It takes the time of the bytes that it writes, and of one test where there is none.
 #[inline]
 pub fn settle(state: &mut VdpState, cycle: u64)
     requires { cycle ≤ 2 ^ 50 }
@@ -168,7 +168,7 @@ pub fn transfer_word(state: &mut VdpState, word: u16)
     state.transfer(word);
 }
 
-/// Puts the next bytes into a copy of VRAM.
+/// Writes the next bytes into a copy of VRAM.
 #[tactic(auto, unfolding(crate::specs::Settling::vram_after))]
 fn put_into(state: &VdpState, count: u32, vram: &mut [u8])
     requires copy { vram.old ≡ state.now.vram }
@@ -182,7 +182,7 @@ fn put_into(state: &VdpState, count: u32, vram: &mut [u8])
     }
 }
 
-/// What is left once the next bytes were put.
+/// What is left once the next bytes were written.
 #[tactic(auto, unfolding(crate::specs::Settling::advanced, crate::specs::Settling::moved, crate::specs::Settling::finished))]
 fn rest_after(state: &VdpState, count: u32) -> Rest
     requires { state.now.next_stamp ≤ 2 ^ 50 }
@@ -214,7 +214,7 @@ fn rest_after(state: &VdpState, count: u32) -> Rest
 
 /// Appends the bytes of a saved state at a cycle that keep this VDP, 65,813 in all, as once its fill or
 /// copy is settled to the cycle. There is room for them. They are read again where the rules hold at an
-/// earlier cycle. The VDP stays as it is.
+/// earlier cycle. The VDP does not change.
 pub fn spell(state: &VdpState, at: u64, into: &mut Vec<u8>)
     requires cycle { at ≤ 2 ^ 50 }
     requires room { vec_len into.old + vdp_size ≤ vec_capacity into.old }
@@ -235,7 +235,7 @@ pub fn spell(state: &VdpState, at: u64, into: &mut Vec<u8>)
     put_into(state, count, &mut into[from..from + VRAM]);
 }
 
-/// Tells that the bytes of this VDP, settled to a cycle, are read again where the rules hold at an earlier
+/// States that the bytes of this VDP, settled to a cycle, are read again where the rules hold at an earlier
 /// cycle.
 pub fn is_read_again(state: &VdpState)
     ensures { (earlier at : ℕ) → earlier ≤ at → at ≤ 2 ^ 50 → HasRules earlier state.now

@@ -22,6 +22,6 @@ eighth_by n w (inl e) = rw e (omega arith)
 eighth_by n w (inr (inl e)) = rw e (omega arith)
 eighth_by n w (inr (inr e)) = rw e (omega arith)
 
--- a place on a side stands in its cell where the number stands among eight
+-- a place on a side is in its cell where the number is among eight
 pub eighth : (n bits place : ℕ) → place ≡ n % (cells_of bits * 8) → place % 8 ≡ n % 8
 eighth n bits place e = rw e (eighth_by n (cells_of bits) (cells_three bits))

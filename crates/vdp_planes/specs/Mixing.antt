@@ -142,7 +142,7 @@ IsSeen view shade = has_bit (register view 12) 8 ≡ false → shade ≡ shades.
 unfoldable pub index_at : LineView → List Dot → List Dot → List Dot → ℕ → ℕ
 index_at view a b s x = index_of (shown_at view a b s x)
 
--- where the picture stands on the screen's line
+-- where the picture is on the screen's line
 pub record IsSpan (view : LineView) (from to : ℕ) : Type 0 where
   pub order : from ≤ to
   pub within : to ≤ 320

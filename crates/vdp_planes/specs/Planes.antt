@@ -34,7 +34,7 @@ width_of view = if has_bit (register view 12) 1 then 320 else 256
 unfoldable pub plane_number : Bool → ℕ
 plane_number second = if second then 1 else 0
 
--- where a plane's names stand
+-- where a plane's names are
 unfoldable pub plane_base : LineView → Bool → ℕ
 plane_base view second = if second then register view 4 % 8 * 8192 else register view 2 / 8 % 8 * 8192
 
@@ -60,7 +60,7 @@ point_x view second y x = (x + (65536 - across view second y)) % (cells_of (regi
 unfoldable pub point_y : LineView → Bool → ℕ → ℕ → ℕ
 point_y view second y x = (y + down view second x) % (cells_of (register view 16 / 16 % 4) * 8)
 
--- where the name of a point stands; a table has at most 4,096
+-- where the name of a point is; a table has at most 4,096
 unfoldable pub name_place : LineView → Bool → ℕ → ℕ → ℕ
 name_place view second px py =
     plane_base view second + 2 * ((py / 8 * cells_of (register view 16 % 4) + px / 8) % 4096)
@@ -72,7 +72,7 @@ scrolled_dot view second y x =
     let py = point_y view second y x in
     cell_dot view (word_at view (name_place view second px py)) (px % 8) (py % 8)
 
--- whether a place lies below an edge, or from it on
+-- whether a place is below an edge, or from it on
 unfoldable pub side : Bool → ℕ → ℕ → Bool
 side from edge n = if from then nat_le edge n else nat_lt n edge
 
@@ -82,7 +82,7 @@ in_window view y x =
     side (has_bit (register view 17) 128) (16 * (register view 17 % 32)) x
     || side (has_bit (register view 18) 128) (8 * (register view 18 % 32)) y
 
--- where the window's name of a point stands: 64 cells a row in the 320 mode, else 32
+-- where the window's name of a point is: 64 cells a row in the 320 mode, else 32
 unfoldable pub window_place : LineView → ℕ → ℕ → ℕ
 window_place view y x =
     if has_bit (register view 12) 1
@@ -100,7 +100,7 @@ plane_dot view second y x =
     then (if (if second then false else in_window view y x) then window_dot view y x else scrolled_dot view second y x)
     else clear
 
--- the dots of a row of a cell, of which the one in this column stands at `start`
+-- the dots of a row of a cell, of which the one in this column is at `start`
 abbrev pub run_dot : LineView → ℕ → ℕ → ℕ → ℕ → ℕ → Dot
 run_dot view name column row start x = cell_dot view name (column + (x - start)) row
 
@@ -108,7 +108,7 @@ run_dot view name column row start x = cell_dot view name (column + (x - start))
 unfoldable pub pixel_of : ℕ → ℕ → ℕ
 pixel_of pixels column = pixels / 2 ^ (28 - 4 * column) % 16
 
--- the dots of a name from eight such pixels, of which the one in this column stands at `start`
+-- the dots of a name from eight such pixels, of which the one in this column is at `start`
 abbrev pub pixel_dot : ℕ → ℕ → ℕ → ℕ → ℕ → Dot
 pixel_dot name pixels column start x = record {
   colour = name / 8192 % 4 * 16 + pixel_of pixels (column + (x - start));

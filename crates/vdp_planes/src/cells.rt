@@ -123,7 +123,7 @@ fn four_words(digits: u32, base: u16) -> u64
     apart + u64::from(base) * FOUR_ONES
 }
 
-/// Puts four dots of a cell's row, those from `column` on, at their places behind `from`.
+/// Writes four dots of a cell's row, those from `column` on, at their places after `from`.
 #[inline(always)]
 fn put_four(name: u32, pixels: u32, words: u64, column: u32, from: u32, out: &mut [Dot; 320])
     requires column { column ≤ 4 }

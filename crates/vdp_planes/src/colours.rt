@@ -5,7 +5,7 @@ ghost use Rattle.vdp_planes.specs.Mixing.{IsSeen, ShadedColour, at_shade, entry_
 use crate::register::MODE_4;
 use crate::view::Scene;
 
-/// How bright a colour is shown.
+/// How bright a colour is shown. Source: Genesis Technical Overview, shadow and highlight.
 #[derive(Clone, Copy)]
 pub enum Shade {
     Shadow,
@@ -13,7 +13,7 @@ pub enum Shade {
     Highlight,
 }
 
-/// The three bytes of a dot of the picture.
+/// The three bytes of a dot of the picture, in this order.
 #[derive(Clone, Copy)]
 pub struct Rgb {
     pub red: u8,
@@ -59,7 +59,7 @@ fn levels_of(word: u16) -> u32
 }
 
 /// The bytes of a colour in a shade, and one that no dot shows, so that a dot is written at once. All
-/// three levels are multiplied at once: none comes to more than 252.
+/// three levels are multiplied at once: none is more than 252.
 #[inline(always)]
 #[tactic(auto, unfolding(crate::specs::Mixing::rgb_of))]
 fn entry_of(scene: &Scene, colour: usize, shade: Shade) -> [u8; 4]

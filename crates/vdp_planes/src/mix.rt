@@ -70,7 +70,7 @@ fn base_place(a: Dot, b: Dot) -> u16
     if a.priority() || b.priority() { 64 } else { 0 }
 }
 
-/// The index of what a sprite in front shows over the colour `under`, where the planes' shade stands at
+/// The index of what a sprite in front shows over the colour `under`, where the planes' shade is at
 /// `base` in the table.
 #[inline(always)]
 #[tactic(auto, unfolding(crate::specs::Mixing::index_of, crate::specs::Mixing::shaded_sprite))]

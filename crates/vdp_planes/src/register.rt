@@ -3,13 +3,13 @@
 
 pub use vdp_ports::register::MODE_2;
 
-/// Where the names of plane A stand: bits 5 to 3.
+/// The nametable of plane A: bits 5 to 3.
 pub const PLANE_A: usize = 2;
-/// Where the names of the window stand: bits 5 to 1.
+/// The nametable of the window: bits 5 to 1.
 pub const WINDOW: usize = 3;
-/// Where the names of plane B stand: bits 2 to 0.
+/// The nametable of plane B: bits 2 to 0.
 pub const PLANE_B: usize = 4;
-/// Where the table of sprites stands: bits 6 to 0.
+/// The table of sprites: bits 6 to 0.
 pub const SPRITES: usize = 5;
 /// The backdrop's colour: bits 5 to 0.
 pub const BACKDROP: usize = 7;
@@ -17,7 +17,7 @@ pub const BACKDROP: usize = 7;
 pub const MODE_3: usize = 11;
 /// Bit 0 the 320 mode, bit 3 shadow and highlight.
 pub const MODE_4: usize = 12;
-/// Where the horizontal scrolls stand: bits 5 to 0.
+/// The table of horizontal scrolls: bits 5 to 0.
 pub const SCROLLS: usize = 13;
 /// The planes' width in bits 1 and 0, their height in bits 5 and 4.
 pub const PLANE_SIZE: usize = 16;

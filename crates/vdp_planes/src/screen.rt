@@ -206,7 +206,7 @@ fn fill_unshaded(
 }
 
 /// Writes the bytes of the colours of these indices, four dots at a time. Each dot but the last is
-/// written with one byte more, in whose place the next dot's first then stands.
+/// written with one byte more, which the next dot's first then replaces.
 #[tactic(auto, using(crate::proofs::Printed::dot_printed))]
 fn print(table: &[[u8; 4]; 192], line: &[u8; 320], rgb: &mut [u8])
     requires indices { (x : ℕ) → x < 320 → slice_index line.now x < 192 }

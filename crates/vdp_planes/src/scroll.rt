@@ -97,7 +97,7 @@ fn down(scene: &Scene, scroll: &Scroll, x: u32) -> u32
     u32::from(scene.vsram[(scroll.number + column) as usize])
 }
 
-/// The place up to which the vertical scroll is that of `x`, or one behind it, where all is the same.
+/// The place up to which the vertical scroll is that of `x`, or one after it, where all is the same.
 #[inline(always)]
 fn column_end(scroll: &Scroll, x: u32, to: u32) -> u32
     requires order { x < to }
@@ -112,8 +112,8 @@ fn column_end(scroll: &Scroll, x: u32, to: u32) -> u32
     }
 }
 
-/// Draws the dots of the plane from `x` on: those of one cell, none of them at `to` or behind it.
-/// `py` is the point of the plane down, the same for all. The answer is the place behind them.
+/// Draws the dots of the plane from `x` on: those of one cell, none of them at `to` or after it.
+/// `py` is the point of the plane down, the same for all. The answer is the place after them.
 #[inline(always)]
 #[tactic(auto, unfolding(crate::specs::Planes::name_place, crate::specs::Planes::point_x))]
 fn scrolled_cell(

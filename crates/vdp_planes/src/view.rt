@@ -9,6 +9,7 @@ use vdp_ports::VdpState;
 
 /// What a line of a picture is drawn from: the registers and memories of the VDP at the line's event,
 /// and the height of its display. The region is that of the picture. It takes 64 KiB: keep it in a box.
+/// Source: Genesis Technical Overview, the VDP.
 #[derive(Drop)]
 pub struct LineView {
     pub registers: [u8; 24],
@@ -21,7 +22,7 @@ pub struct LineView {
     pub tall: bool,
 }
 
-/// The same, borrowed from where it stands.
+/// The same, borrowed from where it is.
 #[derive(Clone, Copy)]
 pub struct Scene<'a> {
     pub registers: &'a [u8; 24],
@@ -121,7 +122,7 @@ impl LineView {
     }
 }
 
-/// The VDP's registers and memories, borrowed as they stand, for a picture of a region.
+/// The VDP's registers and memories, borrowed as they are, for a picture of a region.
 pub fn scene_of(state: &VdpState, pal: bool) -> Scene<'_>
     ensures { seen result ≡ view_of pal state.now }
 {
@@ -147,7 +148,7 @@ pub fn fill_view(view: &mut LineView, state: &VdpState)
 }
 
 impl<'a> Scene<'a> {
-    /// The lines of the display, 224 or 240; behind them the rows of the picture show the backdrop.
+    /// The lines of the display, 224 or 240; after them the scanlines of the picture show the backdrop.
     #[inline]
     pub fn height(&self) -> u32
         ensures value { result ≡ display_height (seen self.now) }
@@ -165,7 +166,7 @@ impl<'a> Scene<'a> {
     }
 }
 
-/// What the sprites of a line have set.
+/// What the sprites of a line have set in the status. Source: Genesis Technical Overview, the VDP's status.
 #[derive(Clone, Copy, PartialEq, Eq, Debug)]
 pub struct SpriteNote {
     /// More sprites or pixels than a line shows.

@@ -1,4 +1,4 @@
--- The rules of the fields are those that the ports keep, where what goes on is settled.
+-- The rules of the fields are those that the ports keep, where a fill or copy in progress is settled.
 use Rattle.std.proofs.Common.{◌≡◌, ℕ, zero, suc, ◌-◌, ◌%◌, ◌^◌, slice_index, ◌<◌, ◌≤◌, inl, inr, Bool, true, false, cond, eqb, leb, ltb, bit_and, List, refl, arith}
 use Rattle.std.specs.Prelude.{◌&&◌, ◌||◌, All}
 use Rattle.std.proofs.lemmas.Bool.{and_parts, eq-eqb, eqb-true, le-leb, leb-true, lt-ltb, ltb-true, and_from, or_left, or_right, or_cases}
@@ -32,7 +32,7 @@ only_to bits ws h = list_all-from_AllPass (λ w. eqb (bit_and w bits) w) ws (λ 
 
 -- ---- a fill or copy
 
--- the rules on the six fields of what goes on
+-- the rules on the six fields of a fill or copy
 record Goes (at kind b s a l n : ℕ) : Type 0 where
   pub known : leb kind 2 ≡ true
   pub byte : (eqb kind 1 || eqb b 0) ≡ true

@@ -3,7 +3,7 @@ use Rattle.std.proofs.Common.{◌≡◌, refl, ℕ, ◌/◌, ◌%◌, ◌==◌, 
 use Rattle.vdp_ports.specs.Vdp.{Vdp, register}
 use Rattle.vdp_ports.specs.Dma.{dropped, filling, copying}
 use Rattle.vdp_ports.specs.Data.{accessed, place, put, transferred, written}
-use Rattle.vdp_ports.specs.Control.{stored, first, second, started, armed, starts, transfers, controlled, status_read, level, acknowledged}
+use Rattle.vdp_ports.specs.Control.{stored, first, second, started, armed, starts, transfers, controlled, level}
 use Rattle.vdp_ports.specs.Pins.{HasSameInterval, HasSamePins}
 
 -- a choice leaves the pins where both of its sides do
@@ -45,15 +45,6 @@ pub written_same : (cycle word : ℕ) (s : Vdp) → HasSamePins s (written cycle
 unfolding written
 written_same cycle word s =
     same_if s.armed s _ _ (filling-same cycle word s (transferred word s) (transferred_same word s)) (transferred_same word s)
-
-pub status_read_same : (s : Vdp) → HasSamePins s (status_read s)
-unfolding status_read level
-status_read_same s = stay _ _ refl refl refl
-
-pub acknowledged_same : (n : ℕ) (s : Vdp) → HasSameInterval s (acknowledged n s)
-unfolding acknowledged
-acknowledged_same n s =
-    interval-if (n == 6) s _ _ (hold _ _ refl refl) (interval-if (n == 4) s _ _ (hold _ _ refl refl) (hold _ _ refl refl))
 
 started-same : (cycle : ℕ) (s t : Vdp) → HasSameInterval s t → HasSameInterval s (started cycle t)
 unfolding started armed dropped copying

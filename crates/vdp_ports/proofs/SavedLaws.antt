@@ -21,7 +21,7 @@ pub fields_size : (at : ℕ) (pal : Bool) (n : VdpNumbers) → sizes (vdp_fields
 unfolding sizes
 fields_size at pal n = refl
 
--- the numbers that stand in bytes are the only ones
+-- bytes have one list of numbers only
 pub only_one : (at : ℕ) (pal : Bool) (bytes : List ℕ) (s t : VdpNumbers) → Stand 0 (vdp_fields at pal s) bytes → Stand 0 (vdp_fields at pal t) bytes → s ≡ t
 unfolding Stand
 only_one at pal bytes s t p0 q0 =

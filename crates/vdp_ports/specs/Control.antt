@@ -65,7 +65,7 @@ started_by word s = if s.pending then transfer_of (second word s) else None
 abbrev pub bit : Bool → ℕ
 bit b = if b then 1 else 0
 
--- the status word, of which bit 0 tells the region
+-- the status word, whose bit 0 is the region
 unfoldable pub status : Bool → Bool → Bool → Vdp → ℕ
 status busy hb vb s =
     512 + 128 * bit s.vertical + 64 * bit s.overflow + 32 * bit s.collision + 8 * bit vb + 4 * bit hb + 2 * bit busy + bit s.pal

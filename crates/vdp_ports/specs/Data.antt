@@ -11,7 +11,7 @@ other a = if a % 2 == 0 then a + 1 else a - 1
 unfoldable pub accessed : Vdp → Vdp
 accessed s = record s { pending = false; a = (s.a + register s 15) % 0x1_0000 }
 
--- a word put: its upper byte at the address, its lower byte beside it
+-- a word written: its upper byte at the address, its lower byte beside it
 unfoldable pub with_word : ℕ → ℕ → List ℕ → List ℕ
 with_word a word vram = slice_set (slice_set vram a (word / 256)) (other a) (word % 256)
 
@@ -19,7 +19,7 @@ with_word a word vram = slice_set (slice_set vram a (word / 256)) (other a) (wor
 abbrev pub place : Vdp → ℕ
 place s = s.a / 2 % 64
 
--- a word put by the code: 1 VRAM, 3 CRAM, 5 VSRAM, of which there are 40 words
+-- a word written by the code: 1 VRAM, 3 CRAM, 5 VSRAM, of which there are 40 words
 unfoldable pub put : ℕ → Vdp → Vdp
 put word s =
     if s.code % 16 == 1 then record s { vram = with_word s.a word s.vram } else (

@@ -4,7 +4,7 @@ use Rattle.std.specs.Prelude.{ℕ, ◌+◌, ◌*◌, ◌%◌, ◌/◌, false, Li
 use Rattle.vdp_ports.specs.Vdp.{Vdp, register}
 use Rattle.vdp_ports.specs.declared.dma.Rest.{Rest}
 
--- registers 19 and 20; 0 stands for all of the memory
+-- registers 19 and 20; 0 means all of the memory
 unfoldable pub length_of : Vdp → ℕ
 length_of s = (register s 19 + 256 * register s 20 + 0xffff) % 0x1_0000 + 1
 
@@ -16,7 +16,7 @@ dropped s = record s { armed = false; dma_kind = 0; byte = 0; source = 0; addres
 unfoldable pub end_of : Vdp → ℕ
 end_of s = (s.a + length_of s * register s 15) % 0x1_0000
 
--- a fill starts with its data write at a cycle: it puts the word's upper byte, first 17 cycles later
+-- a fill starts with its data write at a cycle: it writes the word's upper byte, first 17 cycles later
 unfoldable pub filling : ℕ → ℕ → Vdp → Vdp
 filling cycle word s = record s {
   armed = false;

@@ -1,4 +1,4 @@
--- The numbers that a saved state keeps of the VDP, whatever they are, in their order. The region stands
+-- The numbers that a saved state keeps of the VDP, whatever they are, in their order. The region is
 -- elsewhere in the state. This project's profile.
 use Rattle.std.specs.Prelude.{ℕ, ◌==◌, Bool, List}
 use Rattle.md_word.specs.Coding.{flag_number}

@@ -1,5 +1,5 @@
 -- What holds of a VDP's values from power-on on, and of every saved one. Each holds at a cycle that
--- lies above all that has happened.
+-- is after all that has happened.
 use Rattle.std.specs.Prelude.{◌≡◌, ℕ, ◌+◌, ◌%◌, ◌<◌, ◌≤◌, ◌⊎◌, true, All, bit_and}
 use Rattle.md_word.specs.Clock.{line}
 use Rattle.vdp_ports.specs.Vdp.{Vdp}
@@ -11,7 +11,7 @@ pub record IsGoing (at kind byte source address left next : ℕ) : Type 0 where
   pub fill : kind ≡ 1 → (source ≡ 0) × (0 < left) × (left ≤ 0x1_0000) × (next < at + 17)
   pub copy : kind ≡ 2 → (byte ≡ 0) × (0 < left) × (left ≤ 0x1_0000) × (next < at + 34)
 
--- the Z80's interrupt is asked for during the line behind the display: none came yet, or the last began below the cycle
+-- the Z80's interrupt is asked for during the line after the display: none came yet, or the last began below the cycle
 abbrev pub IsInterruptInterval : ℕ → ℕ → ℕ → Type 0
 IsInterruptInterval at from to = ((from ≡ 0) × (to ≡ 0)) ⊎ ((from % line ≡ 0) × (from < at) × (to ≡ from + line))
 

@@ -24,7 +24,7 @@ is_source n = (n.dma_kind == 2) || (n.source == 0)
 abbrev pub is_address : VdpNumbers → Bool
 is_address n = if n.dma_kind == 0 then n.address == 0 else true
 
--- of a fill or copy that goes on 1 to 65,536 bytes are left
+-- of a fill or copy in progress 1 to 65,536 bytes are left
 abbrev pub is_left : VdpNumbers → Bool
 is_left n = if n.dma_kind == 0 then n.left == 0 else (nat_le 1 n.left && nat_le n.left 0x1_0000)
 

@@ -21,12 +21,12 @@ pub record Spells (at : ℕ) (pal : Bool) (bytes : List ℕ) (s : Vdp) : Type 0 
   pub right : IsRight (vdp_fields at pal) (numbers_of s)
   pub region : s.pal ≡ pal
 
--- bytes of a state at a cycle and of a region that keep no VDP are refused at this place: by their
+-- bytes of a state at a cycle and of a region that keep no VDP are invalid at this offset: by their
 -- length, or by the first rule that fails
 abbrev pub GoesWrongAt : ℕ → Bool → List ℕ → ℕ → Type 0
 GoesWrongAt at pal bytes place = IsRefused vdp_size (vdp_fields at pal) bytes place
 
--- the values that a state at a cycle may have: those that the ports keep, where what goes on is
+-- the values that a state at a cycle may have: those that the ports keep, where a fill or copy is
 -- settled to it
 pub record IsSettled (at : ℕ) (s : Vdp) : Type 0 where
   pub rules : HasRules at s

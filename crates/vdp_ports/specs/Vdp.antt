@@ -12,7 +12,7 @@ pub record Vdp : Type 0 where
   pub code : ℕ
   pub a : ℕ
   pub armed : Bool
-  -- 0 neither, 1 a fill, 2 a copy; where neither goes on, the next five are 0
+  -- 0 neither, 1 a fill, 2 a copy; where neither is in progress, the next five are 0
   pub dma_kind : ℕ
   pub byte : ℕ
   pub source : ℕ

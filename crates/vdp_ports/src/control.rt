@@ -14,7 +14,8 @@ const HORIZONTAL: u8 = 4;
 
 impl VdpState {
     /// A control word at a cycle, to which fill and copy are settled. Answers the source and the
-    /// words of the transfer that it starts.
+    /// words of the transfer that it starts, a byte address and a count of 1 to 65,536; `None` where it
+    /// starts none.
     pub fn control_write(&mut self, cycle: u64, word: u16) -> Option<(u32, u32)>
         requires { cycle ≤ 2 ^ 50 }
         ensures after { self.new ≡ meaning.controlled cycle word self.old }
@@ -133,7 +134,7 @@ impl VdpState {
         self.a = word % 4 * 0x4000 + self.a % 0x4000;
     }
 
-    /// Whether a second word with this code starts something.
+    /// Whether a second word with this code starts a fill, copy or transfer.
     #[tactic(auto, unfolding(crate::specs::Control::starts))]
     fn starts(&self) -> bool
         ensures { result ≡ meaning.starts self.now }
@@ -149,7 +150,7 @@ impl VdpState {
         self.registers[SOURCE_HIGH] / 64 < 2
     }
 
-    /// Drops what went on, and starts a transfer, arms a fill or starts a copy.
+    /// Drops what was in progress, and starts a transfer, arms a fill or starts a copy.
     #[tactic(auto, unfolding(crate::specs::Control::started))]
     fn start(&mut self, cycle: u64)
         requires { cycle ≤ 2 ^ 50 }

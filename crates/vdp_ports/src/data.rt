@@ -83,7 +83,7 @@ impl VdpState {
         usize::from(self.a / 2 % 64)
     }
 
-    /// Puts a word at the address, by the code.
+    /// Writes a word at the address, by the code.
     #[tactic(auto, unfolding(crate::specs::Data::put))]
     fn put(&mut self, word: u16)
         ensures { self.new ≡ meaning.put word self.old }

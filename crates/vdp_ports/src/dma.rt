@@ -4,7 +4,7 @@ ghost use Rattle.vdp_ports.specs.Dma as meaning;
 use crate::register::{INCREMENT, LENGTH_HIGH, LENGTH_LOW, SOURCE_LOW, SOURCE_MIDDLE};
 use crate::state::VdpState;
 
-/// Neither a fill nor a copy goes on.
+/// Neither a fill nor a copy is in progress.
 pub const NO_DMA: u8 = 0;
 
 pub const FILL: u8 = 1;
@@ -16,20 +16,21 @@ pub const FILL_STEP: u64 = 17;
 /// Master cycles from one byte of a copy to the next.
 pub const COPY_STEP: u64 = 34;
 
-/// What is left of a fill or copy; all is 0 where neither goes on.
+/// What is left of a fill or copy; all is 0 where neither is in progress. Source: Genesis Technical Overview,
+/// DMA; the times of the bytes are this project's profile.
 #[derive(Clone, Copy)]
 pub struct Rest {
-    /// What goes on: `NO_DMA`, `FILL` or `COPY`.
+    /// What is in progress: `NO_DMA`, `FILL` or `COPY`.
     pub dma_kind: u8,
-    /// What a fill puts.
+    /// What a fill writes.
     pub byte: u8,
     /// Where a copy reads next.
     pub source: u16,
-    /// Where a fill or copy puts next.
+    /// Where a fill or copy writes next.
     pub address: u16,
     /// How many of its bytes are left, at most 65,536.
     pub left: u32,
-    /// The cycle that its next byte is stamped with.
+    /// The master cycle that its next byte is stamped with.
     pub next_stamp: u64,
 }
 
@@ -48,7 +49,7 @@ impl VdpState {
         }
     }
 
-    /// The length of what starts, 1 to 65,536: a length of 0 stands for 65,536.
+    /// The length of what starts, 1 to 65,536: a length of 0 means 65,536.
     #[tactic(auto, unfolding(crate::specs::Dma::length_of))]
     pub(crate) fn length(&self) -> u32
         ensures value { result ≡ meaning.length_of self.now }
@@ -82,7 +83,7 @@ impl VdpState {
         self.next_stamp = 0;
     }
 
-    /// Starts the fill whose data write was this word: its upper byte is what the fill puts.
+    /// Starts the fill whose data write was this word: its upper byte is what the fill writes.
     #[tactic(auto, unfolding(crate::specs::Dma::filling))]
     pub(crate) fn fill(&mut self, cycle: u64, word: u16)
         requires { cycle ≤ 2 ^ 50 }

@@ -9,6 +9,7 @@ mod known;
 mod memory;
 pub mod register;
 mod saved;
+mod saved_rules;
 mod spelling;
 mod state;
 

@@ -14,7 +14,7 @@ pub fn other_byte(address: u16) -> u16
     }
 }
 
-/// Puts a word: its upper byte at the address, the lower one beside it.
+/// Writes a word: its upper byte at the address, the lower one beside it.
 #[tactic(auto, unfolding(crate::specs::Data::with_word))]
 pub(crate) fn put_word(vram: &mut [u8; 65536], address: u16, word: u16)
     requires { length vram.old ≡ 0x1_0000 }

@@ -4,23 +4,22 @@ ghost use Rattle.md_fields.specs.Items.{IsRefused, IsRight, Keeps};
 ghost use Rattle.md_fields.specs.Places.{Stand};
 ghost use Rattle.vdp_ports.specs.Dma.{with_rest};
 ghost use Rattle.vdp_ports.specs.Numbers.{numbers_of, vdp_of};
-ghost use Rattle.vdp_ports.specs.Saved as rules;
 ghost use Rattle.vdp_ports.specs.Saved.{vdp_fields};
 ghost use Rattle.vdp_ports.specs.Spelling.{vdp_size};
 
 use crate::data::{COLOUR, SCROLL};
-use crate::dma::{COPY, FILL, NO_DMA, Rest};
+use crate::dma::{COPY, FILL, Rest};
+use crate::saved_rules::have_only;
 use crate::state::VdpState;
-use md_fields::{Field, first_wrong, is_after, u8_at, u16_at, u32_at, u64_at, words_at};
+use md_fields::{Field, first_wrong, u8_at, u16_at, u32_at, u64_at, words_at};
 use md_word::NoMemory;
-use md_word::clock::LINE;
 use std::alloc::Global;
 use std::marker::Model;
 
 /// How many bytes of a saved state keep a VDP.
 const LENGTH: usize = 65_813;
 
-/// Where VRAM and CRAM stand among them.
+/// The offsets of VRAM and CRAM among them.
 const VRAM: usize = 24;
 
 const CRAM: usize = 65_560;
@@ -28,37 +27,32 @@ const CRAM: usize = 65_560;
 /// How many codes there are.
 const CODES: u8 = 64;
 
-/// How far from the cycle of a saved state the next byte of a fill or copy can be.
-const FILL_FAR: u64 = 16;
-
-const COPY_FAR: u64 = 33;
-
 /// The numbers that a saved state keeps of the VDP, whatever they are, in their order. Cycles are
 /// master cycles.
 #[derive(Drop)]
 pub struct SavedVdp<'a> {
-    registers: &'a [u8],
-    vram: &'a [u8],
-    cram: [u16; 64],
-    vsram: [u16; 40],
-    pending: u8,
-    code: u8,
-    a: u16,
-    armed: u8,
-    dma_kind: u8,
-    byte: u8,
-    source: u16,
-    address: u16,
-    left: u32,
-    next_stamp: u64,
-    vertical: u8,
-    horizontal: u8,
-    overflow: u8,
-    collision: u8,
-    line_counter: u8,
-    int_from: u64,
-    int_to: u64,
-    tall: u8,
+    pub(crate) registers: &'a [u8],
+    pub(crate) vram: &'a [u8],
+    pub(crate) cram: [u16; 64],
+    pub(crate) vsram: [u16; 40],
+    pub(crate) pending: u8,
+    pub(crate) code: u8,
+    pub(crate) a: u16,
+    pub(crate) armed: u8,
+    pub(crate) dma_kind: u8,
+    pub(crate) byte: u8,
+    pub(crate) source: u16,
+    pub(crate) address: u16,
+    pub(crate) left: u32,
+    pub(crate) next_stamp: u64,
+    pub(crate) vertical: u8,
+    pub(crate) horizontal: u8,
+    pub(crate) overflow: u8,
+    pub(crate) collision: u8,
+    pub(crate) line_counter: u8,
+    pub(crate) int_from: u64,
+    pub(crate) int_to: u64,
+    pub(crate) tall: u8,
 }
 
 impl<'a> Model for SavedVdp<'a> {
@@ -133,10 +127,10 @@ impl<'a> SavedVdp<'a> {
         }
     }
 
-    /// The numbers that stand in the bytes.
+    /// The numbers in the bytes.
     #[tactic(auto, unfolding(md_fields::specs::Places::Stand))]
     fn read(bytes: &'a [u8]) -> SavedVdp<'a>
-        requires { length bytes.now ≡ 65813 }
+        requires { length bytes.now ≡ vdp_size }
         ensures { (at : ℕ) (pal : Bool) → Stand 0 (vdp_fields at pal result) bytes.now }
     {
         SavedVdp {
@@ -197,56 +191,8 @@ impl<'a> SavedVdp<'a> {
         ]
     }
 
-    fn is_address(&self) -> bool
-        ensures { result ≡ rules.is_address self.now }
-    {
-        if self.dma_kind == NO_DMA {
-            self.address == 0
-        } else {
-            true
-        }
-    }
-
-    fn is_left(&self) -> bool
-        ensures { result ≡ rules.is_left self.now }
-    {
-        if self.dma_kind == NO_DMA {
-            self.left == 0
-        } else {
-            1 <= self.left && self.left <= 65_536
-        }
-    }
-
-    fn is_next_stamp(&self, at: u64) -> bool
-        ensures { result ≡ rules.is_next_stamp at self.now }
-    {
-        if self.dma_kind == NO_DMA {
-            return self.next_stamp == 0;
-        }
-        let far = if self.dma_kind == FILL {
-            FILL_FAR
-        } else {
-            COPY_FAR
-        };
-        at <= self.next_stamp && self.next_stamp - at <= far
-    }
-
-    fn is_interval(&self, at: u64) -> bool
-        ensures { result ≡ rules.is_interval at self.now }
-    {
-        (self.int_from == 0 && self.int_to == 0) || self.is_begun(at)
-    }
-
-    /// Whether an interrupt of the Z80 began with a line, and is a line long.
-    fn is_begun(&self, at: u64) -> bool
-        ensures { result ≡ rules.is_begun at self.now }
-    {
-        self.int_from % LINE == 0
-            && self.int_from < at
-            && is_after(self.int_to, self.int_from, LINE)
-    }
-
-    /// The numbers that the bytes keep, where the rules hold of them; else the place of the refusal.
+    /// The numbers that the bytes keep, where the rules hold of them. The error is the offset of the first
+    /// field whose rule fails, or the lesser of the number of bytes and 65,813 where it is not 65,813.
     pub fn checked(bytes: &'a [u8], at: u64, pal: bool) -> Result<SavedVdp<'a>, usize>
         ensures found { IfOk result (λ n. Keeps (vdp_fields at pal) bytes.now n × IsRight (vdp_fields at pal) n) }
         ensures refused { IfErr result (λ place. IsRefused vdp_size (vdp_fields at pal) bytes.now place) }
@@ -261,7 +207,7 @@ impl<'a> SavedVdp<'a> {
         }
     }
 
-    /// The VDP of a region of which these numbers are kept. VRAM is copied.
+    /// The VDP of a region of which these numbers are kept. VRAM is copied. The only error is out of memory.
     pub fn state(&self, alloc: Global, pal: bool) -> Result<VdpState, NoMemory>
         ensures { IfOk result (λ state. state ≡ vdp_of pal self.now) }
     {
@@ -302,13 +248,7 @@ impl<'a> SavedVdp<'a> {
     }
 }
 
-fn have_only(bits: u16, words: &[u16]) -> bool
-    ensures { result ≡ rules.have_only bits words.now }
-{
-    words.iter().all(|word| *word & bits == *word)
-}
-
-/// The registers that stand in 24 bytes.
+/// The registers in 24 bytes.
 fn registers_of(bytes: &[u8]) -> [u8; 24]
     requires { length bytes.now ≡ 24 }
     ensures { result ≡ bytes.now }

@@ -13,7 +13,7 @@ use md_word::Unspell;
 use std::alloc::Global;
 
 impl VdpState {
-    /// Appends the bytes of a saved state at a cycle that keep this VDP, 65,813 in all. There is room
+    /// Appends the bytes of a saved state at a master cycle that keep this VDP, 65,813 in all. There is room
     /// for them. They are read again where fill and copy are settled to the cycle.
     pub fn spell(&self, at: u64, into: &mut Vec<u8>)
         requires { vec_len into.old + vdp_size ≤ vec_capacity into.old }
@@ -26,7 +26,7 @@ impl VdpState {
         put(&SavedVdp::of(self).fields(at, self.pal), into);
     }
 
-    /// Tells that its numbers have the bytes that they take.
+    /// States that its numbers fit the bytes that they take.
     pub fn known(&self)
         ensures { IsInRange self.now }
     {
@@ -54,9 +54,12 @@ impl VdpState {
         put(&SavedVdp::with(self, vram, rest).fields(at, self.pal), into);
     }
 
-    /// The VDP that the bytes of a saved state at a cycle and of a region keep. Bytes that are not
-    /// 65,813 are refused at the lesser of the two lengths, others at the place of the first field whose rule fails. Fill and
-    /// copy are to be settled to the cycle. VRAM is copied.
+    /// The VDP that the bytes of a saved state at a master cycle and of a region keep. Fill and copy are to
+    /// be settled to the cycle. VRAM is copied.
+    ///
+    /// `Rule` has the offset of the first invalid byte: where there are not 65,813 bytes, the lesser of their
+    /// number and 65,813; else where the first field begins whose rule fails. The only other error is out of
+    /// memory.
     pub fn unspell(alloc: Global, bytes: &[u8], at: u64, pal: bool) -> Result<VdpState, Unspell>
         ensures found { IfOk result (λ s. Spells at pal bytes.now s) }
         ensures settled { IfOk result (λ s. IsSettled at s) }

@@ -8,8 +8,8 @@ use md_word::NoMemory;
 use std::alloc::Global;
 use std::marker::Model;
 
-/// The VDP as its ports reach it: registers, memories, the state of the ports, a fill or copy that
-/// goes on, and the interrupts. Cycles are master cycles. Source: Genesis Technical Overview, the
+/// The VDP as its ports reach it: registers, memories, the state of the ports, a fill or copy in
+/// progress, and the interrupts. Cycles are master cycles. Source: Genesis Technical Overview, the
 /// VDP; the times of bytes and interrupts are this project's profile.
 ///
 /// The struct takes about 300 bytes and a box of 64 KiB: hand it on by reference.
@@ -20,7 +20,7 @@ pub struct VdpState {
     pub vram: Box<[u8; 65536]>,
     /// Four palettes of 16 colours: blue in bits 11 to 9, green 7 to 5, red 3 to 1.
     pub cram: [u16; 64],
-    /// Vertical scrolls, by turns of plane A and of plane B.
+    /// Vertical scrolls, alternating between plane A and plane B.
     pub vsram: [u16; 40],
     /// Whether a first control word waits for its second.
     pub pending: bool,
@@ -30,13 +30,13 @@ pub struct VdpState {
     pub a: u16,
     /// Whether a fill waits for its data write.
     pub armed: bool,
-    /// What goes on: `NO_DMA`, `FILL` or `COPY`.
+    /// What is in progress: `NO_DMA`, `FILL` or `COPY`.
     pub dma_kind: u8,
-    /// What a fill puts.
+    /// What a fill writes.
     pub byte: u8,
     /// Where a copy reads next.
     pub source: u16,
-    /// Where a fill or copy puts next.
+    /// Where a fill or copy writes next.
     pub address: u16,
     /// How many of its bytes are left, at most 65,536.
     pub left: u32,
@@ -97,7 +97,7 @@ impl Model for VdpState {
 }
 
 impl VdpState {
-    /// The VDP at power-on, of a region: all else is 0. It is refused where there is no memory for VRAM.
+    /// The VDP at power-on, of a region: all else is 0. The only error is out of memory.
     pub fn power_on(alloc: Global, pal: bool) -> Result<VdpState, NoMemory>
         ensures value { IfOk result (λ s. s ≡ at_power_on pal) }
         ensures rules { IfOk result (λ s. (at : ℕ) → HasRules at s) }

@@ -10,7 +10,7 @@ use vdp_planes::{Dot, fill_view, mix_line, plane_line};
 use vdp_sprites::sprite_line;
 use vdp_time::line_of;
 
-/// Bytes of a row of the picture.
+/// Bytes of a scanline of the picture.
 const ROW: usize = 960;
 
 /// A line of the picture.
@@ -24,14 +24,14 @@ fn line_number(line: u32) -> Result<u32, RowError>
     }
 }
 
-/// Tells how often a colour stands, and which.
+/// Writes how often a colour occurs, and which.
 fn tell_run(count: u64, colour: u8, answer: &mut Answer) -> Result<(), RowError> {
     answer.say_number(count)?;
     answer.say("of")?;
     answer.say_number(u64::from(colour))
 }
 
-/// Tells the colours of dots, from the left.
+/// Writes the colours of dots, from the left.
 fn tell_runs(dots: &[Dot; 320], answer: &mut Answer) -> Result<(), RowError> {
     let mut colour = dots[0].colour();
     let mut count = 0u64;
@@ -111,7 +111,7 @@ impl Video {
         self.buffer.copy(&row)
     }
 
-    /// Makes the event of the chip's next line from the VDP as it stands.
+    /// Makes the event of the chip's next line from the VDP as it is.
     fn make_line(&mut self) -> Result<(), RowError> {
         let cycle = self.chip.next().key.cycle;
         if !self.chip.has_view() || cycle >= LAST_CYCLE {

@@ -1,5 +1,5 @@
-// What stands in the VDP by name: `R1` a register, `C17` a colour, `S39` a vertical scroll, `@C000` video memory,
-// and what goes on.
+// What the VDP holds, by name: `R1` a register, `C17` a colour, `S39` a vertical scroll, `@C000` video memory,
+// and what is in progress.
 use crate::video::Video;
 use row_lines::{Answer, RowError, arguments, byte, hexadecimal, put, word};
 
@@ -101,7 +101,7 @@ impl Video {
         }
     }
 
-    /// Tells what has a name.
+    /// Writes what has a name.
     pub(crate) fn tell(&self, name: &str, answer: &mut Answer) -> Result<(), RowError> {
         if let Some(number) = name.strip_prefix("R") {
             return self.tell_register(number, answer);

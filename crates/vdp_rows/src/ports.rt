@@ -1,4 +1,4 @@
-// The ports, and what goes on behind them.
+// The ports, and what is in progress.
 use crate::video::Video;
 use row_lines::{Answer, RowError, arguments, byte, word};
 use vdp_dma::{busy, settle, transfer_word};
@@ -8,7 +8,7 @@ fn cycle_of(text: &str) -> Result<u32, RowError> {
     Ok(arguments(text, "d")?[0])
 }
 
-/// Tells the source and the words of the transfer that starts, if one does.
+/// Writes the source and the words of the transfer that starts, if one does.
 fn tell_transfer(started: Option<(u32, u32)>, answer: &mut Answer) -> Result<(), RowError> {
     match started {
         None => answer.say("none"),

@@ -1,4 +1,4 @@
-// The bytes of saved states that keep the VDP and the half of it that draws.
+// The bytes of saved states that keep the VDP and its renderer.
 use crate::video::Video;
 use md_word::Unspell;
 use row_lines::{Answer, RowError, arguments};
@@ -10,7 +10,7 @@ const VDP: usize = 65_813;
 
 const DRAWING: usize = 230_410;
 
-/// Tells why bytes are no state.
+/// Writes why bytes are no state.
 fn tell_refusal(error: Unspell, answer: &mut Answer) -> Result<(), RowError> {
     match error {
         Unspell::Rule { place } => answer.say_number(place),
@@ -39,7 +39,7 @@ impl Video {
         }
     }
 
-    /// Puts the bytes of a state at a cycle that keep the VDP in place of the bytes.
+    /// Replaces the bytes by those of a state at a cycle that keep the VDP.
     fn save_vdp(&mut self, alloc: Global, rest: &str) -> Result<(), RowError> {
         let at = arguments(rest, "d")?[0];
         let mut bytes = Vec::with_capacity(alloc, VDP)?;
@@ -48,7 +48,7 @@ impl Video {
         Ok(())
     }
 
-    /// The same of the half that draws; the frame that is kept, if one is, stands behind.
+    /// The same of the renderer; the frame that is kept, if one is, follows.
     fn save_drawing(&mut self, alloc: Global, rest: &str) -> Result<(), RowError> {
         let at = arguments(rest, "d")?[0];
         let mut bytes = Vec::with_capacity(alloc, DRAWING)?;
@@ -57,8 +57,8 @@ impl Video {
         self.buffer.append(self.chip.frame().unwrap_or(&[]))
     }
 
-    /// Takes the VDP that the bytes keep in a state at a cycle: tells the place at which they are refused, if they
-    /// are.
+    /// Takes the VDP that the bytes keep in a state at a cycle: answers the offset at which they are invalid, if
+    /// they are.
     fn load_vdp(&mut self, alloc: Global, rest: &str, answer: &mut Answer) -> Result<(), RowError> {
         let at = u64::from(self.buffer.cycle_of(alloc, rest)?);
         match VdpState::unspell(alloc, self.buffer.bytes(), at, self.vdp.pal) {

@@ -1,9 +1,9 @@
-// Lines that are drawn ahead of their events.
+// Lines that are rendered ahead of their events.
 use crate::video::Video;
 use row_lines::{Answer, RowError, arguments};
 
 impl Video {
-    /// Begins a sheet with the VDP as it stands, for the lines from one on and below another.
+    /// Begins a line buffer with the VDP as it is, for the lines from one on and below another.
     pub(crate) fn begin_sheet(&mut self, rest: &str) -> Result<(), RowError> {
         let [from, until, _, _] = arguments(rest, "dd")?;
         if from > 240 {
@@ -14,20 +14,20 @@ impl Video {
         Ok(())
     }
 
-    /// Draws the lines of the sheet.
+    /// Draws the lines of the buffer.
     pub(crate) fn draw_ahead(&mut self, rest: &str) -> Result<(), RowError> {
         arguments(rest, "")?;
         self.sheet.draw();
         Ok(())
     }
 
-    /// Whether the sheet has a line of a picture of a region.
+    /// Whether the buffer has a line of a picture of a region.
     pub(crate) fn tell_lines(&self, rest: &str, answer: &mut Answer) -> Result<(), RowError> {
         let [line, pal, _, _] = arguments(rest, "db")?;
         answer.say_bit(self.sheet.has(line, pal == 1))
     }
 
-    /// What the sprites of a line that is drawn set; its row goes into the bytes.
+    /// What the sprites of a line that is drawn set; its scanline goes into the bytes.
     pub(crate) fn tell_drawn(&mut self, rest: &str, answer: &mut Answer) -> Result<(), RowError> {
         let line = arguments(rest, "d")?[0];
         if !self.sheet.has(line, self.vdp.pal) {
@@ -39,7 +39,7 @@ impl Video {
         self.buffer.copy(self.sheet.row(line))
     }
 
-    /// Whether the VDP is what the sheet shows of it.
+    /// Whether the VDP is as the buffer shows it.
     pub(crate) fn tell_fits(&self, rest: &str, answer: &mut Answer) -> Result<(), RowError> {
         arguments(rest, "")?;
         answer.say_bit(self.sheet.is_of(&self.vdp))

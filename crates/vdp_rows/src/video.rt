@@ -5,7 +5,7 @@ use vdp_chip::ChipVdp;
 use vdp_planes::LineView;
 use vdp_ports::VdpState;
 
-/// The VDP of a row, the chip that draws its picture, a view of it, a sheet of lines that are drawn ahead, and
+/// The VDP of a row, the chip that draws its picture, a view of it, a buffer of pre-rendered lines, and
 /// bytes.
 #[derive(Drop)]
 pub(crate) struct Video {
@@ -46,7 +46,7 @@ impl Video {
         })
     }
 
-    /// Begins anew with a VDP and a picture of a region; bytes stay.
+    /// Begins again with a VDP and a picture of a region; bytes stay.
     fn restart(&mut self, alloc: Global, pal: bool, rest: &str) -> Result<(), RowError> {
         arguments(rest, "")?;
         self.view.pal = pal;

@@ -16,7 +16,7 @@ part_of sprite pixels = record { sprite = sprite; pixels = pixels }
 unfoldable pub pixel_dot : Sprite → ℕ → ℕ → Dot
 pixel_dot s pixels column = record { colour = s.name / 8192 % 4 * 16 + pixel_of pixels column; priority = has_bit s.name 32768 }
 
--- a dot drawn where nothing opaque stands
+-- a dot drawn where nothing opaque is
 unfoldable pub over : Dot → Dot → Dot
 over below dot = if is_opaque dot && not (is_opaque below) then dot else below
 
@@ -32,7 +32,7 @@ pub record IsReach (part : Part) (width first last : ℕ) : Type 0 where
 abbrev pub over_at : LineView → ℕ → Part → List Dot → ℕ → Dot
 over_at view y part old x = over (dot_at old x) (part_dot view y x part)
 
--- whether a part meets what stands there
+-- whether a part meets what is there
 abbrev pub meets_at : LineView → ℕ → Part → List Dot → ℕ → Bool
 meets_at view y part old x = is_opaque (dot_at old x) && is_opaque (part_dot view y x part)
 
@@ -42,7 +42,7 @@ pub record IsOver (view : LineView) (y to : ℕ) (part : Part) (old new : List D
   pub meets : after ≡ (hit || any_below to (meets_at view y part old))
 
 -- the dots of a part from one place to another are those of a sprite by eight pixels, of which the one in
--- this column stands first
+-- this column is first
 pub record IsRun (view : LineView) (y : ℕ) (part : Part) (sprite : Sprite) (pixels column from to : ℕ) : Type 0 where
   pub sprite_is : part.sprite ≡ sprite
   pub reach : (x : ℕ) → from ≤ x → x < to → reaches part x ≡ true

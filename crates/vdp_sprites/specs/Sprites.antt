@@ -15,7 +15,7 @@ most_listed view = if has_bit (register view 12) 1 then 80 else 64
 unfoldable pub most_chosen : LineView → ℕ
 most_chosen view = if has_bit (register view 12) 1 then 20 else 16
 
--- where the table stands: bits 6 to 0 of register 5, in the 320 mode without bit 0
+-- where the table is: bits 6 to 0 of register 5, in the 320 mode without bit 0
 unfoldable pub table_base : LineView → ℕ
 table_base view = if has_bit (register view 12) 1 then register view 5 / 2 % 64 * 1024 else register view 5 % 128 * 512
 
@@ -111,6 +111,6 @@ unfoldable pub any_below : ℕ → (ℕ → Bool) → Bool
 any_below zero p = false
 any_below (suc n) p = any_below n p || p n
 
--- whether two opaque dots stand at one x of the picture
+-- whether two opaque dots are at one x of the picture
 unfoldable pub collides : LineView → ℕ → List Part → Bool
 collides view y list = any_below (width_of view) (λ x. nat_lt 1 (length (opaque_of view y list x)))

@@ -30,7 +30,7 @@ fn take_one(found: &mut Found, most: usize, y: u32, sprite: Sprite) -> bool
     true
 }
 
-/// Puts the sprites chosen on line `y` into an empty list; true: there are more that cover it. It
+/// Writes the sprites chosen on line `y` into an empty list; true: there are more that cover it. It
 /// follows the links from sprite 0 on.
 #[tactic(auto, using(crate::proofs::Listed::begun, crate::proofs::Listed::goes_on, crate::proofs::Listed::out_of_list))]
 pub fn choose(scene: &Scene, y: u32, found: &mut Found) -> bool

@@ -21,7 +21,7 @@ fn is_opaque(dot: Dot) -> bool
     dot.colour() % 16 != 0
 }
 
-/// A dot drawn where nothing opaque stands yet.
+/// A dot drawn where nothing opaque is yet.
 #[inline(always)]
 #[tactic(auto, unfolding(crate::specs::Drawn::over))]
 fn over(below: Dot, dot: Dot) -> Dot
@@ -55,7 +55,7 @@ fn span_of(sprite: Sprite, pixels: u32, width: u32) -> (u32, u32)
     (first, last)
 }
 
-/// The place behind the cell of a sprite that has the place x, none behind `to`.
+/// The place after the cell of a sprite that has the place x, none after `to`.
 #[inline(always)]
 fn cell_end(sprite: Sprite, x: u32, to: u32) -> u32
     requires within { to ≤ 320 }
@@ -115,7 +115,7 @@ fn draw_whole(sprite: Sprite, pixels: u32, from: u32, mut hit: bool, out: &mut [
     hit
 }
 
-/// Draws dots of a sprite that lie in one cell; the answer is `hit`, or true where one met another.
+/// Draws dots of a sprite that are in one cell; the answer is `hit`, or true where one met another.
 #[inline(always)]
 fn draw_cell(
     scene: &Scene,

@@ -3,8 +3,10 @@
 
 mod chosen;
 mod draw;
+mod line;
 mod parts;
 mod sprite;
 
 pub use draw::{draw_sprites, sprite_line};
+pub use line::draw_line_sprites;
 pub use sprite::Sprite;

@@ -63,7 +63,7 @@ pub fn most_chosen(scene: &Scene) -> usize
     }
 }
 
-/// Where the table of sprites stands.
+/// The address of the table of sprites in VRAM.
 #[inline(always)]
 #[tactic(auto, unfolding(crate::specs::Sprites::table_base))]
 fn table_base(scene: &Scene) -> u32
@@ -100,7 +100,7 @@ pub fn sprite_at(scene: &Scene, number: u32) -> Sprite
     }
 }
 
-/// The number of the next sprite in the list.
+/// The number of the next sprite in the list. `None`: the list ends here.
 #[inline(always)]
 #[tactic(auto, unfolding(crate::specs::Sprites::next_of))]
 pub fn next_of(scene: &Scene, sprite: Sprite) -> Option<u32>

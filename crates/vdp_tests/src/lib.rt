@@ -1,4 +1,4 @@
-//! Tests of the tray on which lines of the picture go to the one who draws them ahead: its draw may wait.
+//! Tests of the double buffer by which lines of the picture are rendered ahead: its draw may wait.
 #![tactic(auto)]
 
 #[cfg(test)]

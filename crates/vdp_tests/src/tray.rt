@@ -4,7 +4,7 @@ use std::test::Fail;
 use vdp_ahead::{Sheet, Tray};
 use vdp_ports::VdpState;
 
-/// A sheet that goes by way of a tray, and comes back drawn.
+/// A line buffer that goes by way of a double buffer, and returns drawn.
 fn drawn<R: Wait>(rt: &R, sheet: Box<Sheet>) -> Option<Box<Sheet>> {
     let tray = Tray::new();
     let place = tray.second();
@@ -18,7 +18,7 @@ fn drawn<R: Wait>(rt: &R, sheet: Box<Sheet>) -> Option<Box<Sheet>> {
     place.take_drawn()
 }
 
-/// Whether a drawn sheet lay in either place of a tray.
+/// Whether a drawn line buffer was in either slot of a double buffer.
 fn are_drawn(tray: &Tray) -> [bool; 2] {
     [
         tray.first().take_drawn().is_some(),
@@ -26,7 +26,7 @@ fn are_drawn(tray: &Tray) -> [bool; 2] {
     ]
 }
 
-/// Whether one was drawn behind each of two draws of a tray with a sheet in both places.
+/// Whether one was drawn after each of two draws of a double buffer with a line buffer in both slots.
 fn drawn_in_turn<R: Wait>(rt: &R, one: Box<Sheet>, other: Box<Sheet>) -> [[bool; 2]; 2] {
     let tray = Tray::new();
     if tray.second().ask(one).is_some() || tray.first().ask(other).is_some() {
@@ -38,12 +38,12 @@ fn drawn_in_turn<R: Wait>(rt: &R, one: Box<Sheet>, other: Box<Sheet>) -> [[bool;
     [first, are_drawn(&tray)]
 }
 
-/// A sheet without a line.
+/// A line buffer without a line.
 fn blank(alloc: Global) -> Result<Box<Sheet>, Fail> {
     Sheet::blank(alloc).map_err(|_| Fail::from("no memory"))
 }
 
-/// Which of the lines 87, 88, 223 and 224 a sheet has.
+/// Which of the lines 87, 88, 223 and 224 a line buffer has.
 fn lines_of(sheet: &Sheet) -> [bool; 4] {
     [87, 88, 223, 224].map(|line| sheet.has(line, false))
 }

@@ -1,5 +1,6 @@
 -- A line's event keeps the rules and the region.
 use Rattle.std.proofs.Common.{◌≡◌, ◌∙◌, refl, ℕ, ◌/◌, ◌%◌, ◌<◌, ◌==◌, Bool, true, false, ◌&&◌, nat_lt, if◌then◌else◌, inr}
+use Rattle.md_word.specs.Clock as clock
 use Rattle.md_word.specs.Region.{height}
 use Rattle.vdp_ports.specs.Vdp.{Vdp, register}
 use Rattle.vdp_ports.specs.Rules.{HasRules}
@@ -31,12 +32,12 @@ counted-kept at line s h =
     (record { code = h.code; cram = h.cram; vsram = h.vsram; going = h.going; interval = h.interval; region = h.region }))
     (record { code = h.code; cram = h.cram; vsram = h.vsram; going = h.going; interval = h.interval; region = h.region })
 
-raised-kept : (at cycle line : ℕ) (s : Vdp) → cycle < at → cycle % 3420 ≡ 0 → HasRules at s → HasRules at (raised cycle line s)
+raised-kept : (at cycle line : ℕ) (s : Vdp) → cycle < at → cycle % clock.line ≡ 0 → HasRules at s → HasRules at (raised cycle line s)
 unfolding raised
 raised-kept at cycle line s l e h =
     either (line == height s.tall) at _ _ (record { code = h.code; cram = h.cram; vsram = h.vsram; going = h.going; interval = inr (e, l, refl); region = h.region }) h
 
-pub started_kept : (at cycle : ℕ) (s : Vdp) → cycle < at → cycle % 3420 ≡ 0 → HasRules at s → HasRules at (line_started cycle s)
+pub started_kept : (at cycle : ℕ) (s : Vdp) → cycle < at → cycle % clock.line ≡ 0 → HasRules at s → HasRules at (line_started cycle s)
 unfolding line_started
 started_kept at cycle s l e h =
     raised-kept at cycle (line_of cycle s.pal) (counted (line_of cycle s.pal) (heightened (line_of cycle s.pal) s)) l e

@@ -13,12 +13,12 @@ line_of cycle pal = cycle / line % lines pal
 unfoldable pub frame_of : ℕ → Bool → ℕ
 frame_of cycle pal = cycle / frame_cycles pal
 
--- a counter that jumps: where it would come to `last`, it goes on from `again`
+-- a counter that jumps: where it would reach `last`, it continues from `again`
 unfoldable pub jumping : ℕ → ℕ → ℕ → ℕ
 jumping last again k = if nat_lt k last then k else again + (k - last)
 
 -- the V counter counts lines, and jumps back so that the frame's last line has 255: on NTSC 229 comes
--- behind 234, on PAL 202 behind 258, or 210 behind 266 where the display is tall
+-- after 234, on PAL 202 after 258, or 210 after 266 where the display is tall
 unfoldable pub v_count : Bool → Bool → ℕ → ℕ
 v_count false tall = jumping 235 229
 v_count true false = jumping 259 202
@@ -28,7 +28,7 @@ v_count true true = jumping 267 210
 unfoldable pub v_counter : ℕ → Bool → Bool → ℕ
 v_counter cycle pal tall = v_count pal tall (line_of cycle pal) % 256
 
--- the H counter counts 211 or 171 steps a line: behind 182 comes 228 in the 320 mode, behind 147
+-- the H counter counts 211 or 171 steps a line: after 182 comes 228 in the 320 mode, after 147
 -- comes 233 in the 256 mode
 unfoldable pub h_counter : ℕ → Bool → ℕ
 h_counter cycle wide = if wide then jumping 183 228 (cycle % line * 211 / line) else jumping 148 233 (cycle % line / 20)
@@ -41,7 +41,7 @@ hv cycle wide pal tall = v_counter cycle pal tall * 256 + h_counter cycle wide
 unfoldable pub h_blank : ℕ → Bool
 h_blank cycle = nat_le 2560 (cycle % line)
 
--- VB: behind the lines of the display, and where the display is off
+-- VB: after the lines of the display, and where the display is off
 unfoldable pub v_blank : ℕ → Bool → Bool → Bool → Bool
 v_blank cycle display pal tall = nat_le (height tall) (line_of cycle pal) || not display
 
@@ -55,7 +55,7 @@ counted number s =
     if nat_lt number (height s.tall) then (if s.line_counter == 0 then record s { horizontal = true; line_counter = register s 10 } else record s { line_counter = s.line_counter - 1 })
     else record s { line_counter = register s 10 }
 
--- the vertical interrupt comes on the line behind the display, and the Z80's is asked for during it
+-- the vertical interrupt comes on the line after the display, and the Z80's is asked for during it
 unfoldable pub raised : ℕ → ℕ → Vdp → Vdp
 raised cycle number s = if number == height s.tall then record s { vertical = true; int_from = cycle; int_to = cycle + line } else s
 

@@ -8,7 +8,7 @@ use md_word::region::{frame_cycles, height, lines};
 /// The cycle in its line from which the horizontal blanking lasts.
 const H_BLANK: u64 = 2560;
 
-/// The line, in its frame, of a cycle: 0 to 261, on PAL to 312.
+/// The line, in its frame, of a master cycle: 0 to 261, on PAL to 312.
 #[inline]
 #[tactic(auto, unfolding(crate::specs::Lines::line_of))]
 pub fn line_of(cycle: u64, pal: bool) -> u32
@@ -19,7 +19,7 @@ pub fn line_of(cycle: u64, pal: bool) -> u32
     (cycle / LINE % lines(pal)) as u32
 }
 
-/// The frame of a cycle, from 0.
+/// The frame of a master cycle, from 0.
 #[inline]
 #[tactic(auto, unfolding(crate::specs::Lines::frame_of))]
 pub fn frame_of(cycle: u64, pal: bool) -> u64
@@ -37,8 +37,8 @@ pub fn hv(cycle: u64, wide: bool, pal: bool, tall: bool) -> u16
     (v_counter(cycle, pal, tall) * 256 + h_counter(cycle, wide)) as u16
 }
 
-/// Whether a cycle lies in the horizontal and in the vertical blanking: HB and VB of the status. With
-/// the display off it always lies in the vertical one.
+/// Whether a cycle is in the horizontal and in the vertical blanking: HB and VB of the status. With the
+/// display off it is always in the vertical one.
 #[tactic(auto, unfolding(crate::specs::Lines::h_blank, crate::specs::Lines::v_blank))]
 pub fn blank(cycle: u64, display: bool, pal: bool, tall: bool) -> (bool, bool)
     ensures h { result.0 ≡ meaning.h_blank cycle }
@@ -50,7 +50,7 @@ pub fn blank(cycle: u64, display: bool, pal: bool, tall: bool) -> (bool, bool)
     )
 }
 
-/// A counter that jumps: where it would come to `last`, it goes on from `again`.
+/// A counter that jumps: where it would reach `last`, it continues from `again`.
 #[tactic(auto, unfolding(crate::specs::Lines::jumping))]
 fn jumping(last: u32, again: u32, count: u32) -> u32
     requires again { again < 0x1_0000 }

@@ -9,10 +9,10 @@ use md_word::region::height;
 use vdp_ports::VdpState;
 use vdp_ports::register::{LINE_INTERVAL, MODE_2};
 
-/// The event of the line that begins at a cycle. That of line 0 first latches, on PAL, whether the
-/// display is tall. It counts down to the horizontal interrupt, and on the line behind the display
-/// raises the vertical one and asks for the Z80's during the line. The sprites' overflow and collision
-/// are not its business.
+/// The event of the line that begins at a master cycle. That of line 0 first latches, on PAL, whether the
+/// display is tall. It counts down to the horizontal interrupt, and on the line after the display
+/// raises the vertical one and asks for the Z80's during the line. It does not touch the sprites'
+/// overflow and collision. Source: Genesis Technical Overview, interrupts.
 #[tactic(auto, unfolding(crate::specs::Lines::line_started))]
 pub fn start_line(state: &mut VdpState, cycle: u64)
     requires { cycle ≤ 2 ^ 50 }
@@ -57,7 +57,7 @@ fn count_line(state: &mut VdpState, line: u32)
     state.line_counter = state.registers[LINE_INTERVAL];
 }
 
-/// Raises the vertical interrupts behind the display.
+/// Raises the vertical interrupts after the display.
 #[tactic(auto, unfolding(crate::specs::Lines::raised))]
 fn raise(state: &mut VdpState, cycle: u64, line: u32)
     requires { cycle ≤ 2 ^ 50 }

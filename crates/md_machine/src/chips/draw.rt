@@ -12,9 +12,10 @@ use md_word::{Entry, Next, NoMemory};
 use std::alloc::Global;
 use std::marker::Model;
 use std::sync::Arc;
-use vdp_ahead::{Sheet, Tray, draw_line_sprites};
+use vdp_ahead::{Sheet, Tray};
 use vdp_chip::{ChipVdp, clear_dots};
 use vdp_planes::{LineView, Scene, SpriteNote};
+use vdp_sprites::draw_line_sprites;
 use vdp_time::line_of;
 
 /// The drawing half of the VDP, chip 2: an access at each line. Between the two halves of an access it

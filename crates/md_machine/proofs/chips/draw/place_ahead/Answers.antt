@@ -1,7 +1,8 @@
 use Rattle.std.proofs.Common.{◌≡◌, ◌∙◌, ap, refl, ℕ, Bool}
 use Rattle.md_word.specs.declared.event.Next.{Next}
 use Rattle.vdp_time.specs.Lines.{line_of}
-use Rattle.vdp_ahead.specs.Lines.{note_on, row_on, sprites_on}
+use Rattle.vdp_sprites.specs.Lines.{note_on, sprites_on}
+use Rattle.vdp_ahead.specs.Lines.{row_on}
 use Rattle.md_machine.specs.LineLaws.{placed_drawn}
 use Rattle.md_machine.proofs.chips.draw.place_ahead.Goals as goal
 

@@ -7,7 +7,7 @@ use Rattle.bus_shared.specs.Saved.{lines_fields}
 use Rattle.bus_shared.specs.Spelling.{LinesGoWrongAt}
 use Rattle.bus_shared.proofs.SavedLaws.{lines_size}
 use Rattle.bus_shared.proofs.SpellingLaws.{behind_rule, place_is, psg_near, same_fault}
-use Rattle.bus_shared.proofs.spelling.ports_in.Goals as goal
+use Rattle.bus_shared.proofs.saved_ports.ports_in.Goals as goal
 
 pub returns-in-Err-clause-rule : goal.returns-in-Err-clause-rule
 returns-in-Err-clause-rule c = λ place e.

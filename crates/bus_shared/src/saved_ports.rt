@@ -1,0 +1,131 @@
+//! The ports of the sound chips, and the lines and the pads, read from a saved state.
+ghost use Rattle.std.specs.Prelude.{◌≡◌, ◌^◌, ◌≤◌, ℕ, length, drop, take, IfOk, IsErrOf};
+ghost use Rattle.fm_port.specs.PortSpelling as fm_spelling;
+ghost use Rattle.md_fields.specs.Items.{IsRight, Keeps};
+ghost use Rattle.psg_sound.specs.PortSpelling as psg_spelling;
+ghost use Rattle.psg_sound.specs.Port.{IsPort};
+ghost use Rattle.bus_shared.specs.Board.{IsFewFm};
+ghost use Rattle.bus_shared.specs.Saved.{lines_fields};
+ghost use Rattle.bus_shared.specs.Spelling.{PortsGoWrongAt, behind as place_behind};
+
+use crate::saved_lines::SavedLines;
+use fm_port::FmPort;
+use md_word::Unspell;
+use psg_sound::PsgPort;
+use std::alloc::Global;
+
+/// How many bytes keep the FM chip's port and the PSG's.
+const FM: usize = 12_316;
+
+const PSG: usize = 10_242;
+
+/// The ports of the sound chips, and the lines and the pads.
+#[derive(Drop)]
+pub(crate) struct Ports {
+    pub(crate) fm: Box<FmPort>,
+    pub(crate) psg: Box<PsgPort>,
+    pub(crate) lines: SavedLines,
+}
+
+/// An error whose offset is counted from a start, counted from the front.
+pub(crate) fn behind(start: u64, fault: Unspell) -> Unspell
+    requires start { start ≤ 2 ^ 32 }
+    requires near { (place : ℕ) → fault ≡ Unspell.Rule place → place ≤ 2 ^ 32 }
+    ensures { result ≡ place_behind start fault }
+{
+    match fault {
+        Unspell::Rule { place } => Unspell::Rule {
+            place: start + place,
+        },
+        Unspell::NoMemory => Unspell::NoMemory,
+    }
+}
+
+/// The FM chip's port that bytes keep, made in its place. `Rule` has the offset of the first invalid field;
+/// the only other error is out of memory.
+fn fm_in(alloc: Global, bytes: &[u8], at: u64) -> Result<Box<FmPort>, Unspell>
+    requires { at ≤ 2 ^ 50 }
+    ensures found { IfOk result (λ port. fm_spelling.SpellsPort at bytes.now port.value) }
+    ensures few { IfOk result (λ port. IsFewFm port.value.writes) }
+    ensures right { IfOk result (λ port. (place : ℕ) → fm_spelling.PortGoesWrongAt at bytes.now place → ⊥) }
+    ensures rule { (place : ℕ) → IsErrOf result (Unspell.Rule place) → fm_spelling.PortGoesWrongAt at bytes.now place }
+{
+    match Box::new(alloc, FmPort::power_on()) {
+        Ok(port) => restored_fm(port, bytes, at),
+        Err(_) => Err(Unspell::NoMemory),
+    }
+}
+
+/// A port that is made the one that bytes keep, with the errors of `fm_in`.
+fn restored_fm(port: Box<FmPort>, bytes: &[u8], at: u64) -> Result<Box<FmPort>, Unspell>
+    requires { at ≤ 2 ^ 50 }
+    ensures found { IfOk result (λ port. fm_spelling.SpellsPort at bytes.now port.value) }
+    ensures few { IfOk result (λ port. IsFewFm port.value.writes) }
+    ensures right { IfOk result (λ port. (place : ℕ) → fm_spelling.PortGoesWrongAt at bytes.now place → ⊥) }
+    ensures rule { (place : ℕ) → IsErrOf result (Unspell.Rule place) → fm_spelling.PortGoesWrongAt at bytes.now place }
+{
+    let mut port = port;
+    match port.restore(bytes, at) {
+        Ok(()) => Ok(port),
+        Err(fault) => Err(fault),
+    }
+}
+
+/// The PSG's port that bytes keep, made in its place. `Rule` has the offset of the first invalid field; the
+/// only other error is out of memory.
+fn psg_in(alloc: Global, bytes: &[u8], at: u64) -> Result<Box<PsgPort>, Unspell>
+    ensures found { IfOk result (λ port. psg_spelling.SpellsPort at bytes.now port.value) }
+    ensures port { IfOk result (λ port. IsPort port.value) }
+    ensures right { IfOk result (λ port. (place : ℕ) → psg_spelling.PortGoesWrongAt at bytes.now place → ⊥) }
+    ensures rule { (place : ℕ) → IsErrOf result (Unspell.Rule place) → psg_spelling.PortGoesWrongAt at bytes.now place }
+{
+    match Box::new(alloc, PsgPort::power_on()) {
+        Ok(port) => restored(port, bytes, at),
+        Err(_) => Err(Unspell::NoMemory),
+    }
+}
+
+/// A port that is made the one that bytes keep, with the errors of `psg_in`.
+fn restored(port: Box<PsgPort>, bytes: &[u8], at: u64) -> Result<Box<PsgPort>, Unspell>
+    ensures found { IfOk result (λ port. psg_spelling.SpellsPort at bytes.now port.value) }
+    ensures port { IfOk result (λ port. IsPort port.value) }
+    ensures right { IfOk result (λ port. (place : ℕ) → psg_spelling.PortGoesWrongAt at bytes.now place → ⊥) }
+    ensures rule { (place : ℕ) → IsErrOf result (Unspell.Rule place) → psg_spelling.PortGoesWrongAt at bytes.now place }
+{
+    let mut port = port;
+    match port.restore(bytes, at) {
+        Ok(()) => Ok(port),
+        Err(fault) => Err(fault),
+    }
+}
+
+/// The ports, and the lines and the pads, that 22,594 bytes keep. `Rule` has the offset of the first invalid
+/// field; the only other error is out of memory.
+pub(crate) fn ports_in(alloc: Global, bytes: &[u8], at: u64) -> Result<Ports, Unspell>
+    requires cycle { at ≤ 2 ^ 50 }
+    requires length { length bytes.now ≡ 22594 }
+    ensures fm { IfOk result (λ ports. fm_spelling.SpellsPort at (take 12316 bytes.now) ports.fm.value) }
+    ensures psg { IfOk result (λ ports. psg_spelling.SpellsPort at (take 10242 (drop 12316 bytes.now)) ports.psg.value) }
+    ensures few { IfOk result (λ ports. IsFewFm ports.fm.value.writes) }
+    ensures port { IfOk result (λ ports. IsPort ports.psg.value) }
+    ensures lines { IfOk result (λ ports. Keeps (lines_fields at) (drop 10242 (drop 12316 bytes.now)) ports.lines × IsRight (lines_fields at) ports.lines) }
+    ensures rule { (place : ℕ) → IsErrOf result (Unspell.Rule place)
+        → PortsGoWrongAt at 0 (take 12316 bytes.now) (take 10242 (drop 12316 bytes.now)) (drop 10242 (drop 12316 bytes.now)) place }
+{
+    let (fm, rest) = bytes.split_at(FM);
+    let fm = match fm_in(alloc, fm, at) {
+        Ok(fm) => fm,
+        Err(fault) => return Err(fault),
+    };
+    let (psg, rest) = rest.split_at(PSG);
+    let psg = match psg_in(alloc, psg, at) {
+        Ok(psg) => psg,
+        Err(fault) => return Err(behind(FM as u64, fault)),
+    };
+    match SavedLines::checked(rest, at) {
+        Ok(lines) => Ok(Ports { fm, psg, lines }),
+        Err(place) => Err(Unspell::Rule {
+            place: (FM + PSG + place) as u64,
+        }),
+    }
+}
