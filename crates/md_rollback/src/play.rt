@@ -49,7 +49,7 @@ pub(crate) fn resume<R: Replays>(
     requires buttons { All IsFrame (arc_value recording).frames }
     ensures { IfOk result (λ machine. IsPlayed (R.cart replays.now) (arc_value recording).frames frame machine) }
 {
-    recording_laws::later_frames_are_unread();
+    recording_laws::recordings::later_frames_are_unread();
     settled::settled_machines_are_reached();
     match replays.machine(alloc, bytes, recording) {
         Ok(machine) => {
@@ -68,7 +68,7 @@ fn exchange(machine: &mut Machine, recording: Arc<Recording>)
     requires buttons { All IsFrame (arc_value recording).frames }
     ensures { (cart : List ℕ) (frame : ℕ) → IsPlayedAlike cart (arc_value recording).frames frame machine.old → IsPlayed cart (arc_value recording).frames frame machine.new }
 {
-    recording_laws::later_frames_are_unread();
+    recording_laws::recordings::later_frames_are_unread();
     machine.set_recording(recording);
     laws::parts_are_valid(machine);
     processors::valid_machine(machine);

@@ -17,7 +17,7 @@ use md_machine::{Machine, laws};
 use md_pads::Recording;
 use md_reached::{saved, settling};
 use md_rollback::outcome_laws::rollback_laws;
-use state_laws::states_keep_one_machine;
+use state_laws::verdicts::states_keep_one_machine;
 use std::alloc::Global;
 
 /// What the laws of the machine say of the runs from where a machine is.
