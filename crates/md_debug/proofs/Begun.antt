@@ -15,7 +15,7 @@ use Rattle.md_machine.specs.Rules.{gap}
 use Rattle.md_machine.specs.ValidParts.{HasValidParts}
 use Rattle.md_machine.proofs.Joined.{ran-add}
 use Rattle.md_machine.proofs.Moves.{five-each}
-use Rattle.md_reached.specs.Paces.{ArePaced, IsPaced}
+use Rattle.machine_laws.specs.Paces.{ArePaced, IsPaced}
 use Rattle.md_debug.specs.Going.{begun_by, least_of}
 
 -- what is known of the runs of the five chips

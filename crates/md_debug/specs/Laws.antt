@@ -4,10 +4,10 @@ use Rattle.md_word.specs.declared.event.Entry.{Entry}
 use Rattle.md_machine.specs.Console.{Console, IsRunTo}
 use Rattle.md_machine.specs.Machines.{MachineValue}
 use Rattle.md_machine.specs.Media.{Media}
-use Rattle.md_reached.specs.Settling.{GoesOn}
+use Rattle.machine_laws.specs.Settling.{GoesOn}
 use Rattle.md_debug.specs.declared.script.Ending.{Ending}
 use Rattle.md_debug.specs.declared.script.Ending.TheVariants.{OutOfMemory}
-use Rattle.state_images.specs.Images.{HasImage, ImagesValue, settled_of}
+use Rattle.state_laws.specs.Images.{HasImage, ImagesValue, settled_of}
 use Rattle.md_debug.specs.Opened.{PlaysScript}
 
 pub record DebugLaws : Type 0 where

@@ -7,7 +7,7 @@ use Rattle.md_debug.specs.declared.script.Ending.{Ending}
 use Rattle.md_outer.specs.Outside.{SinkState}
 use Rattle.md_pads.specs.Recording.{no_frames}
 use Rattle.md_debug.specs.Sessions.{SessionValue}
-use Rattle.state_images.specs.Images.{ImagesValue, Keeps, first_of, image_of, size_of}
+use Rattle.state_laws.specs.Images.{ImagesValue, Keeps, first_of, image_of, size_of}
 
 -- the images of the machines of a cartridge on NTSC, of which no button is pressed
 abbrev pub images_with : List ℕ → ImagesValue

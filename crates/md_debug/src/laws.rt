@@ -9,7 +9,7 @@ ghost use Rattle.md_debug.specs.Going.{begun_by, least_of};
 
 use chip_core::laws;
 use md_machine::{MdChips, laws as machine_laws};
-use md_reached::writes::events_are_paced;
+use machine_laws::writes::events_are_paced;
 
 /// The next event of a machine that stands where a run may begin comes at its cycle or later, and no more
 /// than a line later.

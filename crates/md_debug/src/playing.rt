@@ -7,8 +7,8 @@ use md_outer::{Failed, Sink};
 use md_pads::Recording;
 use md_word::NoMemory;
 use rom_header::Cart;
-use state_images::StateImages;
-use state_images::laws::runs_have_images;
+use state_laws::StateImages;
+use state_laws::image_laws::runs_have_images;
 use std::alloc::Global;
 use std::sync::Arc;
 

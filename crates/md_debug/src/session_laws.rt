@@ -5,14 +5,14 @@ ghost use Rattle.md_word.specs.declared.event.Entry.{Entry};
 ghost use Rattle.md_machine.specs.Console.{Console, IsRunTo};
 ghost use Rattle.md_machine.specs.Machines.{MachineValue};
 ghost use Rattle.md_machine.specs.Media.{Media};
-ghost use Rattle.md_reached.specs.Settling.{GoesOn};
+ghost use Rattle.machine_laws.specs.Settling.{GoesOn};
 ghost use Rattle.md_debug.specs.declared.script.Ending.{Ending};
 ghost use Rattle.md_debug.specs.declared.script.Ending.TheVariants.{OutOfMemory};
-ghost use Rattle.state_images.specs.Images.{HasImage, ImagesValue, settled_of};
+ghost use Rattle.state_laws.specs.Images.{HasImage, ImagesValue, settled_of};
 ghost use Rattle.md_debug.specs.Laws.{DebugLaws};
 ghost use Rattle.md_debug.specs.Opened.{PlaysScript};
 
-use md_reached::settling::settled_machines_go_on;
+use machine_laws::settling::settled_machines_go_on;
 
 /// A script comes to one outcome alone, where memory is not wanting.
 pub fn scripts_have_one_outcome()

@@ -5,7 +5,7 @@ ghost use Rattle.md_rollback.specs.Images.{image_at};
 
 use md_machine::Machine;
 use md_word::NoMemory;
-use replays::Replays;
+use state_laws::Replays;
 use crate::KeptImages;
 use std::alloc::Global;
 use std::marker::Model;

@@ -11,7 +11,7 @@ use md_pads::Recording;
 use crate::Session;
 use md_word::NoMemory;
 use rom_header::Cart;
-use state_replays::StateReplays;
+use state_laws::StateReplays;
 use std::alloc::Global;
 use std::sync::Arc;
 

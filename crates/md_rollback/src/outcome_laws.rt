@@ -2,7 +2,7 @@
 //! ensure.
 
 ghost use Rattle.std.specs.Prelude.{◌≡◌, ◌≢◌, ℕ, List};
-ghost use Rattle.state_replays.specs.Kept.{MayBeKept};
+ghost use Rattle.state_laws.specs.Kept.{MayBeKept};
 ghost use Rattle.md_rollback.specs.Played.{KeepsReached};
 ghost use Rattle.md_rollback.specs.Laws.{RollbackLaws};
 ghost use Rattle.md_rollback.specs.Rolls.{ComesTo};
@@ -10,7 +10,7 @@ ghost use Rattle.md_rollback.specs.declared.rolled.Comes.{Comes};
 ghost use Rattle.md_rollback.specs.declared.rolled.Comes.TheVariants.{NoMemory};
 
 use md_machine::laws;
-use md_reached::saved;
+use machine_laws::saved;
 use crate::outcome_laws::confirmed_machines_stay;
 use crate::input_laws::expected_is_latest;
 

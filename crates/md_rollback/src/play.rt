@@ -12,10 +12,10 @@ use crate::images::Images;
 use crate::recording::shared_recording;
 use md_machine::{Machine, laws};
 use md_pads::Recording;
-use md_reached::{processors, saved};
+use machine_laws::{processors, saved};
 use md_word::NoMemory;
 use md_word::clock::FRAME;
-use replays::{ReplayFault, Replays, settled};
+use state_laws::{ReplayFault, Replays, settled};
 use std::alloc::Global;
 use std::sync::Arc;
 
@@ -49,7 +49,7 @@ pub(crate) fn resume<R: Replays>(
     requires buttons { All IsFrame (arc_value recording).frames }
     ensures { IfOk result (λ machine. IsPlayed (R.cart replays.now) (arc_value recording).frames frame machine) }
 {
-    recording_laws::recordings::later_frames_are_unread();
+    machine_laws::recordings::later_frames_are_unread();
     settled::settled_machines_are_reached();
     match replays.machine(alloc, bytes, recording) {
         Ok(machine) => {
@@ -68,7 +68,7 @@ fn exchange(machine: &mut Machine, recording: Arc<Recording>)
     requires buttons { All IsFrame (arc_value recording).frames }
     ensures { (cart : List ℕ) (frame : ℕ) → IsPlayedAlike cart (arc_value recording).frames frame machine.old → IsPlayed cart (arc_value recording).frames frame machine.new }
 {
-    recording_laws::recordings::later_frames_are_unread();
+    machine_laws::recordings::later_frames_are_unread();
     machine.set_recording(recording);
     laws::parts_are_valid(machine);
     processors::valid_machine(machine);

@@ -10,7 +10,7 @@ use crate::{Ending, play};
 use rom_header::Cart;
 use save_state::write;
 use sha2::{Digest, Sha256};
-use state_replays::StateReplays;
+use state_laws::StateReplays;
 use std::alloc::Global;
 use std::sync::Arc;
 

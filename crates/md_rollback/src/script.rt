@@ -11,7 +11,7 @@ ghost use Rattle.md_rollback.specs.Scripts as scripts;
 
 use crate::line_fault::LineFault;
 use crate::{AdvanceFault, InputFault, Session};
-use replays::Replays;
+use state_laws::Replays;
 use crate::{Line, Player, read_line};
 use text_lines::first_line;
 
