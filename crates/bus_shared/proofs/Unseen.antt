@@ -38,7 +38,7 @@ Kept = List ℕ × Marks
 abbrev kept_of : Vdp → Kept
 kept_of s = (s.registers, marks_of s)
 
-same-if : {A : Type 0} (f : Vdp → A) (b : Bool) (s t : Vdp) (x : A) → f s ≡ x → f t ≡ x → f (if b then s else t) ≡ x
+pub same-if : {A : Type 0} (f : Vdp → A) (b : Bool) (s t : Vdp) (x : A) → f s ≡ x → f t ≡ x → f (if b then s else t) ≡ x
 same-if f true s t x h k = h
 same-if f false s t x h k = k
 

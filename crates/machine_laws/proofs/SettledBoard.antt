@@ -23,7 +23,7 @@ use Rattle.vdp_ports.specs.Data.{accessed, transferred, written as data_written}
 use Rattle.vdp_ports.specs.Vdp.{Vdp}
 use Rattle.z80_parcel.specs.Parcels.{Store, is_ram, ram_place}
 use Rattle.z80_parcel.specs.Requests.{RequestValue80, ReadByte, WriteByte, HandOver, TakeBack, Byte}
-use Rattle.bus_shared.proofs.Unseen.{unseen}
+use Rattle.bus_shared.proofs.Unseen.{same-if, unseen}
 use Rattle.bus_shared.specs.Accesses.{SubOutcome, level_of, line_board, main_answer, main_board, main_told, main_transfer, main_value, main_cost, pads_board, psg_board, sub_access, sub_pins, taken_back, video_started, yielded}
 use Rattle.bus_shared.specs.Areas.{byte_at, byte_in, byte_written_at, byte_written_in, read_at, read_in, transfer_at, transfer_in, word_at, word_in, word_written_at, word_written_in}
 use Rattle.bus_shared.specs.Board.{Board}
@@ -41,10 +41,6 @@ use Rattle.bus_shared.specs.declared.register.Register.TheVariants.{Version, Dat
 use Rattle.machine_laws.proofs.SettledTimers.{timers-twice}
 
 -- ---- what settling leaves
-
-same-if : {A : Type 0} (f : Vdp → A) (b : Bool) (s t : Vdp) (x : A) → f s ≡ x → f t ≡ x → f (if b then s else t) ≡ x
-same-if f true s t x first second = first
-same-if f false s t x first second = second
 
 address-advanced : (n : ℕ) (v : List ℕ) (s : Vdp) → (advanced n v s).a ≡ s.a
 unfolding advanced moved finished

@@ -203,8 +203,5 @@ other_cart v cart bytes kept digest k g has ek ed ne e =
     let b : digest ≡ g = cc in
     record { version = v; has = has; kept_is = sym a ∙ ek; given_is = sym b ∙ ed; differ = λ same. ne (a ∙ same ∙ sym b) }
 
-pub told_other : (cart bytes kept digest k g : List ℕ) → kept ≡ part_of digest_part bytes → digest ≡ sha256 cart → IsOtherCart cart bytes k g → bad (OtherCart kept digest) ≡ bad (OtherCart k g)
-told_other cart bytes kept digest k g ek ed o = λ i. bad (OtherCart ((ek ∙ sym o.kept_is) i) ((ed ∙ sym o.given_is) i))
-
 pub same_cart : (cart bytes k g : List ℕ) → part_of digest_part bytes ≡ sha256 cart → IsOtherCart cart bytes k g → ⊥
 same_cart cart bytes k g d o = o.differ (o.kept_is ∙ d ∙ sym o.given_is)

@@ -188,13 +188,6 @@ byte_of false = refl
 pub holder_byte : (m : Console) (has : Bool) (byte : ℕ) → has ≡ is_some m.shared.store → byte ≡ bool_byte has → byte ∷ [] ≡ holder_of m ∷ []
 holder_byte m has byte h e = ap (λ (n : ℕ). n ∷ []) (e ∙ byte_of has ∙ ap (λ (b : Bool). if b then 1 else 0) h)
 
-flag_of : (b : Bool) → bool_byte b ≡ flag_number b
-flag_of true = refl
-flag_of false = refl
-
-pub region_byte : (m : Console) (pal : Bool) (byte : ℕ) → pal ≡ m.pal → byte ≡ bool_byte pal → byte ∷ [] ≡ flag_number m.pal ∷ []
-region_byte m pal byte h e = ap (λ (n : ℕ). n ∷ []) (e ∙ flag_of pal ∙ ap flag_number h)
-
 -- ---- lists behind one another
 
 seven_joined : (old a b c d e f g : List ℕ) → ((((((old ++ a) ++ b) ++ c) ++ d) ++ e) ++ f) ++ g ≡ old ++ (a ++ (b ++ (c ++ (d ++ (e ++ (f ++ g))))))
