@@ -49,7 +49,7 @@ use Rattle.machine_laws.proofs.Sounds.{Batch, Known, SoundMove, SoundOf, hears, 
 
 -- ---- moves as a port hears them
 
--- what is behind an access that its entry tells
+-- what is after an access that its entry reports
 hearing-told : (key : Key) (e : Entry) (old new : Board) → Tells key e old new → is_some new.store ≡ has_after e (is_some old.store) → hearing new ≡ after e (hearing old)
 hearing-told key e old new is has =
     λ i. record { request = is.request i; has = has i; first = is.takes.first i; second = is.takes.second i }
@@ -58,14 +58,14 @@ held-by : {A : Type 0} (p : PortOf A) (ws what : List A) (key : Key) → length 
 held-by p ws what key few (none is) = ap (held_all ws) is ∙ sym (append-nil ws) ∙ ap (λ l. ws ++ (l ++ [])) (sym is)
 held-by p ws what key few (one w is at right) = ap (held_all ws) is ∙ room-for ws w few ∙ ap (λ l. ws ++ (l ++ [])) (sym is)
 
--- what a port holds behind it
+-- what a port holds after it
 held-told : {A : Type 0} (p : PortOf A) (key : Key) (e : Entry) (old new : Board) → Tells key e old new → length (p.held old) ≤ 936
     → IsTold p.key p.right key (p.of key (told (hearing old) e) (hearing old)) → p.held new ≡ p.held old ++ (p.of e.key (told (hearing old) e) (hearing old) ++ [])
 held-told {A = A} p key e old new is few what =
     p.takes key (told (hearing old) e) old new is.takes ∙ held-by p (p.held old) _ key few what
     ∙ ap (λ (k : Key). p.held old ++ (p.of k (told (hearing old) e) (hearing old) ++ [])) (sym is.at)
 
--- what is told on the way from one machine to another reaches a port
+-- what is reported on the way from one machine to another reaches a port
 record Tell {A : Type 0} (p : PortOf A) (z : Console) (told : List Entry) (w : Console) : Type 0 where
   hears_is : hearing w.shared ≡ hears (hearing z.shared) told
   held : p.held w.shared ≡ p.held z.shared ++ heard_of p.of (hearing z.shared) told
@@ -117,7 +117,7 @@ line-hearing board cycle note =
     let leaves = left_by_line board cycle note in
     λ i. record { request = leaves.request i; has = is_some (leaves.store i); first = (leaves.fm i).first; second = (leaves.fm i).second }
 
--- where nothing is told a port gets nothing
+-- where nothing is reported a port gets nothing
 told-nothing : {A : Type 0} (p : PortOf A) (key : Key) (h : Hearing) → [] ≡ p.of key Nothing h ++ []
 told-nothing p key h = sym (append-nil (p.of key Nothing h) ∙ p.silent key h)
 

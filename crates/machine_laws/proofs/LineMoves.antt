@@ -182,7 +182,7 @@ ran-counts end m (suc n) valid below counts =
 
 -- ---- a run
 
--- no event of the 68000 stands below the cycle
+-- no event of the 68000 is below the cycle
 main-late : (at : ℕ) (m : Console) → IsQuiet at m → at ≤ m.main.next
 unfolding key_in next_of
 main-late at m quiet = quiet 0 (omega arith)

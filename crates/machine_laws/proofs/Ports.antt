@@ -33,7 +33,7 @@ use Rattle.machine_laws.specs.Paces.{ArePaced, IsPaced}
 use Rattle.machine_laws.proofs.Effects.{Takes, held_all, hearing, main-tells, sub_access-tells}
 use Rattle.machine_laws.proofs.Held.{AreHeld, few-held, held-later, held-left, held-main, held-sub, main_key, sub_key}
 
--- what an access tells a port: nothing, or a write of its key
+-- what an access reports to a port: nothing, or a write of its key
 pub data IsTold {A : Type 0} (key : A → Key) (right : A → Bool) (at : Key) (ws : List A) : Type 0 where
   none : ws ≡ [] → IsTold key right at ws
   one : (w : A) → ws ≡ w ∷ [] → key w ≡ at → right w ≡ true → IsTold key right at ws
@@ -123,7 +123,7 @@ fm_port = record {
 abbrev pub next_batch : Bool → Console → ℕ
 next_batch fm z = cond fm z.fm_cycle z.psg_cycle
 
--- what holds of a port in a machine whose events so far stand below `end`
+-- what holds of a port in a machine whose events so far are below `end`
 pub record PortHolds {A : Type 0} (p : PortOf A) (end : ℕ) (z : Console) : Type 0 where
   pub from : ℕ
   pub next : next_batch p.fm z ≡ from + 16128
@@ -140,7 +140,7 @@ not_before c d n k is = grind (arith, is)
 sub_before_main : (m s : ℕ) → key_lt (record { cycle = m; chip = 0 }) (record { cycle = s; chip = 1 }) ≡ false → s < m
 sub_before_main m s is = grind (arith, is)
 
--- who tells a reset
+-- who reports a reset
 pub main-for : (cycle : ℕ) (t : SoundAccess) → IsFor (main_key cycle) t
 main-for cycle (Psg value) = tt
 main-for cycle (Fm address value) = tt

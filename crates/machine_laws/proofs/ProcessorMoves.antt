@@ -224,7 +224,7 @@ psg_resets : (board : Board) (cycle : ℕ) → (psg_board board cycle).resets �
 unfolding psg_board
 psg_resets board cycle = refl
 
--- by a test that two machines stand behind
+-- a choice between two machines by a test
 pick : (P : Console → Type 0) (b : Bool) (x y : Console) → (b ≡ true → P x) → (b ≡ false → P y) → P (cond b x y)
 pick P true x y first second = first refl
 pick P false x y first second = second refl

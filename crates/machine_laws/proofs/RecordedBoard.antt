@@ -1,4 +1,4 @@
--- What an access tells, and what it leaves, where the recording is another.
+-- What an access reports, and what it leaves, where the recording is another.
 use Rattle.std.proofs.Common.{◌≡◌, ◌∙◌, refl, sym, ap, ℕ, ◌*◌, ◌/◌, ◌%◌, ◌==◌, Bool, true, false, if◌then◌else◌, List, Option, Some, None}
 use Rattle.md_word.specs.Region.{finished_at, frame_cycles}
 use Rattle.md_word.specs.Map.{area_of}
@@ -33,7 +33,7 @@ if-boards : (s : List Frame) (b : Bool) (p q x y : Board) → board_with s p ≡
 if-boards s true p q x y first second = first
 if-boards s false p q x y first second = second
 
--- ---- the 68000: what it is told
+-- ---- the 68000: what is reported to it
 
 space-byte : (s : List Frame) (c at : ℕ) (store : Option Store) (b : Board) → space_byte store (board_with s b) c at ≡ space_byte store b c at
 space-byte s c at None b = refl
@@ -189,7 +189,7 @@ main-with s b key (Word value) = refl
 
 -- ---- the Z80
 
--- what it is told, its entry, and the board
+-- what is reported to it, its entry, and the board
 pub record IsSame (s : List Frame) (one other : SubOutcome) : Type 0 where
   pub answer : other.answer ≡ one.answer
   pub entry : other.entry ≡ one.entry

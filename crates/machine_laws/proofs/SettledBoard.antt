@@ -1,4 +1,4 @@
--- What an access tells, and what it leaves, where fill, copy and the timers were settled before.
+-- What an access reports, and what it leaves, where fill, copy and the timers were settled before.
 use Rattle.std.proofs.Common.{◌≡◌, ◌∙◌, refl, sym, ap, ap₂, ℕ, ◌*◌, ◌/◌, ◌%◌, ◌≤◌, ◌==◌, ◌&&◌, nat_lt, nat_le, Bool, true, false, if◌then◌else◌, List, Option, Some, None, length, slice_index, le_refl}
 use Rattle.vdp_dma.proofs.Regions.{settled_region}
 use Rattle.md_word.specs.Region.{finished_at, frame_cycles}
@@ -146,7 +146,7 @@ chip-read-same : (e c at : ℕ) (b : Board) → e ≤ c → settled_board e (chi
 chip-read-same e c at b order =
     if-boards e (is_fm at) _ _ _ _ (with-port e b _ _ (ap (λ (t : Timers). record b.fm { timers = both_settled e t }) (timers-twice e c b.fm.timers order))) (again e b)
 
--- ---- the 68000: what it is told
+-- ---- the 68000: what is reported to it
 
 space-byte-same : (e c at : ℕ) (store : Option Store) (b : Board) → e ≤ c → space_byte store (settled_board e b) c at ≡ space_byte store b c at
 space-byte-same e c at None b order = refl
@@ -325,7 +325,7 @@ sub-pins-same e b =
     let same = (unseen e e b.vdp (le_refl e)).pins.interval_stays in
     ap₂ (λ (from to : ℕ). record { request = b.request; reset = b.reset; resets = b.resets; int_from = from; int_to = to }) same.from_stays same.to_stays
 
--- what it is told, its entry, and the board
+-- what is reported to it, its entry, and the board
 pub record IsSame (e : ℕ) (s t : SubOutcome) : Type 0 where
   pub answer : s.answer ≡ t.answer
   pub entry : s.entry ≡ t.entry

@@ -65,7 +65,7 @@ map_over : {Y : Type 0} (f : ℕ → Y) (xs ys : List ℕ) → map f (xs ++ ys) 
 map_over f [] ys = refl
 map_over f (x ∷ xs) ys = ap (λ l. f x ∷ l) (map_over f xs ys)
 
--- those up to a number, and those behind it
+-- those up to a number, and those after it
 pub map_both : {Y : Type 0} (f g : ℕ → Y) (n m : ℕ) → ((k : ℕ) → k < n → f k ≡ g k) → map f (range_with_len 0 n) ++ map (λ k. g (n + k)) (range_with_len 0 m) ≡ map g (range_with_len 0 (n + m))
 map_both f g n m same =
     let zero_is : n + 0 ≡ 0 + n = omega arith in
@@ -137,7 +137,7 @@ pub record SoundOf (A S Y : Type 0) : Type 0 where
   pub more : (x y : Media) → made (joined x y) ≡ made x ++ made y
   pub earlier : (low high k : ℕ) (history ws : List A) → IsInOrder (λ w. (port.key w).cycle) low high ws → 1008 * k ≤ low → at (history ++ ws) k ≡ at history k
 
--- what a move does to it: an access tells it something, or it makes a batch
+-- what a move does to it: an access reports something to it, or it makes a batch
 pub record Batch {A S Y : Type 0} (s : SoundOf A S Y) (z : Console) (i first : ℕ) (taken : List A) (history : List A) : Type 0 where
   pub made : s.made (rendered z i) ≡ map (λ k. s.at (history ++ taken) (first + k)) (range_with_len 0 16)
   pub chip : s.chip (moved z i) ≡ s.before (history ++ taken) (first + 16)

@@ -9,7 +9,7 @@ use Rattle.machine_laws.specs.Timers.{HasTimers}
 use Rattle.machine_laws.specs.Video.{HasVideo}
 use Rattle.machine_laws.specs.Writes.{HasWrites}
 
--- at a cycle below which no event stands: its parts are valid and have their rules there
+-- at a cycle below which no event is: its parts are valid and have their rules there
 pub record IsReached (at : ℕ) (m : Console) : Type 0 where
   pub start : IsStart (record { at = at; console = m })
   pub parts : HasValidParts m

@@ -21,7 +21,7 @@ with_recording recording m = record m { shared = record m.shared { recording = r
 abbrev pub frame_at : List Frame → ℕ → Frame
 frame_at frames f = unwrap_or (slice_get frames f) (0, 0)
 
--- at each line behind the picture, 224 or on PAL 240, that begins below a cycle, the pads take the same words
+-- at each line after the picture, 224 or on PAL 240, that begins below a cycle, the pads take the same words
 -- from both lists of frames
 abbrev pub AreAlikeBelow : Bool → ℕ → List Frame → List Frame → Type 0
 AreAlikeBelow pal end one other = (f : ℕ) → frame_cycles pal * f + finished_at pal < end → frame_at one f ≡ frame_at other f

@@ -21,8 +21,8 @@ pub fn lines_at_power_on()
     ensures { (cart : List ℕ) (recording : Recorded) (pal : Bool) (at : ℕ) → All IsFrame recording.frames → HasLines at (power_on cart recording pal) }
 {}
 
-/// A run to a cycle of at most 2^50 keeps them, from any machine of valid parts of which they hold at a
-/// cycle that is no later, and no event of which stands below that.
+/// A run to a cycle of at most 2^50 keeps them, from any machine of valid parts of which they hold at a cycle
+/// that is no later, and no event of which is below that.
 pub fn lines_of_runs()
     ensures { (m z : Console) (at end : ℕ) (entries : List Entry) (output : Media) → HasValidParts m → HasLines at m
         → IsQuiet at m → at ≤ end → end ≤ 2 ^ 50 → IsRunTo m end z entries output → HasLines end z }

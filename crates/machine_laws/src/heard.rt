@@ -11,7 +11,7 @@ use crate::writes::events_are_paced;
 use md_machine::laws;
 use rom_header::Cart;
 
-/// The levels of a run from power-on to a cycle are those of the sound generator over the writes that stand in
+/// The levels of a run from power-on to a cycle are those of the sound generator over the writes that are in
 /// its journal, as many as there are samples below the cycle.
 pub fn levels_are_heard(cart: &Cart)
     ensures { (recording : Recorded) (pal : Bool) (z : Console) (end : ℕ) (entries : List Entry) (output : Media) → end ≤ 2 ^ 50
@@ -24,7 +24,7 @@ pub fn levels_are_heard(cart: &Cart)
 }
 
 /// The samples of both sides of a run from power-on to a cycle are those of the FM chip over the writes and
-/// resets that stand in its journal, as many as there are samples below the cycle: a byte for a data address
+/// resets that are in its journal, as many as there are samples below the cycle: a byte for a data address
 /// goes to the register that was latched last.
 pub fn sides_are_heard(cart: &Cart)
     ensures { (recording : Recorded) (pal : Bool) (z : Console) (end : ℕ) (entries : List Entry) (output : Media) → end ≤ 2 ^ 50

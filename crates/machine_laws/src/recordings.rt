@@ -7,7 +7,7 @@ ghost use Rattle.md_machine.specs.Console.{Console, IsRunTo};
 ghost use Rattle.md_machine.specs.Media.{Media};
 ghost use Rattle.machine_laws.specs.Recorded.{AreAlikeBelow, with_frames};
 
-/// A run to a cycle reads of a recording only the frames whose line behind the picture, 224 or on PAL 240,
+/// A run to a cycle reads of a recording only the frames whose line after the picture, 224 or on PAL 240,
 /// begins below it: with other frames in its recording that have the same words there it has the same entries,
 /// frames and samples, and ends at the same machine but for them.
 pub fn later_frames_are_unread()

@@ -11,7 +11,7 @@ ghost use Rattle.machine_laws.specs.Settling.{GoesOn};
 
 use md_machine::laws;
 
-/// A move at the cycle or later tells and shows the same, and leaves the same once that is settled.
+/// A move at the cycle or later reports and shows the same, and leaves the same once that is settled.
 pub fn moves_see_no_settling()
     ensures moved { (m : Console) (at i : ℕ) → i < 5 → at ≤ (key_in m i).cycle
         → settled_console at (moved (settled_console at m) i) ≡ settled_console at (moved m i) }
@@ -19,7 +19,7 @@ pub fn moves_see_no_settling()
     ensures rendered { (m : Console) (at i : ℕ) → i < 5 → at ≤ (key_in m i).cycle → rendered (settled_console at m) i ≡ rendered m i }
 {}
 
-/// So from such a machine a run goes on as it would have: with the same entries, frames and samples, and to
+/// So from such a machine a run continues as it would have: with the same entries, frames and samples, and to
 /// the same machine but for what was settled.
 pub fn settled_machines_go_on()
     ensures { (m z : Console) (at end : ℕ) (entries : List Entry) (output : Media) → HasValidParts m → IsQuiet at m → at ≤ end → end ≤ 2 ^ 50

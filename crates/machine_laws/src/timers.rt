@@ -10,12 +10,12 @@ ghost use Rattle.md_machine.specs.Media.{Media};
 ghost use Rattle.md_machine.specs.Starts.{Start};
 ghost use Rattle.machine_laws.specs.Timers.{HasTimers};
 
-/// At power-on both timers stand still.
+/// At power-on both timers are stopped.
 pub fn power_on_has_timers()
     ensures { (cart : List ℕ) (recording : Recorded) (pal : Bool) (at : ℕ) → HasTimers at (power_on cart recording pal) }
 {}
 
-/// A run from a start whose timers stand as a saved state's do reaches a machine of which that holds too.
+/// A run from a start whose timers are as in a saved state reaches a machine of which that holds too.
 pub fn timers_are_kept()
     ensures { (start : Start) (z : Console) (end : ℕ) (entries : List Entry) (output : Media) → HasTimers start.at start.console → start.at ≤ end
         → IsRunTo start.console end z entries output → HasTimers end z }

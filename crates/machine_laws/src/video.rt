@@ -1,5 +1,5 @@
-//! The VDP and its drawing half in the machines that a run reaches: laws, as calls that do nothing and
-//! stand for what they ensure.
+//! The VDP and its renderer in the machines that a run reaches: laws, as calls that do nothing and stand for
+//! what they ensure.
 
 ghost use Rattle.std.specs.Prelude.{ℕ, Bool, ◌^◌, ◌≤◌, List};
 ghost use Rattle.md_pads.specs.Recording.{Recorded};
@@ -11,7 +11,7 @@ ghost use Rattle.md_machine.specs.Console.{Console, IsQuiet, IsRunTo, drawing_in
 ghost use Rattle.md_machine.specs.Media.{Media};
 ghost use Rattle.machine_laws.specs.Video.{HasVideo};
 
-/// At power-on the rules of the VDP and of its drawing half hold, at each cycle.
+/// At power-on the rules of the VDP and of its renderer hold, at each cycle.
 pub fn video_at_power_on()
     ensures { (cart : List ℕ) (recording : Recorded) (pal : Bool) (at : ℕ) → HasVideo at (power_on cart recording pal) }
 {}
@@ -27,14 +27,14 @@ pub fn vdp_may_be_kept()
     ensures { (at : ℕ) (m : Console) → HasVideo at m → vdps.IsSettled at (settled at m.shared.vdp) }
 {}
 
-/// And so may the drawing half, where no next event stands below the cycle: its bytes are read again.
+/// And so may the renderer, where no next event is below the cycle: its bytes are read again.
 pub fn drawing_may_be_kept()
     ensures ready { (at : ℕ) (m : Console) → HasVideo at m → IsQuiet at m → drawings.IsReady at (drawing_in m) }
     ensures spells { (at : ℕ) (m : Console) → at ≤ 2 ^ 50 → HasVideo at m → IsQuiet at m
         → drawings.Spells at m.pal (drawings.drawing_bytes (drawing_in m)) (drawing_in m) }
 {}
 
-/// They hold of each machine whose VDP and drawing half the bytes of a state at the cycle keep.
+/// They hold of each machine whose VDP and VDP renderer the bytes of a state at the cycle keep.
 pub fn video_of_states()
     ensures { (at : ℕ) (pal : Bool) (bytes drawn : List ℕ) (m : Console) → vdps.Spells at pal bytes m.shared.vdp
         → drawings.Spells at pal drawn (drawing_in m) → HasVideo at m }

@@ -48,8 +48,8 @@ pub fn writes_have_room()
     events_are_paced();
 }
 
-/// Writes are held so in each machine whose ports the bytes of a state at the cycle keep, where each write stands
-/// the gap of its processor before the next event of that processor.
+/// Writes are held so in each machine whose ports the bytes of a state at the cycle keep. There each write is
+/// earlier than the next event of its processor, by the gap of that processor at least.
 pub fn writes_of_states()
     ensures { (at : ℕ) (bytes pairs : List ℕ) (m : Console) → fm_port.SpellsPort at bytes m.shared.fm → psg_port.SpellsPort at pairs m.shared.psg
         → are_fm_early m.main.next m.sub.state.next m.shared.fm ≡ true → are_psg_early m.main.next m.sub.state.next m.shared.psg ≡ true

@@ -22,7 +22,7 @@ last_of_last n xs ys =
 pub latest_same : (xs : List ℕ) → length xs ≤ most_begun → xs ≡ latest (xs ++ [])
 latest_same xs few = sym (ap latest (append-nil xs) ∙ all_last most_begun xs few)
 
--- those of two runs behind one another
+-- those of two runs one after another
 pub latest_more : (start mid after first later : List ℕ) → mid ≡ latest (start ++ first) → after ≡ latest (mid ++ later) → after ≡ latest (start ++ (first ++ later))
 latest_more start mid after first later so_far next =
     next ∙ ap (λ (l : List ℕ). latest (l ++ later)) so_far ∙ last_of_last most_begun (start ++ first) later

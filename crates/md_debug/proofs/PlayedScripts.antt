@@ -1,4 +1,4 @@
--- A script comes to one outcome alone, where memory is not wanting.
+-- A script has one outcome alone, where memory suffices.
 use Rattle.std.proofs.Common.{◌≡◌, ◌≢◌, List, ℕ, ap}
 use Rattle.text_lines.specs.Lines.{lines_of}
 use Rattle.md_debug.specs.declared.script.Ending.{Ending}

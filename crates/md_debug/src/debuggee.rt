@@ -21,7 +21,7 @@ const MOST_BEGUN: usize = 256;
 /// The most bytes of output, on PAL: those of a frame's entries, which are more than its picture or its samples.
 const MOST_OUTPUT: usize = 1_001_600;
 
-/// A machine that goes on step by step, whose output nobody keeps.
+/// A machine that continues step by step, whose output nobody keeps.
 #[derive(Drop)]
 pub(crate) struct Debuggee {
     pub machine: Machine,
@@ -32,7 +32,7 @@ pub(crate) struct Debuggee {
 }
 
 impl Debuggee {
-    /// A machine of which no instruction was begun yet.
+    /// A machine of which no instruction was begun yet. It fails only when memory runs out.
     pub fn make(alloc: Global, machine: Machine) -> Result<Debuggee, NoMemory>
         requires start { IsStart (start_of machine) }
         requires drained { (machine.entries ≡ []) × (machine.media ≡ no_media) }
@@ -145,7 +145,7 @@ impl Debuggee {
         }
     }
 
-    /// Does all events below a cycle behind the machine's own.
+    /// Does all events below a cycle after the machine's own.
     fn go_to(&mut self, end: u64)
         requires ready { IsDebuggee self.old }
         requires later { self.old.machine.at < end }

@@ -1,4 +1,4 @@
-//! Laws on how the machine goes on, as calls that do nothing and stand for what they ensure.
+//! Laws on how the machine continues, as calls that do nothing and stand for what they ensure.
 
 ghost use Rattle.std.specs.Prelude.{◌≡◌, ℕ, ◌+◌, ◌<◌, ◌≤◌, option_to_list};
 ghost use Rattle.md_word.specs.Clock.{last_cycle, line};
@@ -11,8 +11,8 @@ use chip_core::laws;
 use md_machine::{MdChips, laws as machine_laws};
 use machine_laws::writes::events_are_paced;
 
-/// The next event of a machine that stands where a run may begin comes at its cycle or later, and no more
-/// than a line later.
+/// The next event of a machine that is where a run may begin comes at its cycle or later, and no more than a
+/// line later.
 pub(crate) fn least_is_near()
     ensures late { (start : Start) → IsStart start → start.at ≤ least_of start.console }
     ensures near { (start : Start) → IsStart start → least_of start.console ≤ start.at + line }

@@ -22,8 +22,8 @@ fn same_cart(cart: &Arc<Cart>) -> Result<Arc<Cart>, NoMemory>
     cart.clone()
 }
 
-/// The session of a cartridge at power-on of NTSC, which goes on a window of 1 to 16 frames beyond those that are
-/// confirmed.
+/// The session of a cartridge at power-on of NTSC, which goes a window of 1 to 16 frames beyond those that are
+/// confirmed. It fails only when memory runs out.
 pub fn session(
     alloc: Global,
     cart: Arc<Cart>,

@@ -1,5 +1,5 @@
-//! Laws of what scripts come to and of images that are saved states, as calls that do nothing and stand for what they
-//! ensure.
+//! Laws of the outcomes of scripts and of images that are saved states, as calls that do nothing and stand for
+//! what they ensure.
 
 ghost use Rattle.std.specs.Prelude.{◌≡◌, ◌≢◌, ℕ, List};
 ghost use Rattle.state_laws.specs.Kept.{MayBeKept};
@@ -21,7 +21,7 @@ pub fn states_may_be_kept()
     saved::reached_may_be_kept();
 }
 
-/// A script comes to one outcome alone, where memory is not wanting.
+/// A script has one outcome alone, where memory suffices.
 pub fn scripts_have_one_outcome()
     ensures { (cart : List ℕ) (window : ℕ) (text : List ℕ) (first second : Comes) → ComesTo cart window text first → ComesTo cart window text second
         → first ≢ NoMemory → second ≢ NoMemory → first ≡ second }

@@ -14,7 +14,8 @@ use state_laws::StateReplays;
 use std::alloc::Global;
 use std::sync::Arc;
 
-/// Obeys a script with a cartridge, from power-on of NTSC on.
+/// Obeys a script with a cartridge, from power-on of NTSC on. Its outcome is the first refused line, or what is
+/// reported of the last frame, or that memory ran out.
 pub fn run_script(alloc: Global, cart: Arc<Cart>, window: u32, script: &[u8]) -> Comes
     requires some { 1 ≤ window }
     requires most { window ≤ 16 }
@@ -34,7 +35,7 @@ pub fn run_script(alloc: Global, cart: Arc<Cart>, window: u32, script: &[u8]) ->
     }
 }
 
-/// What a session has come to.
+/// What is reported of a session. It fails only when memory runs out.
 fn last_frame(alloc: Global, session: &Session<StateReplays>) -> Result<Rolled, NoMemory>
     ensures { IfOk result (IsRolled session.now) }
 {

@@ -38,7 +38,7 @@ mark-long First = refl
 mark-long Second = refl
 mark-long Third = refl
 
--- bytes with a mark are long enough for it
+-- bytes with a magic are long enough for it
 marked-long : (v : Version) (bytes : List ℕ) → part_of mark_part bytes ≡ mark_of v → 8 ≤ length bytes
 marked-long v bytes e = omega (arith, ap length e ∙ mark-long v, length-take 8 (drop 0 bytes), length-drop 0 bytes)
 
@@ -69,7 +69,7 @@ migrated-first : (bytes : List ℕ) → migrated First bytes ≡ mark ++ (take 4
 unfolding migrated from_first
 migrated-first bytes = refl
 
--- what stands behind the picture's rows of the first version
+-- what follows the picture's scanlines of the first version
 rows-behind-long : (bytes : List ℕ) → length bytes ≡ 378240 → length (replicate 15360 0 ++ (drop 354881 bytes ++ replicate 18 0)) ≡ 38737
 rows-behind-long bytes long =
     let rows = length-append (replicate 15360 0) (drop 354881 bytes ++ replicate 18 0) in

@@ -36,8 +36,8 @@ pub trait Replays: Drop {
     fn image_size(&self) -> usize
         ensures { result ≡ size self.now };
 
-    /// Appends the image of a machine. There is room for it, and for as much in `apart`, which is used meanwhile. The
-    /// image of a machine that may be kept is read back.
+    /// Appends the image of a machine, without taking memory: there is room for it, and for as much in `apart`,
+    /// which is used meanwhile. The image of a machine that may be kept is read back.
     fn spell(&self, machine: &Machine, apart: &mut Vec<u8>, into: &mut Vec<u8>)
         requires cart { machine.now.console.cart ≡ cart self.now }
         requires cycle { machine.now.at ≤ last_cycle }
@@ -49,7 +49,8 @@ pub trait Replays: Drop {
         ensures room { vec_capacity into.old ≤ vec_capacity into.new }
         ensures apart { vec_capacity apart.old ≤ vec_capacity apart.new };
 
-    /// The machine that an image keeps, with this recording.
+    /// The machine that an image keeps, with this recording. It fails with `Form` where the bytes are no image,
+    /// and else only when memory runs out.
     fn machine(
         &self,
         alloc: Global,

@@ -15,7 +15,7 @@ ghost use Rattle.machine_laws.specs.Recorded.{with_recording};
 
 use md_machine::laws;
 
-/// From two machines that differ only in what was settled below a cycle runs go on alike: with the same
+/// From two machines that differ only in what was settled below a cycle runs continue alike: with the same
 /// entries, frames and samples, and to machines that differ in that alone.
 pub fn alike_machines_go_on()
     ensures { (m w z : Console) (at end : ℕ) (entries : List Entry) (output : Media) → HasValidParts m → IsQuiet at m → at ≤ end → end ≤ 2 ^ 50

@@ -16,7 +16,7 @@ use std::marker::Model;
 use std::sync::Arc;
 
 /// The images of the machines of a cartridge and a recording of the pads: their saved states, and that of
-/// power-on, which is none. The digest of the cartridge is computed once.
+/// power-on, which is none. The digest of the cartridge and the image of power-on are computed once.
 #[derive(Drop)]
 pub struct StateImages {
     cart: Arc<Cart>,
@@ -40,7 +40,8 @@ impl Model for StateImages {
 }
 
 impl StateImages {
-    /// The images of the machines of this cartridge and this recording, and of the one at power-on in a region.
+    /// The images of the machines of this cartridge and this recording, and of the one at power-on in a region:
+    /// PAL, or NTSC. It fails only when memory runs out.
     pub fn make(
         alloc: Global,
         cart: Arc<Cart>,
@@ -62,7 +63,7 @@ impl StateImages {
         })
     }
 
-    /// The machine at power-on, which has an image.
+    /// The machine at power-on, which has an image. It fails only when memory runs out.
     pub fn first_machine(&self, alloc: Global) -> Result<Machine, NoMemory>
         ensures machine { IfOk result (λ machine. machine ≡ first_of self.now) }
         ensures own { HasImage self.now (first_of self.now) }

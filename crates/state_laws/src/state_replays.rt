@@ -44,7 +44,8 @@ impl StateReplays {
         StateReplays { cart, digest }
     }
 
-    /// The machine of power-on, where the bytes are its image.
+    /// The machine of power-on, where the bytes are its image. It fails with `Form` where they are not, and
+    /// else only when memory runs out.
     fn first(
         &self,
         alloc: Global,
