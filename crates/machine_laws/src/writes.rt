@@ -15,7 +15,7 @@ ghost use Rattle.machine_laws.specs.Paces.{ArePaced};
 ghost use Rattle.machine_laws.specs.Writes.{HasRoom, HasWrites, IsBeginning};
 
 use chip_core::laws;
-use md_machine::{Machine, MdChips, laws as machine_laws};
+use md_machine::{Machine, MdChips, laws as console_laws};
 
 /// In a run each chip that moves has the least key, and its next event comes its gap later, at least.
 pub fn events_are_paced()
@@ -62,8 +62,8 @@ pub fn no_write_is_lost(machine: &Machine)
     ensures { (cart bytes : List ℕ) (end n : ℕ) → let m = machine.now in let start : Start = record { at = m.at; console = m.console } in
         IsBeginning cart bytes start → m.at ≤ end → end ≤ 2 ^ 50 → AllBelow m.console end n → HasRoom (ran m.console n) }
 {
-    machine_laws::power_on_is_start();
-    machine_laws::parts_are_valid(machine);
+    console_laws::power_on_is_start();
+    console_laws::parts_are_valid(machine);
     power_on_has_writes();
     writes_of_states();
     writes_have_room();

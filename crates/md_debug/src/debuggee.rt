@@ -10,7 +10,7 @@ ghost use Rattle.md_debug.specs.Going.{GoesTo, RunsTo, Steps, StepsOnce, drained
 
 use crate::laws;
 use circular_buffer::HeapCircularBuffer;
-use md_machine::{Machine, laws as machine_laws};
+use md_machine::{Machine, laws as console_laws};
 use md_word::NoMemory;
 use md_word::clock::LAST_CYCLE;
 use std::alloc::Global;
@@ -78,7 +78,7 @@ impl Debuggee {
         ensures begun { self.new.begun ≡ self.old.begun }
         ensures ready { IsDebuggee self.new }
     {
-        machine_laws::run_ends_at_start();
+        console_laws::run_ends_at_start();
         self.machine.alone(to);
         self.forget_output();
     }
@@ -91,7 +91,7 @@ impl Debuggee {
     {
         laws::least_is_near();
         laws::one_begins();
-        machine_laws::parts_are_valid(&self.machine);
+        console_laws::parts_are_valid(&self.machine);
         let begins = self.machine.begins();
         let least = self.machine.least();
         self.reach(least + 1);

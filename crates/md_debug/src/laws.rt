@@ -8,8 +8,8 @@ ghost use Rattle.md_machine.specs.ValidParts.{HasValidParts};
 ghost use Rattle.md_debug.specs.Going.{begun_by, least_of};
 
 use chip_core::laws;
-use md_machine::{MdChips, laws as machine_laws};
 use machine_laws::writes::events_are_paced;
+use md_machine::{MdChips, laws as console_laws};
 
 /// The next event of a machine that is where a run may begin comes at its cycle or later, and no more than a
 /// line later.
@@ -17,7 +17,7 @@ pub(crate) fn least_is_near()
     ensures late { (start : Start) → IsStart start → start.at ≤ least_of start.console }
     ensures near { (start : Start) → IsStart start → least_of start.console ≤ start.at + line }
 {
-    machine_laws::mover_is_first();
+    console_laws::mover_is_first();
 }
 
 /// Of all events of the least cycle at most the first begins an instruction of the 68000.
@@ -27,6 +27,6 @@ pub(crate) fn one_begins()
 {
     laws::stages::<MdChips>();
     laws::limits::<MdChips>();
-    machine_laws::parts_stay_valid();
+    console_laws::parts_stay_valid();
     events_are_paced();
 }

@@ -1,8 +1,7 @@
 ghost use Rattle.std.specs.Prelude.{◌≡◌, IfOk, OnErr};
 ghost use Rattle.md_debug.specs.Opened.{PutsScript, StopsScript, images_with, opened};
 
-use crate::{Ending, play};
-use crate::Session;
+use crate::{Ending, Session, play};
 use md_outer::{Failed, Sink};
 use md_pads::Recording;
 use md_word::NoMemory;

@@ -11,12 +11,12 @@ ghost use Rattle.md_debug.specs.Going.{least_of};
 ghost use Rattle.md_debug.specs.Keeping.{KeepsMachines, image_in};
 ghost use Rattle.md_debug.specs.Sessions.{IsQuestion, IsWithinBounds, Keeps, Obeys, oldest_of, reply_to};
 
+use crate::KeptStates;
 use crate::debuggee::Debuggee;
 use crate::fault::{DebugFault, refused};
-use crate::KeptStates;
-use debug_text::{Command, read_command};
 use debug_text::{
-    address_reply, byte_reply, instruction_reply, put_cycle, register_reply, report_reply,
+    Command, address_reply, byte_reply, instruction_reply, put_cycle, read_command, register_reply,
+    report_reply,
 };
 use md_machine::Machine;
 use md_word::NoMemory;

@@ -3,10 +3,10 @@ ghost use Rattle.md_word.specs.Clock.{last_cycle};
 ghost use Rattle.save_state.specs.States.{settled_console};
 ghost use Rattle.md_rollback.specs.Images.{image_at};
 
+use crate::KeptImages;
 use md_machine::Machine;
 use md_word::NoMemory;
 use state_laws::Replays;
-use crate::KeptImages;
 use std::alloc::Global;
 use std::marker::Model;
 

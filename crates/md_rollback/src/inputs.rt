@@ -1,8 +1,8 @@
 ghost use Rattle.std.specs.Prelude.{◌≡◌, ◌≤◌, ◌<◌, ℕ, ◌^◌, ◌↔◌, Some, None, slice_set, IfOk, OnOk, OnErr, IsErrOf, Err};
 ghost use Rattle.md_rollback.specs.Inputs.{given, expected_frames, most_frames, no_words, AreInputs};
 
-use crate::input_fault::InputFault;
 use crate::frames::expected_frames;
+use crate::input_fault::InputFault;
 use crate::words::{first_missing, give, none_given};
 use md_word::NoMemory;
 use std::alloc::Global;

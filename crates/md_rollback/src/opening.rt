@@ -5,10 +5,10 @@ ghost use Rattle.md_machine.specs.Console.{power_on};
 ghost use Rattle.md_machine.specs.Media.{no_media};
 ghost use Rattle.md_rollback.specs.Inputs.{no_words};
 
+use crate::Session;
 use crate::outcome_laws::states_may_be_kept;
 use md_machine::Machine;
 use md_pads::Recording;
-use crate::Session;
 use md_word::NoMemory;
 use rom_header::Cart;
 use state_laws::StateReplays;

@@ -9,10 +9,10 @@ ghost use Rattle.md_rollback.specs.Rolls.{ComesTo};
 ghost use Rattle.md_rollback.specs.declared.rolled.Comes.{Comes};
 ghost use Rattle.md_rollback.specs.declared.rolled.Comes.TheVariants.{NoMemory};
 
-use md_machine::laws;
-use machine_laws::saved;
-use crate::outcome_laws::confirmed_machines_stay;
 use crate::input_laws::expected_is_latest;
+use crate::outcome_laws::confirmed_machines_stay;
+use machine_laws::saved;
+use md_machine::laws;
 
 /// Saved states keep the machines of power-on, and each that a run reaches.
 pub fn states_may_be_kept()

@@ -10,9 +10,9 @@ ghost use Rattle.md_rollback.specs.Played.{AreMade, IsImageOf, IsPlayed, IsPlaye
 
 use crate::images::Images;
 use crate::recording::shared_recording;
+use machine_laws::{processors, saved};
 use md_machine::{Machine, laws};
 use md_pads::Recording;
-use machine_laws::{processors, saved};
 use md_word::NoMemory;
 use md_word::clock::FRAME;
 use state_laws::{ReplayFault, Replays, settled};

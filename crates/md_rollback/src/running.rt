@@ -4,9 +4,8 @@ ghost use Rattle.md_rollback.specs.Rolls.{ComesTo, IsRolled};
 
 use crate::opening::session;
 use crate::rolled::{Comes, Rolled};
-use crate::Session;
+use crate::{Ending, Session, play};
 use md_word::NoMemory;
-use crate::{Ending, play};
 use rom_header::Cart;
 use save_state::write;
 use sha2::{Digest, Sha256};

@@ -10,9 +10,8 @@ ghost use Rattle.md_rollback.specs.Scripts.{IsFault, IsRefusedInput, Obeys, Play
 ghost use Rattle.md_rollback.specs.Scripts as scripts;
 
 use crate::line_fault::LineFault;
-use crate::{AdvanceFault, InputFault, Session};
+use crate::{AdvanceFault, InputFault, Line, Player, Session, read_line};
 use state_laws::Replays;
-use crate::{Line, Player, read_line};
 use text_lines::first_line;
 
 /// The outcome of a script.

@@ -10,12 +10,11 @@ ghost use Rattle.md_rollback.specs.Played.{IsMachineOf, KeepsReached};
 use crate::fault::AdvanceFault;
 use crate::images::Images;
 use crate::play::remake;
-use md_machine::Machine;
+use crate::{InputFault, Inputs, KeptImages, MOST_FRAMES, same_frames};
 use machine_laws::saved;
+use md_machine::Machine;
 use md_word::NoMemory;
 use state_laws::Replays;
-use crate::KeptImages;
-use crate::{InputFault, Inputs, MOST_FRAMES, same_frames};
 use std::alloc::Global;
 use std::marker::Model;
 

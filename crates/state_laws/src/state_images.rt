@@ -3,9 +3,9 @@ ghost use Rattle.std.specs.Arc.{arc_value};
 ghost use Rattle.md_pads.specs.Recording.{IsFrame};
 ghost use Rattle.state_laws.specs.Images.{HasImage, ImagesValue, first_of};
 
+use machine_laws::saved;
 use md_machine::Machine;
 use md_pads::Recording;
-use machine_laws::saved;
 use md_word::NoMemory;
 use page_ring::{ImageFault, Images};
 use rom_header::Cart;

@@ -4,10 +4,10 @@ ghost use Rattle.md_machine.specs.Console.{power_on};
 ghost use Rattle.md_machine.specs.Media.{no_media};
 ghost use Rattle.save_state.specs.States.{kept_bytes};
 
+use crate::{ReplayFault, Replays};
 use md_machine::Machine;
 use md_pads::Recording;
 use md_word::NoMemory;
-use crate::{ReplayFault, Replays};
 use rom_header::Cart;
 use save_state::laws::kept;
 use save_state::{LENGTH, StateFault, read_with, spell, write_with};
