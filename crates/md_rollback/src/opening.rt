@@ -11,16 +11,9 @@ use md_machine::Machine;
 use md_pads::Recording;
 use md_word::NoMemory;
 use rom_header::Cart;
-use state_laws::StateReplays;
+use state_laws::{StateReplays, same_cart};
 use std::alloc::Global;
 use std::sync::Arc;
-
-/// Another owner of the cartridge.
-fn same_cart(cart: &Arc<Cart>) -> Result<Arc<Cart>, NoMemory>
-    ensures { IfOk result (λ shared. arc_value shared ≡ arc_value cart.now) }
-{
-    cart.clone()
-}
 
 /// The session of a cartridge at power-on of NTSC, which goes a window of 1 to 16 frames beyond those that are
 /// confirmed. It fails only when memory runs out.

@@ -24,6 +24,19 @@ use Rattle.save_state.proofs.ReadLaws.{parts_of_state}
 use Rattle.save_state.proofs.VersionLaws.{newest_state}
 use Rattle.state_laws.specs.Kept.{IsFirst, IsKept, MayBeKept}
 
+-- ---- what `read` gives is a machine or a fault
+
+pub same-machine : (m w : MachineValue) → ◌≡◌ {A = Result MachineValue StateFault} (Ok m) (Ok w) → m ≡ w
+same-machine m w same = cc
+
+pub no-memory : (m : MachineValue) → ◌≡◌ {A = Result MachineValue StateFault} (Ok m) (Err faults.NoMemory) → ⊥
+no-memory m same = cc
+
+pub refused-read : (fault : StateFault) (m : MachineValue) → ◌≡◌ {A = Result MachineValue StateFault} (Err fault) (Ok m) → ⊥
+refused-read fault m same = cc
+
+-- ---- images with another recording
+
 -- a saved machine with another recording
 pub saved-with : (cart : List ℕ) (at : ℕ) (m : Console) (recording : Recorded) → IsSaved cart (record { at = at; console = m }) → IsSaved cart (record { at = at; console = with_recording recording m })
 saved-with cart at m recording is = record {
@@ -112,9 +125,7 @@ pub only-refused : (cart : List ℕ) (recording : Recorded) (bytes : List ℕ) (
     → (at : ℕ) (m : Console) → IsKept cart at m → bytes ≡ kept_bytes at m → r ≢ Err NoMemory → r ≡ Ok (read-with recording at m)
 only-refused cart recording bytes fault r state only at m (inl first) all memory = only-first cart recording bytes r only at m first all memory
 only-refused cart recording bytes fault r state only at m (inr saved) all memory =
-    absurd (refused-read fault _ (state (record { at = at; console = with_recording recording m }) (newest_state cart bytes _ (state-with cart at m recording bytes saved all)) refl)) where
-      refused-read : (fault : StateFault) (m : MachineValue) → ◌≡◌ {A = Result MachineValue StateFault} (Err fault) (Ok m) → ⊥
-      refused-read fault m same = cc
+    absurd (refused-read fault _ (state (record { at = at; console = with_recording recording m }) (newest_state cart bytes _ (state-with cart at m recording bytes saved all)) refl))
 
 -- where they are read as a state, they are not that of power-on
 pub only-read : (cart : List ℕ) (recording : Recorded) (bytes : List ℕ) (machine : MachineValue)
@@ -130,17 +141,11 @@ pub only-long : (cart : List ℕ) (bytes : List ℕ) (start : Start) → IsState
 only-long cart bytes start is at m (inl first) all = absurd (no-first cart bytes start is at m first all)
 only-long cart bytes start is at m (inr saved) all = newest-long cart bytes (record { at = at; console = m }) (record { saved = saved; all = all })
 
-pub same-machine : (m w : MachineValue) → ◌≡◌ {A = Result MachineValue StateFault} (Ok m) (Ok w) → m ≡ w
-same-machine m w same = cc
-
 -- what `read` says of a cartridge and a recording that are others' copies
 abbrev pub OnlyState : List ℕ → Recorded → List ℕ → Result MachineValue StateFault → Type 0
 OnlyState cart recording bytes r =
     (start : Start) → IsState cart bytes start → start.console.shared.recording ≡ recording → r ≢ Err faults.NoMemory
     → r ≡ Ok (record { at = start.at; console = start.console; entries = []; media = no_media })
-
-no-memory : (m : MachineValue) → ◌≡◌ {A = Result MachineValue StateFault} (Ok m) (Err faults.NoMemory) → ⊥
-no-memory m same = cc
 
 pub state-of : (cart own : List ℕ) (recording again : Recorded) (bytes : List ℕ) (m : MachineValue) → own ≡ cart → again ≡ recording → OnlyState own again bytes (Ok m)
     → (start : Start) → IsState cart bytes start → start.console.shared.recording ≡ recording → m ≡ record { at = start.at; console = start.console; entries = []; media = no_media }

@@ -4,6 +4,7 @@
 
 mod fault;
 pub mod image_laws;
+mod owners;
 mod replays;
 pub mod settled;
 mod state_images;
@@ -11,6 +12,7 @@ mod state_replays;
 pub mod verdicts;
 
 pub use fault::ReplayFault;
+pub use owners::same_cart;
 pub use replays::Replays;
 pub use state_images::StateImages;
 pub use state_replays::StateReplays;

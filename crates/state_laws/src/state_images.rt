@@ -1,8 +1,9 @@
-ghost use Rattle.std.specs.Prelude.{◌≡◌, ◌↔◌, All, IfOk, IsTrue};
+ghost use Rattle.std.specs.Prelude.{◌≡◌, All, IfOk};
 ghost use Rattle.std.specs.Arc.{arc_value};
 ghost use Rattle.md_pads.specs.Recording.{IsFrame};
 ghost use Rattle.state_laws.specs.Images.{HasImage, ImagesValue, first_of};
 
+use crate::owners::{is_same, same_cart, same_recording};
 use machine_laws::saved;
 use md_machine::Machine;
 use md_pads::Recording;
@@ -85,26 +86,6 @@ fn first_machine(
     let cart = same_cart(cart)?;
     let recording = same_recording(recording)?;
     Machine::power_on(alloc, cart, recording, pal)
-}
-
-/// Another owner of the cartridge.
-fn same_cart(cart: &Arc<Cart>) -> Result<Arc<Cart>, NoMemory>
-    ensures { IfOk result (λ same. arc_value same ≡ arc_value cart.now) }
-{
-    cart.clone()
-}
-
-/// Another owner of the recording.
-fn same_recording(recording: &Arc<Recording>) -> Result<Arc<Recording>, NoMemory>
-    ensures { IfOk result (λ same. arc_value same ≡ arc_value recording.now) }
-{
-    recording.clone()
-}
-
-fn is_same(image: &[u8], bytes: &[u8]) -> bool
-    ensures { IsTrue result ↔ (image.now ≡ bytes.now) }
-{
-    image == bytes
 }
 
 impl Images<Machine> for StateImages {

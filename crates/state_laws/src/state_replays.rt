@@ -1,9 +1,10 @@
-ghost use Rattle.std.specs.Prelude.{◌≡◌, ◌≢◌, ◌↔◌, ℕ, false, [], IfOk, IsTrue, Ok, Err};
+ghost use Rattle.std.specs.Prelude.{◌≡◌, ◌≢◌, ℕ, false, [], IfOk, Ok, Err};
 ghost use Rattle.std.specs.Arc.{arc_value};
 ghost use Rattle.md_machine.specs.Console.{power_on};
 ghost use Rattle.md_machine.specs.Media.{no_media};
 ghost use Rattle.save_state.specs.States.{kept_bytes};
 
+use crate::owners::{is_same, same_cart, same_recording};
 use crate::{ReplayFault, Replays};
 use md_machine::Machine;
 use md_pads::Recording;
@@ -65,26 +66,6 @@ impl StateReplays {
         }
         Err(ReplayFault::Form)
     }
-}
-
-/// Another owner of the cartridge.
-fn same_cart(cart: &Arc<Cart>) -> Result<Arc<Cart>, NoMemory>
-    ensures { IfOk result (λ shared. arc_value shared ≡ arc_value cart.now) }
-{
-    cart.clone()
-}
-
-/// Another owner of the recording.
-fn same_recording(recording: &Arc<Recording>) -> Result<Arc<Recording>, NoMemory>
-    ensures { IfOk result (λ shared. arc_value shared ≡ arc_value recording.now) }
-{
-    recording.clone()
-}
-
-fn is_same(image: &[u8], bytes: &[u8]) -> bool
-    ensures { IsTrue result ↔ (image.now ≡ bytes.now) }
-{
-    image == bytes
 }
 
 impl Replays for StateReplays {

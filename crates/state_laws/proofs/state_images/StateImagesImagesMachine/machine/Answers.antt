@@ -8,17 +8,9 @@ use Rattle.save_state.specs.Versions.{IsState}
 use Rattle.save_state.specs.declared.fault.StateFault.{StateFault}
 use Rattle.save_state.specs.declared.fault.StateFault.TheVariants as faults
 use Rattle.state_laws.specs.Images.{ImagesValue, drained, first, first_of, image_of, start_of}
+use Rattle.state_laws.proofs.StateLaws.{no-memory, refused-read, same-machine}
 use Rattle.state_laws.proofs.Machines.{none_read, only_first, only_read, state_has}
 use Rattle.state_laws.proofs.state_images.StateImagesImagesMachine.machine.Goals as goal
-
-same_machine : (a b : MachineValue) → ◌≡◌ {A = Result MachineValue StateFault} (Ok a) (Ok b) → a ≡ b
-same_machine a b is = cc
-
-was_read : (m : MachineValue) → ◌≡◌ {A = Result MachineValue StateFault} (Ok m) (Err faults.NoMemory) → ⊥
-was_read m is = cc
-
-never_read : (fault : StateFault) (m : MachineValue) → ◌≡◌ {A = Result MachineValue StateFault} (Err fault) (Ok m) → ⊥
-never_read fault m is = cc
 
 pub returns-then-is_same-clause-found : goal.returns-then-is_same-clause-found
 returns-then-is_same-clause-found c =
@@ -52,8 +44,8 @@ returns-in-Ok-clause-only c = λ m keeps memory.
     let recording : arc_value c.in_ok-recording.recording ≡ images.recording = c.in_ok-recording.ensures ∙ ap (λ (x : ImagesValue). x.recording) c.self.view_is in
     ap Ok (only_read images c.args.bytes.now c.in-Ok.machine m
     (λ start saved pads.
-    same_machine c.in-Ok.machine (drained start.at start.console)
-    (c.in-Ok.ensures.only start (subst (λ (l : List ℕ). IsState l c.args.bytes.now start) (sym cart) saved) (pads ∙ sym recording) (was_read c.in-Ok.machine)))
+    same-machine c.in-Ok.machine (drained start.at start.console)
+    (c.in-Ok.ensures.only start (subst (λ (l : List ℕ). IsState l c.args.bytes.now start) (sym cart) saved) (pads ∙ sym recording) (no-memory c.in-Ok.machine)))
     (λ all.
     let yes : c.is_same.result ≡ true =
     c.is_same.ensures.1 (c.as_slice.ensures.value ∙ c.self.invariant.first_is ∙ ap (λ (x : ImagesValue). image_of x (first_of x)) c.self.view_is ∙ sym all) in
@@ -68,7 +60,7 @@ returns-in-Err-Form-clause-only c = λ m keeps memory.
     let recording : arc_value c.in_ok-recording.recording ≡ images.recording = c.in_ok-recording.ensures ∙ ap (λ (x : ImagesValue). x.recording) c.self.view_is in
     absurd (none_read images c.args.bytes.now m
     (λ start saved pads.
-    never_read _ (drained start.at start.console)
+    refused-read _ (drained start.at start.console)
     (c.in-Err-Form.ensures.only start (subst (λ (l : List ℕ). IsState l c.args.bytes.now start) (sym cart) saved) (pads ∙ sym recording) (λ same. cc)))
     (λ all.
     let yes : c.is_same.result ≡ true =
@@ -84,7 +76,7 @@ returns-in-Err-OtherCart-clause-only c = λ m keeps memory.
     let recording : arc_value c.in_ok-recording.recording ≡ images.recording = c.in_ok-recording.ensures ∙ ap (λ (x : ImagesValue). x.recording) c.self.view_is in
     absurd (none_read images c.args.bytes.now m
     (λ start saved pads.
-    never_read _ (drained start.at start.console)
+    refused-read _ (drained start.at start.console)
     (c.in-Err-OtherCart.ensures.only start (subst (λ (l : List ℕ). IsState l c.args.bytes.now start) (sym cart) saved) (pads ∙ sym recording) (λ same. cc)))
     (λ all.
     let yes : c.is_same.result ≡ true =
