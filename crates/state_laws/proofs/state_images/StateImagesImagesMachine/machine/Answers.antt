@@ -1,12 +1,9 @@
-use Rattle.std.proofs.Common.{◌≡◌, ◌≢◌, List, ℕ, Result, Ok, Err, true, ap, sym, subst, ◌∙◌}
+use Rattle.std.proofs.Common.{◌≡◌, List, ℕ, Ok, true, ap, sym, subst, ◌∙◌}
 use Rattle.std.specs.Arc.{arc_value}
 use Rattle.std.specs.Prelude.{All}
 use Rattle.md_pads.specs.Recording.{IsFrame, Recorded}
 use Rattle.md_machine.specs.Machines.{MachineValue}
-use Rattle.md_machine.specs.Starts.{Start}
 use Rattle.save_state.specs.Versions.{IsState}
-use Rattle.save_state.specs.declared.fault.StateFault.{StateFault}
-use Rattle.save_state.specs.declared.fault.StateFault.TheVariants as faults
 use Rattle.state_laws.specs.Images.{ImagesValue, drained, first, first_of, image_of, start_of}
 use Rattle.state_laws.proofs.StateLaws.{no-memory, refused-read, same-machine}
 use Rattle.state_laws.proofs.Machines.{none_read, only_first, only_read, state_has}
