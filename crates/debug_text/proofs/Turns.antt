@@ -31,7 +31,7 @@ first_instruction : (rom ram : List ℕ) (at n : ℕ) → instruction_reply rom 
 unfolding instruction_reply
 first_instruction rom ram at n = refl
 
--- the text so far and the rest of the reply are together the reply, also behind one more instruction
+-- the text so far and the rest of the reply are together the reply, also after one more instruction
 pub one_more_instruction : (rom ram : List ℕ) (at next count n : ℕ) (all before after : List ℕ) → n < count
     → before ++ instruction_reply rom ram at (count - n) ≡ all → after ≡ before ++ instruction_line (instruction_at rom ram at) at
     → next ≡ bus_address (at + (instruction_at rom ram at).length) → after ++ instruction_reply rom ram next (count - (n + 1)) ≡ all

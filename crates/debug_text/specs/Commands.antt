@@ -21,7 +21,7 @@ is_seven_bit c = nat_lt c 128
 abbrev pub word_in : List ℕ → List ℕ
 word_in text = before_first is_blank text
 
--- what stands behind that blank, if there is one
+-- what follows that blank, if there is one
 abbrev pub behind : List ℕ → Option (List ℕ)
 behind text = if nat_lt (position_or_len is_blank text) (length text) then Some (after_first is_blank text) else None
 
@@ -37,7 +37,7 @@ number_in low high text = option_and_then (within low high) (option_and_then dec
 abbrev pub bus_address_in : List ℕ → Option ℕ
 bus_address_in word = option_map (λ at. at % 16777216) (address_of word)
 
--- an address, and how many items stand from there on
+-- an address, and how many items are from there on
 abbrev pub place_in : List ℕ → Option (ℕ × ℕ)
 place_in text = option_and_then (λ at. option_map (λ count. (at, count)) (number_in 1 256 (behind text))) (bus_address_in (word_in text))
 
@@ -50,7 +50,7 @@ abbrev pub bare : Command → Option (List ℕ) → Option Command
 bare command None = Some command
 bare command (Some text) = None
 
--- what a line with this word asks for, by what stands behind the word
+-- what a line with this word asks for, by what follows the word
 abbrev pub commanded : CommandWord → Option (List ℕ) → Option Command
 commanded words.Step text = option_map Step (number_in 1 1000000 text)
 commanded words.Run text = option_map RunTo (number_in 0 last_cycle text)

@@ -12,7 +12,7 @@ use Rattle.md_disasm.specs.Texts68.{text_of}
 abbrev pub cycle_reply : ℕ → List ℕ
 cycle_reply cycle = codes "at " ++ decimal cycle ++ codes "\n"
 
--- a data or address register: its name and its eight digits, each behind a space
+-- a data or address register: its name and its eight digits, each after a space
 unfoldable pub register_text : Regs → ℕ → List ℕ
 register_text regs n =
     marked_digit (if nat_lt n 8 then codes " d" else codes " a") (n % 8) (codes " ") ++ marked_long [] (register_of regs n) []
@@ -44,11 +44,11 @@ byte_reply rom ram at count = bytes_text rom ram at count ++ codes "\n"
 abbrev pub instruction_at : List ℕ → List ℕ → ℕ → Decoded
 instruction_at rom ram at = instruction_of (instruction_words at (memory_of rom ram))
 
--- an instruction behind its address
+-- an instruction after its address
 abbrev pub instruction_line : Decoded → ℕ → List ℕ
 instruction_line op at = marked_long [] at (codes " ") ++ text_of op at ++ codes "\n"
 
--- n instructions, each behind the one before it; addresses are those of the bus
+-- n instructions, each after the one before it; addresses are those of the bus
 unfoldable pub instruction_reply : List ℕ → List ℕ → ℕ → ℕ → List ℕ
 instruction_reply rom ram at zero = []
 instruction_reply rom ram at (suc n) =

@@ -26,7 +26,7 @@ pub enum Command {
 pub enum Misread {
     /// It begins with no command's word, or it has a byte that is not ASCII.
     UnknownWord,
-    /// A number is missing, stands too much, is no number or out of range.
+    /// A number is missing, is one too many, is no number or out of range.
     BadNumber,
 }
 

@@ -1,4 +1,4 @@
-//! The debugger's texts: the commands that lines spell, and the replies to them. No machine stands below it.
+//! The debugger's texts: the commands that lines spell, and the replies to them. No machine is below it.
 #![tactic(auto)]
 
 mod command;

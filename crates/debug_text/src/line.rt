@@ -17,7 +17,9 @@ const MOST: u32 = 256;
 /// The most steps of a line.
 const STEPS: u32 = 1_000_000;
 
-/// Reads a line of a script, without its line feed.
+/// Reads a line of a script, without its line feed. It fails with `UnknownWord` where the line has a byte that
+/// is not ASCII or begins with no command's word, and else with `BadNumber` where a number is missing, is one
+/// too many, is no number or is out of range.
 pub fn read_command(line: &str) -> Result<Command, Misread>
     ensures { result ≡ meaning.command_of line.now }
 {
@@ -50,7 +52,7 @@ pub fn word_in(text: &str) -> &str
     }
 }
 
-/// What stands behind the first blank of a text, if there is one.
+/// What follows the first blank of a text; `None` where it has no blank.
 pub fn behind(text: &str) -> Option<&str>
     ensures { option_copied result ≡ meaning.behind text.now }
 {
@@ -90,7 +92,8 @@ fn word_of(word: &str) -> Option<CommandWord>
     None
 }
 
-/// What a line with this word asks for, by what stands behind the word.
+/// What a line with this word asks for, by what follows the word. `None` where that is not the numbers that the
+/// word asks for, each in its range.
 fn commanded(word: CommandWord, text: Option<&str>) -> Option<Command>
     ensures { result ≡ meaning.commanded word (option_copied text.entry) }
 {
@@ -124,7 +127,7 @@ fn commanded(word: CommandWord, text: Option<&str>) -> Option<Command>
     }
 }
 
-/// A command without numbers.
+/// A command without numbers; `None` where anything follows its word.
 fn bare(command: Command, text: Option<&str>) -> Option<Command>
     ensures { result ≡ meaning.bare command (option_copied text.entry) }
 {
@@ -134,7 +137,7 @@ fn bare(command: Command, text: Option<&str>) -> Option<Command>
     }
 }
 
-/// The one number that a text is, within bounds.
+/// The one number that a text is; `None` where it is none, or out of bounds.
 fn number(low: u64, high: u64, text: Option<&str>) -> Option<u64>
     ensures { result ≡ meaning.number_in low high (option_copied text.entry) }
 {
@@ -157,7 +160,8 @@ fn short_number(low: u32, high: u32, text: Option<&str>) -> Option<u32>
     }
 }
 
-/// An address, and how many items stand from there on.
+/// An address, and how many items there are from there on, 1 to 256; `None` where the text is not the two, each
+/// with its digits and in its range.
 fn place(text: Option<&str>) -> Option<(u32, u32)>
     ensures { result ≡ option_and_then meaning.place_in (option_copied text.entry) }
 {

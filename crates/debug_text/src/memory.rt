@@ -43,7 +43,7 @@ fn instruction_word(rom: &[u8], ram: &[u8; 65536], address: u32) -> u16
     word_at(address % ADDRESSES, rom, ram)
 }
 
-/// The instruction that stands at an even address.
+/// The instruction at an even address.
 #[tactic(auto, unfolding(m68k_exec::specs::Access::Memory::instruction_words))]
 fn instruction_at(rom: &[u8], ram: &[u8; 65536], at: u32) -> Decoded
     requires even { at % 2 ≡ 0 }
@@ -61,7 +61,7 @@ fn instruction_at(rom: &[u8], ram: &[u8; 65536], at: u32) -> Decoded
     decode(&words)
 }
 
-/// Appends the line of the instruction that stands at an even address.
+/// Appends the line of the instruction at an even address. It fails only when memory runs out.
 fn put_instruction(alloc: Global, text: &mut String, op: &Decoded, at: u32) -> Result<(), NoMemory>
     ensures { Appends result (string_bytes text.old) (string_bytes text.new) (replies.instruction_line op.now at) }
 {
@@ -71,15 +71,15 @@ fn put_instruction(alloc: Global, text: &mut String, op: &Decoded, at: u32) -> R
     text.push_str("\n")
 }
 
-/// What stands before a byte of a reply, by its number.
+/// What is before a byte of a reply, by its number.
 fn gap(index: u32) -> &'static str
     ensures { result.now ≡ (if index == 0 then [] else codes " ") }
 {
     if index == 0 { "" } else { " " }
 }
 
-/// The reply with bytes as the 68000 sees them, from an address on: two digits each, with spaces
-/// between them.
+/// The reply with bytes as the 68000 sees them, from an address on: two digits each, with spaces between them.
+/// It fails only when memory runs out.
 pub fn byte_reply(
     alloc: Global,
     rom: &[u8],
@@ -99,8 +99,8 @@ pub fn byte_reply(
     Ok(text)
 }
 
-/// The reply with instructions from an even address on, each behind its address; the next one stands
-/// where it ends.
+/// The reply with instructions from an even address on, each after its address; the next one is where it ends.
+/// It fails only when memory runs out.
 pub fn instruction_reply(
     alloc: Global,
     rom: &[u8],

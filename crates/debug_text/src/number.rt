@@ -4,7 +4,7 @@ ghost use Rattle.std.specs.Char.{is_ascii_digit};
 ghost use Rattle.std.specs.List.{list_all};
 ghost use Rattle.debug_text.specs.Numbers.{address_of, decimal_of, is_address, is_decimal, is_hex_digit};
 
-/// A number of 1 to 20 decimal digits with a value below 2^64.
+/// A number of 1 to 20 decimal digits with a value below 2^64; `None` where the word is no such number.
 pub fn read_decimal(word: &str) -> Option<u64>
     ensures { result ≡ decimal_of word.now }
 {
@@ -15,7 +15,7 @@ pub fn read_decimal(word: &str) -> Option<u64>
     }
 }
 
-/// An address of 1 to 8 hexadecimal digits in lower case.
+/// An address of 1 to 8 hexadecimal digits in lower case; `None` where the word is none.
 pub(crate) fn read_address(word: &str) -> Option<u32>
     ensures { result ≡ address_of word.now }
 {

@@ -6,7 +6,8 @@ use md_disasm::{put_marked_digit, put_marked_long, put_marked_word};
 use md_word::{NoMemory, Regs};
 use std::alloc::Global;
 
-/// Appends the name of a data or address register and its value, each behind a space.
+/// Appends the name of a data or address register and its value, each after a space. It fails only when memory
+/// runs out.
 #[tactic(auto, unfolding(crate::specs::Replies::register_text))]
 fn put_register(text: &mut String, regs: &Regs, number: u8) -> Result<(), NoMemory>
     requires { number < 16 }
@@ -17,7 +18,7 @@ fn put_register(text: &mut String, regs: &Regs, number: u8) -> Result<(), NoMemo
     put_marked_long(text, "", regs.register(number), "")
 }
 
-/// Appends the names and values of the data and address registers.
+/// Appends the names and values of the data and address registers. It fails only when memory runs out.
 fn put_registers(text: &mut String, regs: &Regs) -> Result<(), NoMemory>
     ensures { Appends result (string_bytes text.old) (string_bytes text.new) (replies.registers_text regs.now 16) }
 {
@@ -27,8 +28,9 @@ fn put_registers(text: &mut String, regs: &Regs) -> Result<(), NoMemory>
     Ok(())
 }
 
-/// The reply with the registers of the 68000: the program counter, the status register, the data
-/// registers and the address registers, of which A7 is the active stack pointer.
+/// The reply with the registers of the 68000, hexadecimal: the program counter, the status register, the data
+/// registers and the address registers, of which A7 is the active stack pointer. It fails only when memory runs
+/// out.
 pub fn register_reply(alloc: Global, regs: &Regs) -> Result<String, NoMemory>
     ensures { IfOk result (λ text. string_bytes text ≡ replies.register_reply regs.now) }
 {

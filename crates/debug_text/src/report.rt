@@ -8,7 +8,7 @@ use md_word::{NoMemory, Regs};
 use serde_json::{Map, Value, put};
 use std::alloc::Global;
 
-/// Gives an object a key with a number.
+/// Gives an object a key with a number. It fails only when memory runs out.
 fn put_number(
     alloc: Global,
     object: &mut Map<String, Value>,
@@ -20,7 +20,8 @@ fn put_number(
     put(object, alloc, key, Value::from(value))
 }
 
-/// Gives an object the address registers, of which A7 is the active stack pointer.
+/// Gives an object the address registers, of which A7 is the active stack pointer. It fails only when memory
+/// runs out.
 fn put_addresses(
     alloc: Global,
     object: &mut Map<String, Value>,
@@ -39,7 +40,7 @@ fn put_addresses(
     Ok(())
 }
 
-/// Gives an object the data registers.
+/// Gives an object the data registers. It fails only when memory runs out.
 fn put_data(alloc: Global, object: &mut Map<String, Value>, regs: &Regs) -> Result<(), NoMemory>
     ensures { OnOk result (members_view object.new.entries ≡ reports.with_data regs.now (members_view object.old.entries)) }
 {
@@ -54,7 +55,8 @@ fn put_data(alloc: Global, object: &mut Map<String, Value>, regs: &Regs) -> Resu
     Ok(())
 }
 
-/// The cycle of the next event and the registers of the 68000 as an object of JSON.
+/// The cycle of the next event and the registers of the 68000 as an object of JSON. It fails only when memory
+/// runs out.
 fn report_value(alloc: Global, cycle: u64, regs: &Regs) -> Result<Value, NoMemory>
     ensures { IfOk result (λ value. view value ≡ reports.report cycle regs.now) }
 {
@@ -67,8 +69,8 @@ fn report_value(alloc: Global, cycle: u64, regs: &Regs) -> Result<Value, NoMemor
     Ok(Value::Object(object))
 }
 
-/// The reply with the cycle of the next event and the registers of the 68000 as JSON, on one line: the
-/// keys in the order of their bytes, the numbers in decimal.
+/// The reply with the cycle of the next event and the registers of the 68000 as JSON, on one line: the keys in
+/// the order of their bytes, the numbers in decimal. It fails only when memory runs out.
 pub fn report_reply(alloc: Global, cycle: u64, regs: &Regs) -> Result<String, NoMemory>
     ensures { IfOk result (λ text. string_bytes text ≡ reports.report_reply cycle regs.now) }
 {

@@ -5,7 +5,7 @@ use md_disasm::put_marked_long;
 use md_word::NoMemory;
 use std::alloc::Global;
 
-/// The reply with addresses, a line each.
+/// The reply with addresses, a line each. It fails only when memory runs out.
 pub fn address_reply(alloc: Global, addresses: &[u32]) -> Result<String, NoMemory>
     ensures { IfOk result (λ text. string_bytes text ≡ replies.address_reply addresses.now) }
 {

@@ -16,12 +16,12 @@ pub(crate) struct Parts {
     players: Players,
 }
 
-/// A step or a question: its first word, and what stands behind it.
+/// A step or a question: its first word, and what follows it.
 pub(crate) fn halves(text: &str) -> (&str, &str) {
     text.split_once(' ').unwrap_or((text, ""))
 }
 
-/// Two words or more: the first, and what stands behind it.
+/// Two words or more: the first, and what follows it.
 pub(crate) fn two(text: &str) -> Result<(&str, &str), RowError> {
     text.split_once(' ').ok_or(RowError::NoSuchLine)
 }

@@ -49,7 +49,7 @@ fn oldest(alloc: Global, states: &KeptStates) -> Result<String, RowError> {
     Ok(format!(in alloc; "{}", states.oldest())?)
 }
 
-/// The cycle of the oldest of the states that are kept behind pushes, `CYCLE:BYTES`, and drops, `-N`, and the first
+/// The cycle of the oldest of the states that are kept after pushes, `CYCLE:BYTES`, and drops, `-N`, and the first
 /// four bytes of each, the newest first.
 pub(crate) fn kept(alloc: Global, words: &str) -> Result<String, RowError> {
     let Ok(mut states) = KeptStates::make(alloc) else {

@@ -5,7 +5,7 @@ use md_rollback::{Line, Player, read_line};
 use row_lines::{RowError, bytes};
 use std::alloc::Global;
 
-/// What stands between quotes.
+/// What is between quotes.
 fn quoted(text: &str) -> Result<&str, RowError> {
     let rest = text.strip_prefix('"').ok_or(RowError::NoSuchLine)?;
     rest.strip_suffix('"').ok_or(RowError::NoSuchLine)

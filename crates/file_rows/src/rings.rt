@@ -6,7 +6,7 @@ use page_ring::{PAGE, PageRing};
 use row_lines::{RowError, number};
 use std::alloc::Global;
 
-/// The most states that are told.
+/// The most states that are reported.
 const MOST: u32 = 64;
 
 /// A state of two pages.
@@ -61,7 +61,7 @@ fn tell(text: &mut String, state: &[u8; 8192]) -> Result<(), RowError> {
     Ok(())
 }
 
-/// The states that a ring keeps, the newest first, or `none`; and behind them `..` where their number is another.
+/// The states that a ring keeps, the newest first, or `none`; and after them `..` where their number is another.
 fn told(alloc: Global, ring: &PageRing) -> Result<String, RowError>
     requires { ring.now.per_state ≡ 2 }
 {

@@ -1,4 +1,4 @@
--- Sessions that go on alike: they differ at most in output that their machines hold.
+-- Sessions that continue alike: they differ at most in output that their machines hold.
 use Rattle.std.proofs.Common.{◌≡◌, ℕ, ◌-◌, List, [], ◌∷◌, ◌++◌, length, get_or, take, drop, Result, Ok, Err, refl, sym, ap, ap₂, subst, ◌∙◌, arith}
 use Rattle.circular_buffer.specs.Buffer.{keep_last}
 use Rattle.md_debug.specs.Kept.{all_pages, padded, per_state}

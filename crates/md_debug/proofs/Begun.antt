@@ -15,7 +15,7 @@ use Rattle.md_machine.specs.Rules.{gap}
 use Rattle.md_machine.specs.ValidParts.{HasValidParts}
 use Rattle.md_machine.proofs.Joined.{ran-add}
 use Rattle.md_machine.proofs.Moves.{five-each}
-use Rattle.md_reached.specs.Paces.{ArePaced, IsPaced}
+use Rattle.machine_laws.specs.Paces.{ArePaced, IsPaced}
 use Rattle.md_debug.specs.Going.{begun_by, least_of}
 
 -- what is known of the runs of the five chips
@@ -45,7 +45,7 @@ zero_or : (n : ℕ) → (n ≡ 0) ⊎ (0 < n)
 zero_or zero = inl refl
 zero_or (suc n) = inr (omega arith)
 
--- behind the first move the next event of the 68000 comes later than the least cycle was
+-- after the first move the next event of the 68000 comes later than the least cycle was
 first_done : Known → (m : Console) (end n : ℕ) → end ≤ 2 ^ 50 → HasValidParts m → AllBelow m end n → 1 ≤ n → least_of m < (key_in (ran m 1) 0).cycle
 first_done known m end n small has below some =
     let own : AllBelow m end 1 = λ k within. below k (omega arith) in

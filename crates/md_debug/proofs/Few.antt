@@ -9,7 +9,7 @@ few_states per (oldest ∷ []) some = omega arith
 few_states per (newer ∷ (older ∷ states)) some =
     let others = few_states per (older ∷ states) (omega arith) in omega arith
 
--- so many there are behind a push
+-- so many there are after a push
 pub few_pushed : (pages per : ℕ) (old new : List (List ℕ)) (state : List ℕ) → IsPushed pages per old state new → per + length new ≤ pages + 1
 few_pushed pages per old new state pushed =
     let some : 0 < length new = rw pushed.states (omega arith) in

@@ -7,7 +7,7 @@ use Rattle.md_debug.specs.Kept.{all_pages, padded, per_state, state_size}
 use Rattle.md_debug.specs.Keeping.{AreImages, image_in}
 
 module _ (size : ℕ) (keeps : List ℕ → MachineValue → Type 0) where
-  -- the first of some states, with its cycle, and the first of the others behind it
+  -- the first of some states, with its cycle, and the first of the others after it
   images_first : (m : MachineValue) (state : List ℕ) (at count : ℕ) (states : List (List ℕ)) (cycles : List ℕ) → AreImages size keeps states cycles
       → count ≤ length states → keeps (image_in size state) m → m.at ≡ at → AreImages size keeps (state ∷ take count states) (at ∷ take count cycles)
   images_first m state at count states cycles are few kept stands = record {

@@ -10,9 +10,6 @@ all_last n xs few = ap (λ (k : ℕ). drop k xs) none where
   none : length xs - n ≡ 0
   none = omega arith
 
-few_last : (n : ℕ) (xs : List ℕ) → length (keep_last n xs) ≤ n
-few_last n xs = omega (arith, length-drop (length xs - n) xs)
-
 last_of_last : (n : ℕ) (xs ys : List ℕ) → keep_last n (keep_last n xs ++ ys) ≡ keep_last n (xs ++ ys)
 last_of_last n xs ys =
     let k : ℕ = length xs - n in
@@ -22,13 +19,10 @@ last_of_last n xs ys =
     ∙ drop-drop (length (drop k xs ++ ys) - n) k (xs ++ ys)
     ∙ ap (λ (j : ℕ). drop j (xs ++ ys)) sizes
 
-pub latest_few : (xs : List ℕ) → length (latest xs) ≤ most_begun
-latest_few = few_last most_begun
-
 pub latest_same : (xs : List ℕ) → length xs ≤ most_begun → xs ≡ latest (xs ++ [])
 latest_same xs few = sym (ap latest (append-nil xs) ∙ all_last most_begun xs few)
 
--- those of two runs behind one another
+-- those of two runs one after another
 pub latest_more : (start mid after first later : List ℕ) → mid ≡ latest (start ++ first) → after ≡ latest (mid ++ later) → after ≡ latest (start ++ (first ++ later))
 latest_more start mid after first later so_far next =
     next ∙ ap (λ (l : List ℕ). latest (l ++ later)) so_far ∙ last_of_last most_begun (start ++ first) later

@@ -1,4 +1,4 @@
--- How a session's machine goes on is one way alone, and so are the states that are kept.
+-- How a session's machine continues is one way alone, and so are the states that are kept.
 use Rattle.std.proofs.Common.{◌≡◌, ℕ, zero, suc, ◌<◌, ◌≤◌, ◌⊎◌, inl, inr, List, ◌∷◌, ◌++◌, take, refl, sym, ap, ap₂, subst, ◌∙◌, arith}
 use Rattle.std.proofs.lemmas.Bool.{cases_lt}
 use Rattle.md_machine.specs.Console.{AllBelow, Console, IsQuiet, key_in, mover, ran}
@@ -9,7 +9,7 @@ use Rattle.md_debug.specs.Going.{GoesTo, RunsTo, Steps, StepsOnce, arrives, begu
 
 -- ---- moves
 
--- behind the last move no other stands below the cycle
+-- after the last move no other is below the cycle
 few : (m z : Console) (end n moves : ℕ) → AllBelow m end n → IsQuiet end z → z ≡ ran m moves → n ≤ moves
 few m z end n moves below quiet is = elim (cases_lt moves n) [
   | inl more ↦ absurd (

@@ -1,4 +1,4 @@
--- Where the next event of a machine stands.
+-- Where the next event of a machine is.
 use Rattle.std.proofs.Common.{◌≡◌, ℕ, ◌+◌, ◌≤◌, refl, arith}
 use Rattle.md_machine.specs.Console.{Console, key_in, mover}
 use Rattle.md_machine.specs.Starts.{IsStart, Start, first_line}

@@ -16,7 +16,7 @@ use Rattle.md_machine.specs.Console.{Console, IsRunTo}
 use Rattle.md_machine.specs.Machines.{MachineValue}
 use Rattle.md_machine.specs.Media.{Media}
 use Rattle.md_debug.specs.Keeping.{KeepsMachines}
-use Rattle.state_images.specs.Images.{HasImage, ImagesValue, Keeps, drained, first_of, image_of, settled_of, size_of}
+use Rattle.state_laws.specs.Images.{HasImage, ImagesValue, Keeps, drained, first_of, image_of, settled_of, size_of}
 
 pub machines_kept : (images : ImagesValue)
     → ((images : ImagesValue) (m : MachineValue) (z : Console) (end : ℕ) (entries : List Entry) (output : Media) → HasImage images m → m.at ≤ end → end ≤ last_cycle

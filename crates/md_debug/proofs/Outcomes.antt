@@ -1,4 +1,4 @@
--- A script comes to one outcome alone, where memory is not wanting.
+-- A script has one outcome alone, where memory suffices.
 use Rattle.std.proofs.Common.{◌≡◌, ◌≢◌, ℕ, suc, ◌⊎◌, inl, inr, List, [], ◌∷◌, ◌++◌, length, Ok, add-one, refl, sym, ap, ap₂, subst, ◌∙◌}
 use Rattle.debug_text.specs.Commands.{command_of}
 use Rattle.debug_text.specs.declared.command.Command.{Command}
@@ -12,7 +12,7 @@ use Rattle.md_debug.proofs.Alike.{Alike, IsSpelledByStart, KeepOne, alike_self, 
 
 module _ {Images : Type 0} (size : Images → ℕ) (spelling : Images → MachineValue → List ℕ) (keeps : Images → List ℕ → MachineValue → Type 0)
     (spelled : IsSpelledByStart size spelling keeps) (keep : KeepOne size spelling keeps) where
-  -- a line of a number is the first that is refused, behind these replies
+  -- a line of a number is the first that is refused, after these replies
   RefusesAt : List (List ℕ) → SessionValue Images → List ℕ → ℕ → DebugFault → Type 0
   RefusesAt [] old replies number fault = ⊥
   RefusesAt (line ∷ lines) old replies number fault =
@@ -28,7 +28,7 @@ module _ {Images : Type 0} (size : Images → ℕ) (spelling : Images → Machin
   refuses_at (first ∷ before) after line old new replies fault so_far refused =
       inr (so_far.0, so_far.1, so_far.2, suc (length before), so_far.3, so_far.4, refuses_at before after line so_far.1 new so_far.2 fault so_far.5 refused, so_far.6, refl)
 
-  -- the machine behind a line that both obey
+  -- the machine after a line that both obey
   behind : (line : List ℕ) (command other : Command) (a b x y : SessionValue Images) → Alike a b → command_of line ≡ Ok command → command_of line ≡ Ok other
       → Obeys size spelling keeps a command x → Obeys size spelling keeps b other y → Alike x y × (reply_to command x ≡ reply_to other y)
   behind line command other a b x y same is is' obeys obeys' =

@@ -1,4 +1,4 @@
--- A script comes to one outcome alone, where memory is not wanting.
+-- A script has one outcome alone, where memory suffices.
 use Rattle.std.proofs.Common.{◌≡◌, ◌≢◌, List, ℕ, ap}
 use Rattle.text_lines.specs.Lines.{lines_of}
 use Rattle.md_debug.specs.declared.script.Ending.{Ending}
@@ -6,8 +6,8 @@ use Rattle.md_debug.specs.declared.script.Ending.TheVariants.{OutOfMemory}
 use Rattle.md_debug.specs.Opened.{PlaysScript, images_with, opened}
 use Rattle.md_debug.proofs.Outcomes.{one_outcome}
 use Rattle.md_machine.specs.Starts.{Start}
-use Rattle.state_images.specs.Images.{Keeps, drained, image_of, size_of}
-use Rattle.state_images.proofs.Machines.{keep_one}
+use Rattle.state_laws.specs.Images.{Keeps, drained, image_of, size_of}
+use Rattle.state_laws.proofs.Machines.{keep_one}
 
 pub one_script : (cart script first second : List ℕ) (ending other : Ending) → PlaysScript cart script first ending → PlaysScript cart script second other
     → ending ≢ OutOfMemory → other ≢ OutOfMemory → (first ≡ second) × (ending ≡ other)

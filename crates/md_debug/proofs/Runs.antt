@@ -1,4 +1,4 @@
--- How the debugger's machine goes on.
+-- How the debugger's machine continues.
 use Rattle.std.proofs.Common.{◌≡◌, ℕ, zero, suc, ◌+◌, ◌<◌, ◌≤◌, List, [], ◌++◌, Option, option_to_list, inl, inr, add-one, refl, sym, ap, subst, ◌∙◌, append-nil, append_assoc, arith, add-suc, add-zero}
 use Rattle.md_word.specs.Clock.{last_cycle}
 use Rattle.md_word.specs.declared.event.Entry.{Entry}
@@ -16,7 +16,7 @@ use Rattle.md_debug.specs.Keeping.{KeepsMachines}
 use Rattle.md_machine.specs.Movers.{mover-lt}
 use Rattle.md_debug.proofs.Latest.{latest_more, latest_same}
 
--- ---- runs behind one another
+-- ---- runs one after another
 
 begun-add : (m : Console) (a b : ℕ) → begun_by m (a + b) ≡ begun_by m a ++ begun_by (ran m a) b
 unfolding begun_by
@@ -27,7 +27,7 @@ begun-add m a (suc b) =
     ∙ ap (λ (z : Console). (begun_by m a ++ begun_by (ran m a) b) ++ option_to_list (begins_in z)) (ran-add m a b)
     ∙ append_assoc (begun_by m a) (begun_by (ran m a) b) (option_to_list (begins_in (ran (ran m a) b)))
 
--- a machine that goes on to a cycle, and from there to a later one, goes on to that
+-- a machine that continues to a cycle, and from there to a later one, continues to that
 pub goes_joined : (m w z : Console) (s t : ℕ) (first later : List ℕ) → s ≤ t → GoesTo m s w first → GoesTo w t z later → GoesTo m t z (first ++ later)
 goes_joined m w z s t first later within one two =
     let after : (j : ℕ) → j < two.moves → (key_in (ran m (one.moves + j)) (mover (ran m (one.moves + j)))).cycle < t = λ j below.
@@ -46,7 +46,7 @@ goes_joined m w z s t first later within one two =
           ∙ sym (begun-add m one.moves two.moves);
     }
 
--- a machine of which no event stands below a cycle is there
+-- a machine of which no event is below a cycle is there
 pub goes_nowhere : (m : Console) (end : ℕ) → IsQuiet end m → GoesTo m end m []
 unfolding ran begun_by
 goes_nowhere m end quiet = record { moves = 0; below = λ k before. absurd (omega (arith, before)); quiet = quiet; console = refl; begins = refl }
@@ -90,7 +90,7 @@ goes_once m z end entries output run is alone =
       begins = sym (alone run.moves below (some_moves m z (least_of m + 1) run.moves quiet run.console (omega arith)));
     }
 
--- ---- the debuggee goes on
+-- ---- the debuggee continues
 
 pub went_joined : (old mid new : Debuggee) (s t : ℕ) → s ≤ t → WentOn old s mid → WentOn mid t new → WentOn old t new
 went_joined old mid new s t within one two = record {
@@ -124,7 +124,7 @@ pub went_again : (old mid new : Debuggee) (t : ℕ) → WentOn old mid.machine.a
 went_again old mid new t one two within =
     subst (λ (n : ℕ). WentOn old n new) (sym two.at) (went_joined old mid new mid.machine.at t within one two)
 
--- the rest of the way, on which no event stands
+-- the rest of the way, on which no event is
 pub went_quietly : (old mid new : Debuggee) (end : ℕ) → WentOn old mid.machine.at mid → mid.machine.at ≤ end → end ≤ least_of mid.machine.console → new.machine.at ≡ end
     → (entries : List Entry) × ((output : Media) × IsRunTo mid.machine.console end new.machine.console entries output) → new.begun ≡ mid.begun → IsDebuggee new → WentOn old end new
 went_quietly old mid new end so_far within late at run kept ready =

@@ -40,7 +40,7 @@ refused_for session text line (Ok reply) is unknown number not_kept = tt
 refused_for session text line (Err fault) is unknown number not_kept = λ other.
     subst (λ (l : List ℕ). IsRefused session l fault) is (refused_by session text (Err fault) fault refl unknown number not_kept other)
 
--- a second text is put behind one that was put
+-- a second text is written after one that was written
 pub puts_more : {E F G : Type 0} (told : Type 0) (first second : List ℕ) (old mid new : SinkState) → PutsText {E = E} told first old mid (Ok tt)
     → PutsText {E = F} told second mid new (Ok tt) → PutsText {E = G} told (first ++ second) old new (Ok tt)
 puts_more told first second old mid new one two = record {

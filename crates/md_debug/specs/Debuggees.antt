@@ -9,8 +9,8 @@ use Rattle.md_debug.specs.declared.debuggee.Debuggee.{Debuggee}
 abbrev pub most_output : ℕ
 most_output = 1001600
 
--- the machine stands where a run may begin and holds no output, and there is room for the output of a
--- frame and for the instructions that are remembered
+-- the machine is where a run may begin and holds no output, and there is room for the output of a frame and
+-- for the instructions that are remembered
 pub record IsDebuggee (d : Debuggee) : Type 0 where
   pub start : IsStart (start_of d.machine)
   pub entries : d.machine.entries ≡ []

@@ -1,4 +1,4 @@
--- How the debugger's machine goes on, and the instructions that are begun on the way.
+-- How the debugger's machine continues, and the instructions that are begun on the way.
 use Rattle.std.specs.Prelude.{◌≡◌, ℕ, zero, suc, ◌+◌, ◌<◌, ◌≤◌, List, [], ◌++◌, option_to_list}
 use Rattle.circular_buffer.specs.Buffer.{keep_last}
 use Rattle.md_word.specs.Clock.{last_cycle}

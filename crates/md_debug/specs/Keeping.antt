@@ -11,12 +11,12 @@ use Rattle.md_debug.specs.Debuggees.{IsDebuggee}
 use Rattle.md_debug.specs.Going.{drained, start_of}
 use Rattle.md_debug.specs.declared.debuggee.Debuggee.{Debuggee}
 
--- the image that stands in whole pages
+-- the image that is in whole pages
 abbrev pub image_in : ℕ → List ℕ → List ℕ
 image_in size pages = take size pages
 
--- the machines that have images: each stands where a run may begin and holds no output, an image keeps
--- its cycle, and each machine that a run from one of them reaches has an image too
+-- the machines that have images: each is where a run may begin and holds no output, an image keeps its cycle,
+-- and each machine that a run from one of them reaches has an image too
 pub record KeepsMachines (is_own : MachineValue → Type 0) (read_back : MachineValue → MachineValue) : Type 0 where
   pub start : (m : MachineValue) → is_own m → IsStart (start_of m)
   pub near : (m : MachineValue) → is_own m → m.at ≤ last_cycle
@@ -26,7 +26,7 @@ pub record KeepsMachines (is_own : MachineValue → Type 0) (read_back : Machine
   pub runs : (m : MachineValue) (end : ℕ) (z : Console) (entries : List Entry) (output : Media) → is_own m → m.at ≤ end → end ≤ last_cycle
       → IsRunTo m.console end z entries output → is_own (drained (record { at = end; console = z }))
 
--- each of the states keeps a machine, which stands at its cycle
+-- each of the states keeps a machine, which is at its cycle
 pub record AreImages (size : ℕ) (keeps : List ℕ → MachineValue → Type 0) (states : List (List ℕ)) (cycles : List ℕ) : Type 0 where
   pub as_many : length cycles ≡ length states
   pub machine : (i : ℕ) → i < length states → (m : MachineValue) × (keeps (image_in size (get_or states i [])) m × (m.at ≡ get_or cycles i 0))

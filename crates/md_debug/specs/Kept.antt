@@ -14,7 +14,7 @@ per_state = 97
 abbrev pub state_size : ℕ
 state_size = per_state * 4096
 
--- an image in whole pages: zeros stand behind it
+-- an image in whole pages, followed by zeros
 abbrev pub padded : List ℕ → List ℕ
 padded image = image ++ replicate (state_size - length image) 0
 

@@ -1,4 +1,4 @@
--- A session of the debugger at power-on, and what a script comes to in it. This project's profile.
+-- A session of the debugger at power-on, and the outcome of a script in it. This project's profile.
 use Rattle.std.specs.Prelude.{ℕ, false, List, [], ◌∷◌}
 use Rattle.md_debug.specs.Kept.{padded}
 use Rattle.text_lines.specs.Lines.{lines_of}
@@ -7,7 +7,7 @@ use Rattle.md_debug.specs.declared.script.Ending.{Ending}
 use Rattle.md_outer.specs.Outside.{SinkState}
 use Rattle.md_pads.specs.Recording.{no_frames}
 use Rattle.md_debug.specs.Sessions.{SessionValue}
-use Rattle.state_images.specs.Images.{ImagesValue, Keeps, first_of, image_of, size_of}
+use Rattle.state_laws.specs.Images.{ImagesValue, Keeps, first_of, image_of, size_of}
 
 -- the images of the machines of a cartridge on NTSC, of which no button is pressed
 abbrev pub images_with : List ℕ → ImagesValue
@@ -23,18 +23,19 @@ opened images = record {
   begun = [];
 }
 
--- the lines of a script come to these replies and this ending, in the session at power-on of a cartridge
+-- the lines of a script have these replies and this outcome, in the session at power-on of a cartridge
 pub record PlaysScript (cart script : List ℕ) (replies : List ℕ) (ending : Ending) : Type 0 where
   pub after : SessionValue ImagesValue
   pub plays : Plays size_of image_of Keeps (lines_of script) (opened (images_with cart)) after replies ending
 
--- the lines of a script come to this ending there, and the replies to those that were obeyed were put
+-- the lines of a script have this outcome there, and the replies to those that were obeyed were written
 pub record PutsScript (told : Type 0) (cart script : List ℕ) (out out' : SinkState) (ending : Ending) : Type 0 where
   pub replies : List ℕ
   pub plays : PlaysScript cart script replies ending
   pub puts : PutsWhole told replies out out'
 
--- a reply to a line of a script could not be put there: the replies before it were put, and a front part of it
+-- a reply to a line of a script could not be written there: the replies before it were written, and a prefix of
+-- it
 pub record StopsScript (told : Type 0) (cart script : List ℕ) (out out' : SinkState) : Type 0 where
   pub after : SessionValue ImagesValue
   pub stops : StopsAtReply size_of image_of Keeps told (lines_of script) (opened (images_with cart)) after out out'

@@ -1,4 +1,4 @@
--- What a script comes to. This project's profile.
+-- The outcome of a script. This project's profile.
 use Rattle.std.specs.Prelude.{◌≡◌, ℕ, ◌+◌, ◌<◌, List, [], ◌∷◌, ◌++◌, length, Ok, Err}
 use Rattle.debug_text.specs.Commands.{command_of}
 use Rattle.debug_text.specs.declared.command.Command.{Command}
@@ -20,7 +20,7 @@ IsRefused session line faults.BadNumber = command_of line ≡ Err misread.BadNum
 IsRefused session line (faults.NotKept oldest) = (n : ℕ) × ((command_of line ≡ Ok (Back n)) × ((length session.states < n) × (oldest ≡ oldest_of session)))
 IsRefused session line faults.NoMemory = ⊥
 
--- the text was put whole
+-- the text was written whole
 abbrev pub PutsWhole : Type 0 → List ℕ → SinkState → SinkState → Type 0
 PutsWhole told text old new = PutsText {E = Unit {0}} told text old new (Ok tt)
 
@@ -42,7 +42,7 @@ module _ {Images : Type 0} (size : Images → ℕ) (spelling : Images → Machin
     pub obeyed : ObeysAll before old new replies
 
   -- how a script ends: each line was obeyed; or the line of a number, from 1 on, is the first that is refused, and
-  -- those before it were obeyed; or memory was wanting behind lines that were obeyed
+  -- those before it were obeyed; or memory ran out after lines that were obeyed
   abbrev pub Plays : List (List ℕ) → SessionValue Images → SessionValue Images → List ℕ → Ending → Type 0
   Plays lines old new replies Obeyed = ObeysAll lines old new replies
   Plays lines old new replies (Refused number fault) =
@@ -50,14 +50,14 @@ module _ {Images : Type 0} (size : Images → ℕ) (spelling : Images → Machin
       × (number ≡ length before + 1) × IsRefused new line fault
   Plays lines old new replies OutOfMemory = (before : List (List ℕ)) × (after : List (List ℕ)) × (mid : SessionValue Images) × ObeysFirst lines before after old mid replies
 
-  -- a script ended so, and the replies to the lines that were obeyed were put
+  -- a script ended so, and the replies to the lines that were obeyed were written
   pub record PutsReplies (told : Type 0) (lines : List (List ℕ)) (old new : SessionValue Images) (out out' : SinkState) (ending : Ending) : Type 0 where
     pub replies : List ℕ
     pub plays : Plays lines old new replies ending
     pub puts : PutsWhole told replies out out'
 
-  -- a reply could not be put: the lines before its own were obeyed and their replies put; then its line was obeyed,
-  -- the last one, and a front part of its reply was put
+  -- a reply could not be written: the lines before its own were obeyed and their replies written. Then its line
+  -- was obeyed, the last one, and a prefix of its reply was written
   pub record StopsAtReply (told : Type 0) (lines : List (List ℕ)) (old new : SessionValue Images) (out out' : SinkState) : Type 0 where
     pub before : List (List ℕ)
     pub line : List ℕ

@@ -37,7 +37,7 @@ module _ {Images : Type 0} (size : Images → ℕ) (spelling : Images → Machin
     pub states : IsPushed all_pages per_state old.states (padded (spelling old.images old.machine)) new.states
     pub cycles : new.cycles ≡ take (length new.states) (old.machine.at ∷ old.cycles)
 
-  -- a command that goes on keeps the machine first, and then begins these instructions
+  -- a command that continues keeps the machine first, and then begins these instructions
   pub record KeptAndWent (old new : SessionValue Images) (begun : List ℕ) : Type 0 where
     pub kept : Keeps old new
     pub begun_is : new.begun ≡ latest (old.begun ++ begun)

@@ -10,7 +10,7 @@ ghost use Rattle.md_debug.specs.Going.{GoesTo, RunsTo, Steps, StepsOnce, drained
 
 use crate::laws;
 use circular_buffer::HeapCircularBuffer;
-use md_machine::{Machine, laws as machine_laws};
+use md_machine::{Machine, laws as console_laws};
 use md_word::NoMemory;
 use md_word::clock::LAST_CYCLE;
 use std::alloc::Global;
@@ -21,7 +21,7 @@ const MOST_BEGUN: usize = 256;
 /// The most bytes of output, on PAL: those of a frame's entries, which are more than its picture or its samples.
 const MOST_OUTPUT: usize = 1_001_600;
 
-/// A machine that goes on step by step, whose output nobody keeps.
+/// A machine that continues step by step, whose output nobody keeps.
 #[derive(Drop)]
 pub(crate) struct Debuggee {
     pub machine: Machine,
@@ -32,7 +32,7 @@ pub(crate) struct Debuggee {
 }
 
 impl Debuggee {
-    /// A machine of which no instruction was begun yet.
+    /// A machine of which no instruction was begun yet. It fails only when memory runs out.
     pub fn make(alloc: Global, machine: Machine) -> Result<Debuggee, NoMemory>
         requires start { IsStart (start_of machine) }
         requires drained { (machine.entries ≡ []) × (machine.media ≡ no_media) }
@@ -78,7 +78,7 @@ impl Debuggee {
         ensures begun { self.new.begun ≡ self.old.begun }
         ensures ready { IsDebuggee self.new }
     {
-        machine_laws::run_ends_at_start();
+        console_laws::run_ends_at_start();
         self.machine.alone(to);
         self.forget_output();
     }
@@ -91,7 +91,7 @@ impl Debuggee {
     {
         laws::least_is_near();
         laws::one_begins();
-        machine_laws::parts_are_valid(&self.machine);
+        console_laws::parts_are_valid(&self.machine);
         let begins = self.machine.begins();
         let least = self.machine.least();
         self.reach(least + 1);
@@ -145,7 +145,7 @@ impl Debuggee {
         }
     }
 
-    /// Does all events below a cycle behind the machine's own.
+    /// Does all events below a cycle after the machine's own.
     fn go_to(&mut self, end: u64)
         requires ready { IsDebuggee self.old }
         requires later { self.old.machine.at < end }

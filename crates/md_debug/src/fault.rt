@@ -9,7 +9,7 @@ use md_word::NoMemory;
 pub enum DebugFault {
     /// It begins with no command's word, or it has a byte that is not ASCII.
     UnknownWord,
-    /// A number is missing, stands too much, is no number or out of range.
+    /// A number is missing, is one too many, is no number or out of range.
     BadNumber,
     /// Fewer states are kept than it goes back.
     NotKept {

@@ -38,7 +38,7 @@ impl Model for KeptStates {
     ghost invariant = { λ k. IsKept k.ring k.cycles.items (deque_capacity k.cycles) k.pages.items };
 }
 
-/// Puts an image into whole pages, with zeros behind it.
+/// Puts an image into whole pages, with zeros after it.
 fn fill(pages: &mut [u8], image: &[u8])
     requires { length image.now ≤ length pages.old }
     ensures { pages.new ≡ image.now ++ replicate (length pages.old - length image.now) 0 }
@@ -49,7 +49,7 @@ fn fill(pages: &mut [u8], image: &[u8])
 }
 
 impl KeptStates {
-    /// No states. All memory that they ever need is taken here.
+    /// No states. All memory that they ever need is taken here. It fails only when memory runs out.
     pub fn make(alloc: Global) -> Result<KeptStates, NoMemory>
         ensures { IfOk result (λ kept. (kept.states ≡ []) × (kept.cycles ≡ [])) }
     {
@@ -96,7 +96,7 @@ impl KeptStates {
         }
     }
 
-    /// Fetches the state that stands behind so many newer ones.
+    /// Fetches the state that follows so many newer ones.
     pub fn fetch(&mut self, newer: u32)
         requires { newer < length self.old.states }
         ensures { self.new ≡ record self.old { fetched = get_or self.old.states newer [] } }

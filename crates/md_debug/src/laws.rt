@@ -1,4 +1,4 @@
-//! Laws on how the machine goes on, as calls that do nothing and stand for what they ensure.
+//! Laws on how the machine continues, as calls that do nothing and stand for what they ensure.
 
 ghost use Rattle.std.specs.Prelude.{◌≡◌, ℕ, ◌+◌, ◌<◌, ◌≤◌, option_to_list};
 ghost use Rattle.md_word.specs.Clock.{last_cycle, line};
@@ -8,16 +8,16 @@ ghost use Rattle.md_machine.specs.ValidParts.{HasValidParts};
 ghost use Rattle.md_debug.specs.Going.{begun_by, least_of};
 
 use chip_core::laws;
-use md_machine::{MdChips, laws as machine_laws};
-use md_reached::writes::events_are_paced;
+use machine_laws::writes::events_are_paced;
+use md_machine::{MdChips, laws as console_laws};
 
-/// The next event of a machine that stands where a run may begin comes at its cycle or later, and no more
-/// than a line later.
+/// The next event of a machine that is where a run may begin comes at its cycle or later, and no more than a
+/// line later.
 pub(crate) fn least_is_near()
     ensures late { (start : Start) → IsStart start → start.at ≤ least_of start.console }
     ensures near { (start : Start) → IsStart start → least_of start.console ≤ start.at + line }
 {
-    machine_laws::mover_is_first();
+    console_laws::mover_is_first();
 }
 
 /// Of all events of the least cycle at most the first begins an instruction of the 68000.
@@ -27,6 +27,6 @@ pub(crate) fn one_begins()
 {
     laws::stages::<MdChips>();
     laws::limits::<MdChips>();
-    machine_laws::parts_stay_valid();
+    console_laws::parts_stay_valid();
     events_are_paced();
 }

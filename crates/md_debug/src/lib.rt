@@ -1,4 +1,4 @@
-//! The debugger: a session at a machine, which goes on and back by the lines of a script. Each line is obeyed
+//! The debugger: a session at a machine, which the lines of a script move forward and back. Each line is obeyed
 //! exactly as its command is defined, or refused, and a refused line leaves the session as it was.
 #![tactic(auto)]
 

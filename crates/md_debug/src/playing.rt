@@ -1,18 +1,18 @@
 ghost use Rattle.std.specs.Prelude.{◌≡◌, IfOk, OnErr};
 ghost use Rattle.md_debug.specs.Opened.{PutsScript, StopsScript, images_with, opened};
 
-use crate::{Ending, play};
-use crate::Session;
+use crate::{Ending, Session, play};
 use md_outer::{Failed, Sink};
 use md_pads::Recording;
 use md_word::NoMemory;
 use rom_header::Cart;
-use state_images::StateImages;
-use state_images::laws::runs_have_images;
+use state_laws::StateImages;
+use state_laws::image_laws::runs_have_images;
 use std::alloc::Global;
 use std::sync::Arc;
 
-/// A session of the debugger at power-on of these images, whose state is kept.
+/// A session of the debugger at power-on of these images, whose state is kept. It fails only when memory runs
+/// out.
 pub fn open(alloc: Global, images: StateImages) -> Result<Session<StateImages>, NoMemory>
     ensures { IfOk result (λ session. session ≡ opened images) }
 {
@@ -21,7 +21,8 @@ pub fn open(alloc: Global, images: StateImages) -> Result<Session<StateImages>, 
     Session::make(alloc, machine, images)
 }
 
-/// The images of the machines of a cartridge on NTSC, of which no button is pressed.
+/// The images of the machines of a cartridge on NTSC, of which no button is pressed. It fails only when memory
+/// runs out.
 fn images_with(alloc: Global, cart: Cart) -> Result<StateImages, NoMemory>
     ensures { IfOk result (λ images. images ≡ images_with cart) }
 {
@@ -30,7 +31,7 @@ fn images_with(alloc: Global, cart: Cart) -> Result<StateImages, NoMemory>
     StateImages::make(alloc, cart, recording, false)
 }
 
-/// The session of the debugger at power-on of a cartridge.
+/// The session of the debugger at power-on of a cartridge. It fails only when memory runs out.
 fn session_with(alloc: Global, cart: Cart) -> Result<Session<StateImages>, NoMemory>
     ensures { IfOk result (λ session. session ≡ opened (images_with cart)) }
 {
@@ -38,8 +39,9 @@ fn session_with(alloc: Global, cart: Cart) -> Result<Session<StateImages>, NoMem
     open(alloc, images)
 }
 
-/// Obeys the lines of a script one after another at power-on of a cartridge, up to the first one that is refused,
-/// and puts the reply to each before the next one is obeyed. Where a reply cannot be put, no further line is obeyed.
+/// Obeys the lines of a script one after another at power-on of a cartridge, up to the first one that is
+/// refused. The reply to each is written before the next one is obeyed. It fails where a reply cannot be
+/// written; then no further line is obeyed.
 pub fn play_script<S: Sink>(
     alloc: Global,
     cart: Cart,
@@ -55,7 +57,7 @@ pub fn play_script<S: Sink>(
     }
 }
 
-/// Plays it in a session.
+/// Plays it in a session. It fails where a reply cannot be written.
 fn played<S: Sink>(
     session: Session<StateImages>,
     script: &[u8],

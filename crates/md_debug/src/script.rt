@@ -12,19 +12,20 @@ use page_ring::Images;
 use std::str::from_utf8;
 use text_lines::first_line;
 
-/// How a script ends of which each reply is put.
+/// The outcome of a script, of which each reply is written.
 #[derive(Clone, Copy)]
 pub enum Ending {
     /// Each of its lines was obeyed.
     Obeyed,
     /// The line of this number, from 1 on, is refused.
     Refused(u64, DebugFault),
-    /// Memory was wanting.
+    /// Memory ran out.
     OutOfMemory,
 }
 
-/// Obeys the lines of a script one after another, up to the first one that is refused, and puts the reply to
-/// each before the next one is obeyed. Where a reply cannot be put, no further line is obeyed.
+/// Obeys the lines of a script one after another, up to the first one that is refused. The reply to each is
+/// written before the next one is obeyed. It fails where a reply cannot be written; then no further line is
+/// obeyed.
 pub fn play<I: Images<Machine>, S: Sink>(
     session: &mut Session<I>,
     script: &[u8],
@@ -50,7 +51,7 @@ pub fn play<I: Images<Machine>, S: Sink>(
     Ok(Ending::Obeyed)
 }
 
-/// How a script ends at a line that is not obeyed.
+/// The outcome of a script at a line that is not obeyed.
 fn ending_of(number: u64, fault: DebugFault) -> Ending
     ensures memory { fault ≡ DebugFault.NoMemory → result ≡ Ending.OutOfMemory }
     ensures refused { fault ≢ DebugFault.NoMemory → result ≡ Ending.Refused number fault }
@@ -63,7 +64,8 @@ fn ending_of(number: u64, fault: DebugFault) -> Ending
     }
 }
 
-/// Obeys a line, and returns its reply. After a fault the session is as before.
+/// Obeys a line, and returns its reply. It fails as `Session::obey` does, and where the bytes are no text; then
+/// the session is as before.
 fn obey<I: Images<Machine>>(session: &mut Session<I>, line: &[u8]) -> Result<Vec<u8>, DebugFault>
     ensures obeyed { IfOk result (λ reply. (command : Command) × ((command_of line.now ≡ Ok command) × (Obeys I.size I.spelling I.keeps session.old command session.new
         × (reply.items ≡ reply_to command session.new)))) }

@@ -11,12 +11,12 @@ ghost use Rattle.md_debug.specs.Going.{least_of};
 ghost use Rattle.md_debug.specs.Keeping.{KeepsMachines, image_in};
 ghost use Rattle.md_debug.specs.Sessions.{IsQuestion, IsWithinBounds, Keeps, Obeys, oldest_of, reply_to};
 
+use crate::KeptStates;
 use crate::debuggee::Debuggee;
 use crate::fault::{DebugFault, refused};
-use crate::KeptStates;
-use debug_text::{Command, read_command};
 use debug_text::{
-    address_reply, byte_reply, instruction_reply, put_cycle, register_reply, report_reply,
+    Command, address_reply, byte_reply, instruction_reply, put_cycle, read_command, register_reply,
+    report_reply,
 };
 use md_machine::Machine;
 use md_word::NoMemory;
@@ -27,8 +27,8 @@ use std::marker::Model;
 /// The most bytes of the reply to a command that moves the machine.
 const CYCLE_REPLY: usize = 24;
 
-/// A machine that goes on and back by commands, the states that it can go back to, and the instructions
-/// that were begun last.
+/// A machine that commands move forward and back, the states that it can go back to, and the instructions that
+/// were begun last.
 #[derive(Drop)]
 pub struct Session<I: Images<Machine>> {
     images: I,
@@ -49,8 +49,8 @@ impl<I: Images<Machine>> Model for Session<I> {
 }
 
 impl<I: Images<Machine>> Session<I> {
-    /// A session at a machine, whose state is kept. All its memory but that of images and replies is
-    /// taken here.
+    /// A session at a machine, whose state is kept. All its memory but that of images and replies is taken
+    /// here. It fails only when memory runs out.
     pub fn make(alloc: Global, machine: Machine, images: I) -> Result<Session<I>, NoMemory>
         requires own { I.is_own images machine }
         requires keeps { KeepsMachines (I.is_own images) (I.read_back images) }
@@ -74,8 +74,9 @@ impl<I: Images<Machine>> Session<I> {
         })
     }
 
-    /// Obeys a line of a script, without its line feed, and returns the reply. After a fault the session
-    /// is as before.
+    /// Obeys a line of a script, without its line feed, and returns the reply. It fails where the line is
+    /// misread, where it goes back further than states are kept, or when memory runs out. Then the session is
+    /// as before.
     pub fn obey(&mut self, line: &str) -> Result<Vec<u8>, DebugFault>
         ensures obeyed { IfOk result (λ reply. (command : Command) × ((command_of line.now ≡ Ok command) × (Obeys I.size I.spelling I.keeps self.old command self.new × (reply.items ≡ reply_to command self.new)))) }
         ensures fault { OnErr result (self.new ≡ self.old) }
@@ -89,7 +90,8 @@ impl<I: Images<Machine>> Session<I> {
         }
     }
 
-    /// Carries a command out, and returns the reply.
+    /// Carries a command out, and returns the reply. It fails where it goes back further than states are kept,
+    /// or when memory runs out.
     fn carry_out(&mut self, command: Command) -> Result<Vec<u8>, DebugFault>
         requires { IsWithinBounds command }
         ensures obeyed { IfOk result (λ reply. Obeys I.size I.spelling I.keeps self.old command self.new × (reply.items ≡ reply_to command self.new)) }
@@ -109,7 +111,7 @@ impl<I: Images<Machine>> Session<I> {
         }
     }
 
-    /// Keeps the state, and steps so many times.
+    /// Keeps the state, and steps so many times. It fails only when memory runs out.
     fn step(&mut self, count: u32) -> Result<Vec<u8>, NoMemory>
         ensures obeyed { IfOk result (λ reply. Obeys I.size I.spelling I.keeps self.old (commands.Step count) self.new) }
         ensures reply { IfOk result (λ reply. reply.items ≡ cycle_reply (least_of self.new.machine.console)) }
@@ -120,7 +122,7 @@ impl<I: Images<Machine>> Session<I> {
         Ok(self.with_cycle(reply))
     }
 
-    /// Keeps the state, and runs to a cycle.
+    /// Keeps the state, and runs to a cycle. It fails only when memory runs out.
     fn run_to(&mut self, end: u64) -> Result<Vec<u8>, NoMemory>
         requires { end ≤ last_cycle }
         ensures obeyed { IfOk result (λ reply. Obeys I.size I.spelling I.keeps self.old (commands.RunTo end) self.new) }
@@ -132,7 +134,7 @@ impl<I: Images<Machine>> Session<I> {
         Ok(self.with_cycle(reply))
     }
 
-    /// Keeps the state, and returns room for a reply.
+    /// Keeps the state, and returns room for a reply. It fails only when memory runs out.
     fn keep(&mut self) -> Result<Vec<u8>, NoMemory>
         ensures kept { IfOk result (λ reply. Keeps I.size I.spelling I.keeps self.old self.new) }
         ensures machine { self.new.machine ≡ self.old.machine }
@@ -158,7 +160,8 @@ impl<I: Images<Machine>> Session<I> {
         reply
     }
 
-    /// Goes back to one of the kept states.
+    /// Goes back to one of the kept states, 1 being the newest. It fails with `NotKept` where there are fewer,
+    /// and else only when memory runs out.
     fn back(&mut self, number: u64) -> Result<Vec<u8>, DebugFault>
         requires { 1 ≤ number }
         ensures obeyed { IfOk result (λ reply. Obeys I.size I.spelling I.keeps self.old (commands.Back number) self.new) }
@@ -175,7 +178,8 @@ impl<I: Images<Machine>> Session<I> {
         Ok(self.go_back(number as u32 - 1)?)
     }
 
-    /// Goes back to the state that was kept so many states before the newest.
+    /// Goes back to the state that was kept so many states before the newest. It fails only when memory runs
+    /// out.
     fn go_back(&mut self, newer: u32) -> Result<Vec<u8>, NoMemory>
         requires { newer < length self.old.states }
         ensures obeyed { IfOk result (λ reply. Obeys I.size I.spelling I.keeps self.old (commands.Back (newer + 1)) self.new) }
@@ -189,7 +193,7 @@ impl<I: Images<Machine>> Session<I> {
         Ok(self.with_cycle(reply))
     }
 
-    /// The machine that was kept so many states before the newest.
+    /// The machine that was kept so many states before the newest. It fails only when memory runs out.
     fn kept_machine(&mut self, newer: u32) -> Result<Machine, NoMemory>
         requires { newer < length self.old.states }
         ensures session { self.new ≡ self.old }
@@ -208,7 +212,7 @@ impl<I: Images<Machine>> Session<I> {
         }
     }
 
-    /// The reply to a command that leaves the session as it is.
+    /// The reply to a command that leaves the session as it is. It fails only when memory runs out.
     fn told(&self, command: Command) -> Result<Vec<u8>, NoMemory>
         requires { IsQuestion command }
         ensures { IfOk result (λ reply. reply.items ≡ reply_to command self.now) }
@@ -228,7 +232,8 @@ impl<I: Images<Machine>> Session<I> {
         Ok(reply.into_bytes())
     }
 
-    /// The reply with the addresses of so many of the instructions that were begun last.
+    /// The reply with the addresses of so many of the instructions that were begun last. It fails only when
+    /// memory runs out.
     fn trace(&self, count: u32) -> Result<String, NoMemory>
         ensures { IfOk result (λ text. string_bytes text ≡ address_reply (keep_last count self.now.begun)) }
     {

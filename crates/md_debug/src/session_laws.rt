@@ -5,23 +5,23 @@ ghost use Rattle.md_word.specs.declared.event.Entry.{Entry};
 ghost use Rattle.md_machine.specs.Console.{Console, IsRunTo};
 ghost use Rattle.md_machine.specs.Machines.{MachineValue};
 ghost use Rattle.md_machine.specs.Media.{Media};
-ghost use Rattle.md_reached.specs.Settling.{GoesOn};
+ghost use Rattle.machine_laws.specs.Settling.{GoesOn};
 ghost use Rattle.md_debug.specs.declared.script.Ending.{Ending};
 ghost use Rattle.md_debug.specs.declared.script.Ending.TheVariants.{OutOfMemory};
-ghost use Rattle.state_images.specs.Images.{HasImage, ImagesValue, settled_of};
+ghost use Rattle.state_laws.specs.Images.{HasImage, ImagesValue, settled_of};
 ghost use Rattle.md_debug.specs.Laws.{DebugLaws};
 ghost use Rattle.md_debug.specs.Opened.{PlaysScript};
 
-use md_reached::settling::settled_machines_go_on;
+use machine_laws::settling::settled_machines_go_on;
 
-/// A script comes to one outcome alone, where memory is not wanting.
+/// A script has one outcome alone, where memory suffices.
 pub fn scripts_have_one_outcome()
     ensures { (cart script first second : List ℕ) (ending other : Ending) → PlaysScript cart script first ending → PlaysScript cart script second other
         → ending ≢ OutOfMemory → other ≢ OutOfMemory → (first ≡ second) × (ending ≡ other) }
 {}
 
-/// A machine goes on from its kept state as it would have gone on: with the same entries, frames and samples, and
-/// to the same machine but for what is settled in a state.
+/// A machine continues from its kept state as it would have continued: with the same entries, frames and samples,
+/// and to the same machine but for what is settled in a state.
 pub fn kept_machines_go_on()
     ensures { (images : ImagesValue) (m : MachineValue) (z : Console) (end : ℕ) (entries : List Entry) (output : Media) → HasImage images m → m.at ≤ end → end ≤ 2 ^ 50
         → IsRunTo m.console end z entries output → GoesOn end (settled_of images m).console z entries output }

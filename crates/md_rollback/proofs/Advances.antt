@@ -6,7 +6,7 @@ use Rattle.md_pads.specs.Recording.{Frame, IsRecording, no_frames, recording_of}
 use Rattle.md_machine.specs.Console.{Console, journal, media_after, power_on, ran}
 use Rattle.md_machine.specs.Machines.{MachineValue}
 use Rattle.md_machine.specs.Media.{no_media}
-use Rattle.md_reached.specs.Reached.{IsReached}
+use Rattle.machine_laws.specs.Reached.{IsReached}
 use Rattle.md_rollback.specs.Images.{AreImagesBelow, Image, Kept, ReachBackTo, image_at}
 use Rattle.md_rollback.proofs.Below.{dropped-below, reach-behind, reach-dropped}
 use Rattle.md_rollback.specs.Inputs.{AreInputs, InputsValue, IsFixed, expected_frames, frame_at, most_frames}

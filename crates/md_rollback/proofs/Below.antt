@@ -4,7 +4,7 @@ use Rattle.std.proofs.lemmas.Bool.{cases_lt}
 use Rattle.std.proofs.lemmas.List.{get_or-drop, get_or-take, length-take}
 use Rattle.md_rollback.specs.Images.{AreImagesBelow, Image, ReachBackTo, image_at}
 
--- behind all images
+-- after all images
 abbrev no_image : Image
 no_image = record { frames = 0; bytes = [] }
 

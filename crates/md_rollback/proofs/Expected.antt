@@ -2,9 +2,9 @@
 use Rattle.std.proofs.Common.{◌≡◌, ◌∙◌, refl, sym, ap, ap₂, subst, lit<, ℕ, zero, suc, ◌+◌, ◌<◌, ◌≤◌, ◌^◌, ◌⊎◌, inl, inr, List, [], ◌∷◌, ◌++◌, length, Option, Some, None, get_or, set, replicate, take, drop, is_some, add-one, arith}
 use Rattle.std.specs.Prelude.{All, IsSome, unwrap_or}
 use Rattle.std.specs.List.{range_with_len}
-use Rattle.std.proofs.lemmas.Bool.{cases_eq, cases_lt}
-use Rattle.std.proofs.lemmas.List.{get_or-replicate, get_or-set_other, get_or-set_same, get_or_past, length-replicate, take_at}
-use Rattle.std.proofs.lemmas.Option.{same_Some, unwrap_or-slice_get}
+use Rattle.std.proofs.lemmas.Bool.{cases_lt}
+use Rattle.std.proofs.lemmas.List.{get_or-replicate, get_or-set_other, get_or_past, length-replicate, take_at}
+use Rattle.std.proofs.lemmas.Option.{unwrap_or-slice_get}
 use Rattle.std.proofs.lemmas.List.Elements.{All-map}
 use Rattle.std.proofs.lemmas.List.FromFn.{fill_by_all, get_or-map-range_with_len, length-map-range_with_len, map-range_with_len_more}
 use Rattle.md_pads.specs.Recording.{Frame, HasButtons}
@@ -174,19 +174,8 @@ no-words-known = record {
 pub word-stays : (w : Words) (frame word f : ℕ) → given w frame ≡ None → IsSome (given w f) → given (set w frame (Some word)) f ≡ given w f
 word-stays w frame word f free is = get_or-set_other w frame f (Some word) None (λ same. none-some (given w f) is (ap (given w) same ∙ free))
 
-pub given-stays : (w : Words) (frame word f : ℕ) → given w frame ≡ None → IsSome (given w f) → IsSome (given (set w frame (Some word)) f)
-given-stays w frame word f free is = ap is_some (word-stays w frame word f free is) ∙ is
-
 pub more-stays : (w : Words) (frame word : ℕ) → given w frame ≡ None → IsMore w (set w frame (Some word))
 more-stays w frame word free f old is = word-stays w frame word f free (ap is_some is) ∙ is
-
-pub buttons-stay : (w : Words) (frame word : ℕ) → frame < length w → word < 2 ^ 8 → AreButtons w → AreButtons (set w frame (Some word))
-buttons-stay w frame word within small old f other is = elim (cases_eq f frame) [
-  | inl same ↦ (
-      let here : given (set w frame (Some word)) f ≡ Some word = ap (given (set w frame (Some word))) same ∙ get_or-set_same w frame (Some word) None within in
-      subst (λ (n : ℕ). n < 2 ^ 8) (same_Some word other (sym here ∙ is)) small)
-  | inr apart ↦ old f other (sym (get_or-set_other w frame f (Some word) None apart) ∙ is)
-]
 
 -- what is written back into a list
 pub put-back : (words items : Words) (len : ℕ) → length words ≡ len → take len (words ++ drop (length words) items) ≡ words

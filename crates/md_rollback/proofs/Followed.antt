@@ -97,7 +97,7 @@ refused-input player words script frame buttons inputs.Buttons same far free pla
 abbrev pub Stopped : AdvanceFault → AdvanceFault → Type 0
 Stopped fault other = ◌≡◌ {A = Result (Unit {0}) AdvanceFault} (Err fault) (Err other)
 
--- why a session does not go on
+-- why a session does not continue
 pub refused-advance : (cart : List ℕ) (s : SessionValue) (script : Script) (line : List ℕ) (fault : AdvanceFault) → Follows cart s script → line_of line ≡ Some Advance
     → ((confirmed frames : ℕ) → Stopped fault (advances.Waiting confirmed frames)
     ↔ ((s.frames ≢ most_frames) × (s.confirmed + s.window ≤ s.frames) × (confirmed ≡ s.confirmed) × (frames ≡ s.frames)))
@@ -123,7 +123,7 @@ pub err-map : {X E : Type 0} (r : Result X E) (P Q : E → Type 0) → ((e : E) 
 err-map (Ok x) P Q more holds = tt
 err-map (Err e) P Q more holds = more e holds
 
--- buttons that are taken stand in a frame of the session of which none were given, and are buttons alone
+-- buttons that are taken are in a frame of the session of which none were given, and are buttons alone
 pub taken-input : (words : Words) (frame buttons : ℕ) → (most_frames ≤ frame → ⊥) → ((kept : ℕ) → given words frame ≡ Some kept → ⊥)
     → ((frame < most_frames) × (given words frame ≡ None) × (2 ^ 8 ≤ buttons) → ⊥) → (frame < most_frames) × (given words frame ≡ None) × (buttons < 2 ^ 8)
 taken-input words frame buttons near free plain =
@@ -131,7 +131,7 @@ taken-input words frame buttons near free plain =
     let none : given words frame ≡ None = none-given (given words frame) free in
     let small : buttons < 2 ^ 8 = elim (cases_lt buttons (2 ^ 8)) [ inl less ↦ less | inr many ↦ absurd (plain (within, none, many)) ] in (within, none, small)
 
--- a session that goes on has a frame left, within its window
+-- a session that continues has a frame left, within its window
 pub goes-on : (frames confirmed window : ℕ) → frames ≤ most_frames → (frames ≡ most_frames → ⊥) → ((frames ≢ most_frames) × (confirmed + window ≤ frames) → ⊥)
     → (frames < most_frames) × (frames < confirmed + window)
 goes-on frames confirmed window few more order =

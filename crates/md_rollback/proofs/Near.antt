@@ -1,10 +1,10 @@
--- How near the images stand to the frames that were made.
+-- How near the images are to the frames that were made.
 use Rattle.std.proofs.Common.{◌≡◌, ◌∙◌, refl, sym, subst, Bool, true, false, ℕ, zero, suc, ◌+◌, ◌-◌, ◌%◌, ◌<◌, ◌≤◌, ◌⊎◌, inl, inr, List, ◌∷◌, length, take, arith}
 use Rattle.std.specs.Prelude.{IsTrue}
 use Rattle.std.proofs.lemmas.Bool.{cases_lt}
 use Rattle.md_rollback.specs.Images.{Image, Kept, ReachBackTo, image_at}
 
--- the newest image is the last of those that are kept, one in four frames from the one behind `right` on
+-- the newest image is the last of those that are kept, one in four frames from the one after `right` on
 pub record IsNewest (right frames : ℕ) (images : List Image) : Type 0 where
   pub some : 0 < length images
   pub newest : (image_at images 0).frames + (frames - right - 1) % 4 ≡ frames

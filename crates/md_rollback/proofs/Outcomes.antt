@@ -30,7 +30,7 @@ pub obeys_one : (window : ℕ) (old : Script) (asked : Line) (one two : Script) 
 obeys_one window old (Press player frame buttons) one two first second = first.3 ∙ sym second.3
 obeys_one window old Advance one two first second = first.4 ∙ sym second.4
 
--- where all lines are obeyed, so is the one behind the first ones
+-- where all lines are obeyed, so is the one after the first ones
 obeyed_line : (window : ℕ) (before : List (List ℕ)) (line : List ℕ) (after : List (List ℕ)) (old mid new : Script) → ObeysAll window (before ++ line ∷ after) old new → ObeysAll window before old mid
     → (asked : Line) × (next : Script) × (line_of line ≡ Some asked) × Obeys window mid asked next
 unfolding ObeysAll

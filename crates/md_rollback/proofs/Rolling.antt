@@ -1,4 +1,4 @@
--- What a script comes to.
+-- The outcome of a script.
 use Rattle.std.proofs.Common.{◌≡◌, ◌∙◌, refl, sym, ap, subst, false, ℕ, ◌*◌, List, []}
 use Rattle.sha2.specs.Sha256.{sha256}
 use Rattle.md_pads.specs.Recording.{no_frames}

@@ -1,4 +1,4 @@
--- A script comes to one outcome alone, where memory is not wanting.
+-- A script has one outcome alone, where memory suffices.
 use Rattle.std.proofs.Common.{◌≡◌, ◌≢◌, ◌∙◌, refl, sym, ap, ap₂, subst, false, ℕ, suc, ◌*◌, ◌<◌, ◌≤◌, ◌⊎◌, inl, inr, List, [], ◌∷◌, ◌++◌, length, Option, Some, None, add-one, arith}
 use Rattle.std.proofs.lemmas.List.{get_or_past, length-set}
 use Rattle.sha2.specs.Sha256.{sha256}
@@ -125,7 +125,7 @@ refuses_at window [] after line old new fault so_far refused = inl (subst (λ (s
 refuses_at window (first ∷ before) after line old new fault so_far refused =
     inr (so_far.0, so_far.1, suc (length before), so_far.2, so_far.3, refuses_at window before after line so_far.1 new fault so_far.4 refused, refl)
 
--- the scripts behind a line that both obey
+-- the scripts after a line that both obey
 one_behind : (window : ℕ) (line : List ℕ) (old one two : Script) (asked other : Line) → line_of line ≡ Some asked → line_of line ≡ Some other
     → Obeys window old asked one → Obeys window old other two → one ≡ two
 one_behind window line old one two asked other is is2 first second =
@@ -161,7 +161,7 @@ refused_in cart window text number fault (script, (before, line, after, first, a
 
 -- ---- one digest
 
--- a run comes to one machine
+-- a run has one last machine
 abbrev pub RunsAreOne : Type 0
 RunsAreOne = (m w z : Console) (end : ℕ) (first second : List Entry) (output other : Media)
     → IsRunTo m end w first output → IsRunTo m end z second other → (w ≡ z) × (first ≡ second) × (output ≡ other)

@@ -13,12 +13,12 @@ use Rattle.md_machine.specs.ValidParts.{HasValidParts}
 use Rattle.md_machine.proofs.Kept.{cart-stays}
 use Rattle.md_machine.proofs.Pads.{pads-recorded}
 use Rattle.md_machine.proofs.Regions.{ran_stays}
-use Rattle.md_reached.proofs.SettledMoves.{console-again}
-use Rattle.md_reached.specs.Processors.{IsValid}
-use Rattle.md_reached.specs.Reached.{IsReached}
-use Rattle.md_reached.specs.Settling.{GoesOn}
-use Rattle.replays.specs.declared.fault.ReplayFault.{ReplayFault}
-use Rattle.recording_laws.specs.Recorded.{AreAlikeBelow, with_recording, with_frames}
+use Rattle.machine_laws.proofs.SettledMoves.{console-again}
+use Rattle.machine_laws.specs.Processors.{IsValid}
+use Rattle.machine_laws.specs.Reached.{IsReached}
+use Rattle.machine_laws.specs.Settling.{GoesOn}
+use Rattle.state_laws.specs.declared.fault.ReplayFault.{ReplayFault}
+use Rattle.machine_laws.specs.Recorded.{AreAlikeBelow, with_recording, with_frames}
 use Rattle.save_state.specs.States.{settled_console}
 use Rattle.md_rollback.specs.Played.{IsImageOf, IsPlayed, IsPlayedAlike, IsRunAt, KeepsReached}
 

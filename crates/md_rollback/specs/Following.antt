@@ -9,13 +9,14 @@ use Rattle.md_rollback.specs.Scripts.{Script}
 use Rattle.md_rollback.specs.declared.line_fault.LineFault.{LineFault}
 use Rattle.md_rollback.specs.declared.line_fault.LineFault.TheVariants as faults
 
--- the fault of a session that does not go on, if memory was not wanting
+-- the fault of a session that does not continue, if memory did not run out
 abbrev pub fault_at : AdvanceFault → Option LineFault
 fault_at (advances.Waiting confirmed frames) = Some faults.Waiting
 fault_at advances.Ended = Some faults.Ended
 fault_at advances.NoMemory = None
 
--- a session is where a script has come to: the machine is that of as many frames with the words that it was made with
+-- a session agrees with the lines so far: its machine is that of as many frames, with the words that it was
+-- made with
 pub record Follows (cart : List ℕ) (session : SessionValue) (script : Script) : Type 0 where
   pub local_is : session.local ≡ script.local
   pub remote_is : session.remote ≡ script.remote

@@ -13,7 +13,7 @@ pub record Kept : Type 0 where
   pub size : ℕ
   pub images : List Image
 
--- the image that stands behind so many newer ones
+-- the image that follows so many newer ones
 abbrev pub image_at : List Image → ℕ → Image
 image_at images newer = slice_index_or images newer (record { frames = 0; bytes = [] })
 

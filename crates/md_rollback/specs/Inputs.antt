@@ -72,7 +72,7 @@ pub record AreInputs (inputs : InputsValue) : Type 0 where
 abbrev pub IsMore : Words → Words → Type 0
 IsMore words more = (f word : ℕ) → given words f ≡ Some word → given more f ≡ Some word
 
--- the word that is expected in a frame, told by what was given
+-- the word that is expected in a frame, from what was given
 pub data IsExpected (words : Words) (f : ℕ) : ℕ → Type 0 where
   told : (word : ℕ) → given words f ≡ Some word → IsExpected words f word
   held : (word earlier : ℕ) → earlier < f → given words earlier ≡ Some word

@@ -1,4 +1,4 @@
--- What holds of the words of two players and of what their scripts come to.
+-- What holds of the words of two players and of the outcomes of their scripts.
 use Rattle.std.specs.Prelude.{◌≡◌, ◌≢◌, ℕ, ◌≤◌, List}
 use Rattle.md_machine.specs.Machines.{MachineValue}
 use Rattle.md_rollback.specs.Inputs.{IsConfirmed, IsExpected, IsMore, Words, expected, expected_frames}
@@ -8,7 +8,7 @@ use Rattle.md_rollback.specs.declared.rolled.Comes.{Comes}
 use Rattle.md_rollback.specs.declared.rolled.Comes.TheVariants.{NoMemory}
 
 pub record RollbackLaws : Type 0 where
-  -- a script comes to one outcome alone, where memory is not wanting
+  -- a script has one outcome alone, where memory suffices
   pub one : (cart : List ℕ) (window : ℕ) (text : List ℕ) (first second : Comes) → ComesTo cart window text first → ComesTo cart window text second
       → first ≢ NoMemory → second ≢ NoMemory → first ≡ second
   -- the expected word of a frame is its own, or that of the latest frame before it whose word was given, or 0

@@ -22,7 +22,7 @@ are_hexadecimal word = nat_le 1 (length word) && nat_le (length word) 4 && list_
 abbrev pub buttons_of : List ℕ → Option ℕ
 buttons_of word = if are_hexadecimal word && nat_lt (digits_value 16 word) (2 ^ 16) then Some (digits_value 16 word) else None
 
--- a frame, and behind a blank the buttons that a player has in it
+-- a frame, and after a blank the buttons that a player has in it
 abbrev pub press_of : Player → List ℕ → Option Line
 press_of player numbers =
     option_and_then (λ frame. option_map (Press player frame) (option_and_then buttons_of (behind numbers))) (decimal_of (word_in numbers))
@@ -31,7 +31,7 @@ press_of player numbers =
 abbrev pub player_of : List ℕ → Option Player
 player_of word = if bytes_eq word (codes "l") then Some Local else (if bytes_eq word (codes "r") then Some Remote else None)
 
--- `a` is the next frame; else a player stands first
+-- `a` is the next frame; else a player is first
 abbrev pub line_in : List ℕ → Option Line
 line_in line =
     if bytes_eq line (codes "a") then Some Advance

@@ -6,12 +6,12 @@ use Rattle.md_word.specs.declared.event.Entry.{Entry}
 use Rattle.md_machine.specs.Console.{Console, IsRunTo, power_on}
 use Rattle.md_machine.specs.Machines.{MachineValue}
 use Rattle.md_machine.specs.Media.{Media, no_media}
-use Rattle.md_reached.specs.Reached.{IsReached}
-use Rattle.recording_laws.specs.Recorded.{AreAlikeBelow}
+use Rattle.machine_laws.specs.Reached.{IsReached}
+use Rattle.machine_laws.specs.Recorded.{AreAlikeBelow}
 use Rattle.save_state.specs.States.{settled_console}
 use Rattle.md_rollback.specs.Images.{AreImagesBelow, Kept, ReachBackTo}
 
--- the machine that a run of NTSC from power-on with this cartridge and recording is at a cycle, seen with what stands
+-- the machine that a run of NTSC from power-on with this cartridge and recording is at a cycle, seen with what is
 -- below the cycle settled
 pub record IsRunAt (cart : List ℕ) (recording : List Frame) (at : ℕ) (m : Console) : Type 0 where
   pub last : Console

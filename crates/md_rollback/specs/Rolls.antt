@@ -1,4 +1,4 @@
--- What a script comes to with a cartridge, from power-on of NTSC on. This project's profile.
+-- The outcome of a script with a cartridge, from power-on of NTSC on. This project's profile.
 use Rattle.std.specs.Prelude.{◌≡◌, ℕ, ◌*◌, false, List}
 use Rattle.sha2.specs.Sha256.{sha256}
 use Rattle.md_word.specs.Clock.{frame}
@@ -24,14 +24,14 @@ pub record IsDigestOf (cart : List ℕ) (script : Script) (digest : List ℕ) : 
   pub run : IsRunTo (power_on cart (recording_of script.played) false) (frame * script.frames) last entries output
   pub digest_is : digest ≡ sha256 (state_bytes (frame * script.frames) last)
 
--- what is told of a session
+-- what is reported of a session
 pub record IsRolled (session : SessionValue) (rolled : Rolled) : Type 0 where
   pub frames : rolled.frames ≡ session.frames
   pub confirmed : rolled.confirmed ≡ session.confirmed
   pub digest : rolled.digest ≡ sha256 (state_bytes session.machine.at session.machine.console)
 
--- what a script comes to: all lines were obeyed, and it is told how many frames were made, how many are confirmed,
--- and the digest of the state; or its first line is refused that is
+-- the outcome of a script: all lines were obeyed, with how many frames were made, how many are confirmed, and
+-- the digest of the state; or its first refused line
 abbrev pub ComesTo : List ℕ → ℕ → List ℕ → Comes → Type 0
 ComesTo cart window text (Done rolled) =
     (script : Script) × Plays window (lines_of text) begun script endings.Obeyed × (rolled.frames ≡ script.frames)

@@ -1,4 +1,4 @@
--- What a session's script comes to. This project's profile.
+-- The outcome of a session's script. This project's profile.
 use Rattle.std.specs.Prelude.{◌≡◌, ◌≢◌, ℕ, ◌+◌, ◌<◌, ◌≤◌, ◌^◌, List, [], ◌∷◌, ◌++◌, length, slice_set, Option, Some, None}
 use Rattle.md_pads.specs.Recording.{Frame}
 use Rattle.md_rollback.specs.Inputs.{IsConfirmed, Words, expected_frames, given, most_frames, no_words}
@@ -14,8 +14,8 @@ use Rattle.md_rollback.specs.declared.line_fault.LineFault.TheVariants as faults
 use Rattle.md_rollback.specs.declared.script.Ending.{Ending}
 use Rattle.md_rollback.specs.declared.script.Ending.TheVariants.{Obeyed, Refused, OutOfMemory}
 
--- what the lines so far come to: the words that they gave of both players, how many frames were made, and with
--- which words the machine made them
+-- the outcome of the lines so far: the words that they gave of both players, how many frames were made, and
+-- with which words the machine made them
 pub record Script : Type 0 where
   pub local : Words
   pub remote : Words
@@ -66,7 +66,7 @@ IsRefused window script line faults.Waiting =
     (confirmed : ℕ) × (line_of line ≡ Some Advance) × (script.frames ≢ most_frames) × IsConfirmed script.local script.remote confirmed × (confirmed + window ≤ script.frames)
 IsRefused window script line faults.Ended = (line_of line ≡ Some Advance) × (script.frames ≡ most_frames)
 
--- .. or memory was wanting
+-- .. or memory ran out
 abbrev pub IsFault : ℕ → Script → List ℕ → Option LineFault → Type 0
 IsFault window script line None = Unit {0}
 IsFault window script line (Some fault) = IsRefused window script line fault
@@ -93,7 +93,7 @@ pub record ObeysFirst (window : ℕ) (lines before after : List (List ℕ)) (old
   pub obeyed : ObeysAll window before old new
 
 -- how a script ends: each line was obeyed; or the line of a number, from 1 on, is the first that is refused, and
--- those before it were obeyed; or memory was wanting behind lines that were obeyed
+-- those before it were obeyed; or memory ran out after lines that were obeyed
 abbrev pub Plays : ℕ → List (List ℕ) → Script → Script → Ending → Type 0
 Plays window lines old new Obeyed = ObeysAll window lines old new
 Plays window lines old new (Refused number fault) =

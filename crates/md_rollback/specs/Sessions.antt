@@ -9,7 +9,7 @@ use Rattle.md_rollback.specs.Played.{IsImageOf, IsPlayed, KeepsReached}
 
 -- a session as contracts see it
 pub record SessionValue : Type 0 where
-  -- how many frames it goes on without the words of a player
+  -- how many frames it continues without the words of a player
   pub window : ℕ
   pub local : Words
   pub remote : Words
@@ -19,7 +19,7 @@ pub record SessionValue : Type 0 where
   pub machine : MachineValue
 
 -- the images are those of the machine after some of the frames that were played, newest first. Of each of the last
--- frames, so many as the window has, one stands at its start or at most three frames earlier
+-- frames, so many as the window has, one is at its start or at most three frames earlier
 pub record AreImages (cart : List ℕ) (spelling : ℕ → Console → List ℕ) (is_own : ℕ → Console → Type 0) (window : ℕ) (played : List Frame) (images : List Image) : Type 0 where
   pub each : AreImagesBelow (IsImageOf cart spelling is_own played) (length played + 1) images
   pub back : (f : ℕ) → f ≤ length played → length played ≤ f + window → ReachBackTo f images

@@ -5,7 +5,7 @@ use crate::words::expected_word;
 use md_word::NoMemory;
 use std::alloc::Global;
 
-/// The recording that is expected of so many frames.
+/// The recording that is expected of so many frames. It fails only when memory runs out.
 #[tactic(auto, unfolding(crate::specs::Inputs::expected_frames))]
 pub(crate) fn expected_frames(
     alloc: Global,

@@ -3,10 +3,10 @@ ghost use Rattle.md_word.specs.Clock.{last_cycle};
 ghost use Rattle.save_state.specs.States.{settled_console};
 ghost use Rattle.md_rollback.specs.Images.{image_at};
 
+use crate::KeptImages;
 use md_machine::Machine;
 use md_word::NoMemory;
-use replays::Replays;
-use crate::KeptImages;
+use state_laws::Replays;
 use std::alloc::Global;
 use std::marker::Model;
 
@@ -31,7 +31,7 @@ impl Model for Images {
 }
 
 impl Images {
-    /// No images. All memory that they ever need is taken here.
+    /// No images. All memory that they ever need is taken here. It fails only when memory runs out.
     pub(crate) fn make(alloc: Global, most: u32, size: usize) -> Result<Images, NoMemory>
         requires { 1 ≤ most }
         ensures { IfOk result (λ images. images ≡ record { most = most; size = size; images = [] }) }
@@ -72,7 +72,7 @@ impl Images {
         self.kept.newer_than(frames)
     }
 
-    /// After how many frames the image was kept that stands behind so many newer ones.
+    /// After how many frames the image was kept that follows so many newer ones.
     pub(crate) fn frames(&self, newer: usize) -> usize
         requires { newer < length self.now.images }
         ensures { result ≡ (image_at self.now.images newer).frames }
@@ -80,7 +80,7 @@ impl Images {
         self.kept.frames(newer)
     }
 
-    /// The image that stands behind so many newer ones.
+    /// The image that follows so many newer ones.
     pub(crate) fn image(&self, newer: usize) -> &[u8]
         requires { newer < length self.now.images }
         ensures { result.now ≡ (image_at self.now.images newer).bytes }

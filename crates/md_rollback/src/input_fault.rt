@@ -6,7 +6,7 @@ pub enum InputFault {
         /// The last frame that it has.
         last: u64,
     },
-    /// The player's input of this frame was given.
+    /// The player's input of this frame was given already.
     Given {
         /// The buttons that were given.
         kept: u16,

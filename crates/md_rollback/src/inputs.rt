@@ -1,8 +1,8 @@
 ghost use Rattle.std.specs.Prelude.{◌≡◌, ◌≤◌, ◌<◌, ℕ, ◌^◌, ◌↔◌, Some, None, slice_set, IfOk, OnOk, OnErr, IsErrOf, Err};
 ghost use Rattle.md_rollback.specs.Inputs.{given, expected_frames, most_frames, no_words, AreInputs};
 
-use crate::input_fault::InputFault;
 use crate::frames::expected_frames;
+use crate::input_fault::InputFault;
 use crate::words::{first_missing, give, none_given};
 use md_word::NoMemory;
 use std::alloc::Global;
@@ -27,7 +27,7 @@ impl Model for Inputs {
 }
 
 impl Inputs {
-    /// The inputs of which none was given.
+    /// The inputs of which none was given. It fails only when memory runs out.
     pub fn make(alloc: Global) -> Result<Inputs, NoMemory>
         ensures { IfOk result (λ inputs. inputs ≡ record { local = no_words; remote = no_words; confirmed = 0 }) }
     {
@@ -55,7 +55,8 @@ impl Inputs {
         self.confirmed
     }
 
-    /// Gives player 1's buttons in a frame.
+    /// Gives player 1's buttons in a frame. The frame is 0 to 35,999, and the buttons are bits 0 to 7. It fails
+    /// where there is no such frame, where the frame's buttons were given, or where another bit is set.
     pub fn local(&mut self, frame: u64, buttons: u16) -> Result<(), InputFault>
         ensures ok { OnOk result ((self.new.local ≡ slice_set self.old.local frame (Some buttons)) × (self.new.remote ≡ self.old.remote)) }
         ensures free { OnOk result (given self.old.local frame ≡ None) }
@@ -73,7 +74,8 @@ impl Inputs {
         }
     }
 
-    /// Gives player 2's buttons in a frame.
+    /// Gives player 2's buttons in a frame. The frame is 0 to 35,999, and the buttons are bits 0 to 7. It fails
+    /// where there is no such frame, where the frame's buttons were given, or where another bit is set.
     pub fn remote(&mut self, frame: u64, buttons: u16) -> Result<(), InputFault>
         ensures ok { OnOk result ((self.new.remote ≡ slice_set self.old.remote frame (Some buttons)) × (self.new.local ≡ self.old.local)) }
         ensures free { OnOk result (given self.old.remote frame ≡ None) }
@@ -91,7 +93,7 @@ impl Inputs {
         }
     }
 
-    /// The recording that is expected of so many frames.
+    /// The recording that is expected of so many frames. It fails only when memory runs out.
     pub fn expected(&self, alloc: Global, count: usize) -> Result<Vec<(u16, u16)>, NoMemory>
         requires { count ≤ most_frames }
         ensures { IfOk result (λ frames. frames.items ≡ expected_frames self.now.local self.now.remote count) }

@@ -19,7 +19,7 @@ struct Slot {
 /// was kept. Contracts see them newest first.
 #[derive(Drop)]
 pub struct KeptImages {
-    /// The lists of the images, and behind them those that keep none: as many as images are kept at most.
+    /// The lists of the images, and after them those that keep none: as many as images are kept at most.
     slots: VecDeque<Slot>,
     /// How many images there are.
     count: usize,
@@ -39,7 +39,7 @@ impl Model for KeptImages {
     ghost invariant = { λ k. AreSlots k.slots.items (deque_capacity k.slots) k.count k.size };
 }
 
-/// So many empty lists, each with room for an image.
+/// So many empty lists, each with room for an image. It fails only when memory runs out.
 fn slots_of(alloc: Global, most: usize, size: usize) -> Result<VecDeque<Slot>, NoMemory>
     requires { 1 ≤ most }
     ensures slots { IfOk result (λ slots. AreSlots slots.items (deque_capacity slots) 0 size) }
@@ -54,7 +54,7 @@ fn slots_of(alloc: Global, most: usize, size: usize) -> Result<VecDeque<Slot>, N
 }
 
 impl KeptImages {
-    /// No images. All memory that they ever need is taken here.
+    /// No images. All memory that they ever need is taken here. It fails only when memory runs out.
     pub fn make(alloc: Global, most: u32, size: usize) -> Result<KeptImages, NoMemory>
         requires some { 1 ≤ most }
         ensures most { IfOk result (λ kept. kept.most ≡ most) }
@@ -98,7 +98,7 @@ impl KeptImages {
         self.count
     }
 
-    /// After how many frames the image was kept that stands behind so many newer ones.
+    /// After how many frames the image was kept that follows so many newer ones.
     pub fn frames(&self, newer: usize) -> usize
         requires { newer < length self.now.images }
         ensures { result ≡ (image_at self.now.images newer).frames }
@@ -106,7 +106,7 @@ impl KeptImages {
         self.slots[newer].frames
     }
 
-    /// The image that stands behind so many newer ones.
+    /// The image that follows so many newer ones.
     pub fn image(&self, newer: usize) -> &[u8]
         requires { newer < length self.now.images }
         ensures { result.now ≡ (image_at self.now.images newer).bytes }

@@ -1,4 +1,4 @@
-//! A session of two players whose inputs come late: it goes on with expected inputs, and goes back where they
+//! A session of two players whose inputs come late: it continues with expected inputs, and goes back where they
 //! were wrong.
 #![tactic(auto)]
 

@@ -2,7 +2,7 @@ ghost use Rattle.std.specs.Prelude.{◌≡◌};
 ghost use Rattle.std.specs.List.{list_all};
 ghost use Rattle.md_rollback.specs.Lines as meaning;
 
-/// Buttons: 1 to 4 hexadecimal digits in either case.
+/// Buttons: 1 to 4 hexadecimal digits in either case; `None` where the word is none.
 pub(crate) fn read_buttons(word: &str) -> Option<u16>
     ensures { result ≡ meaning.buttons_of word.now }
 {

@@ -5,25 +5,18 @@ ghost use Rattle.md_machine.specs.Console.{power_on};
 ghost use Rattle.md_machine.specs.Media.{no_media};
 ghost use Rattle.md_rollback.specs.Inputs.{no_words};
 
+use crate::Session;
 use crate::outcome_laws::states_may_be_kept;
 use md_machine::Machine;
 use md_pads::Recording;
-use crate::Session;
 use md_word::NoMemory;
 use rom_header::Cart;
-use state_replays::StateReplays;
+use state_laws::{StateReplays, same_cart};
 use std::alloc::Global;
 use std::sync::Arc;
 
-/// Another owner of the cartridge.
-fn same_cart(cart: &Arc<Cart>) -> Result<Arc<Cart>, NoMemory>
-    ensures { IfOk result (λ shared. arc_value shared ≡ arc_value cart.now) }
-{
-    cart.clone()
-}
-
-/// The session of a cartridge at power-on of NTSC, which goes on a window of 1 to 16 frames beyond those that are
-/// confirmed.
+/// The session of a cartridge at power-on of NTSC, which goes a window of 1 to 16 frames beyond those that are
+/// confirmed. It fails only when memory runs out.
 pub fn session(
     alloc: Global,
     cart: Arc<Cart>,

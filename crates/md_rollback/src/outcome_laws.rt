@@ -1,18 +1,18 @@
-//! Laws of what scripts come to and of images that are saved states, as calls that do nothing and stand for what they
-//! ensure.
+//! Laws of the outcomes of scripts and of images that are saved states, as calls that do nothing and stand for
+//! what they ensure.
 
 ghost use Rattle.std.specs.Prelude.{◌≡◌, ◌≢◌, ℕ, List};
-ghost use Rattle.state_replays.specs.Kept.{MayBeKept};
+ghost use Rattle.state_laws.specs.Kept.{MayBeKept};
 ghost use Rattle.md_rollback.specs.Played.{KeepsReached};
 ghost use Rattle.md_rollback.specs.Laws.{RollbackLaws};
 ghost use Rattle.md_rollback.specs.Rolls.{ComesTo};
 ghost use Rattle.md_rollback.specs.declared.rolled.Comes.{Comes};
 ghost use Rattle.md_rollback.specs.declared.rolled.Comes.TheVariants.{NoMemory};
 
-use md_machine::laws;
-use md_reached::saved;
-use crate::outcome_laws::confirmed_machines_stay;
 use crate::input_laws::expected_is_latest;
+use crate::outcome_laws::confirmed_machines_stay;
+use machine_laws::saved;
+use md_machine::laws;
 
 /// Saved states keep the machines of power-on, and each that a run reaches.
 pub fn states_may_be_kept()
@@ -21,7 +21,7 @@ pub fn states_may_be_kept()
     saved::reached_may_be_kept();
 }
 
-/// A script comes to one outcome alone, where memory is not wanting.
+/// A script has one outcome alone, where memory suffices.
 pub fn scripts_have_one_outcome()
     ensures { (cart : List ℕ) (window : ℕ) (text : List ℕ) (first second : Comes) → ComesTo cart window text first → ComesTo cart window text second
         → first ≢ NoMemory → second ≢ NoMemory → first ≡ second }

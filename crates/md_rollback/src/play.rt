@@ -10,12 +10,12 @@ ghost use Rattle.md_rollback.specs.Played.{AreMade, IsImageOf, IsPlayed, IsPlaye
 
 use crate::images::Images;
 use crate::recording::shared_recording;
+use machine_laws::{processors, saved};
 use md_machine::{Machine, laws};
 use md_pads::Recording;
-use md_reached::{processors, saved};
 use md_word::NoMemory;
 use md_word::clock::FRAME;
-use replays::{ReplayFault, Replays, settled};
+use state_laws::{ReplayFault, Replays, settled};
 use std::alloc::Global;
 use std::sync::Arc;
 
@@ -36,7 +36,7 @@ pub(crate) fn play_frame(machine: &mut Machine, frame: usize)
     machine.discard();
 }
 
-/// The machine of an image at the start of a frame, with another recording.
+/// The machine of an image at the start of a frame, with another recording. It fails only when memory runs out.
 pub(crate) fn resume<R: Replays>(
     alloc: Global,
     replays: &R,
@@ -49,7 +49,7 @@ pub(crate) fn resume<R: Replays>(
     requires buttons { All IsFrame (arc_value recording).frames }
     ensures { IfOk result (λ machine. IsPlayed (R.cart replays.now) (arc_value recording).frames frame machine) }
 {
-    recording_laws::later_frames_are_unread();
+    machine_laws::recordings::later_frames_are_unread();
     settled::settled_machines_are_reached();
     match replays.machine(alloc, bytes, recording) {
         Ok(machine) => {
@@ -62,20 +62,22 @@ pub(crate) fn resume<R: Replays>(
     }
 }
 
-/// A machine at the start of a frame goes on with another recording, of which the frames before were the same.
+/// A machine at the start of a frame continues with another recording, of which the frames before were the
+/// same.
 fn exchange(machine: &mut Machine, recording: Arc<Recording>)
     requires first { (arc_value recording).version ≡ First }
     requires buttons { All IsFrame (arc_value recording).frames }
     ensures { (cart : List ℕ) (frame : ℕ) → IsPlayedAlike cart (arc_value recording).frames frame machine.old → IsPlayed cart (arc_value recording).frames frame machine.new }
 {
-    recording_laws::later_frames_are_unread();
+    machine_laws::recordings::later_frames_are_unread();
     machine.set_recording(recording);
     laws::parts_are_valid(machine);
     processors::valid_machine(machine);
 }
 
-/// Brings a machine to the start of a frame of a recording, and tells which: it stands at `right` already, `here`, or
-/// the image that stands behind so many newer ones keeps one, from which the frames up to `right` are the same.
+/// Brings a machine to the start of a frame of a recording, and returns the frame. The machine is at `right`
+/// already, `here`, or the image that follows so many newer ones keeps one, from which the frames up to `right`
+/// are the same. It fails only when memory runs out.
 fn stand_at<R: Replays>(
     alloc: Global,
     replays: &R,
@@ -108,17 +110,17 @@ fn stand_at<R: Replays>(
 /// Of the frames from the first wrong one on, or where none was wrong of the new one, one in so many keeps its image.
 const APART: usize = 4;
 
-/// Whether the image behind a frame is kept, where the frames from `right` on are made with other words than before,
-/// or for the first time. That behind the first of them is, since the frame behind it is the next that may turn out
-/// wrong where words come in their order, and from there on one in four: so no frame is more than three behind an
-/// image.
+/// Whether the image after a frame is kept, where the frames from `right` on are made with other words than
+/// before, or for the first time. The image after the first of them is kept, since the frame after it is the
+/// next that may turn out wrong where words come in their order. From there on one in four is: so no frame is
+/// more than three after an image.
 fn is_kept(frame: usize, right: usize) -> bool
     ensures { IsTrue result ↔ ((right ≤ frame) × ((frame - right) % 4 ≡ 0)) }
 {
     frame >= right && (frame - right) % APART == 0
 }
 
-/// Makes a frame, and keeps the image behind it where it is to be kept.
+/// Makes a frame, and keeps the image after it where it is to be kept.
 fn play_next<R: Replays>(
     replays: &R,
     machine: &mut Machine,
@@ -142,7 +144,7 @@ fn play_next<R: Replays>(
     }
 }
 
-/// Makes the frames from one to another, and keeps the images behind some of those from `right` on.
+/// Makes the frames from one to another, and keeps the images after some of those from `right` on.
 pub(crate) fn play<R: Replays>(
     replays: &R,
     machine: &mut Machine,
@@ -168,9 +170,10 @@ pub(crate) fn play<R: Replays>(
     }
 }
 
-/// Brings a machine to the end of all frames of a recording, of which those before `right` were the same: from itself
-/// where only the last frame is new, else from the image that stands behind so many newer ones. Images of some of the
-/// frames behind it come in place of the newer ones.
+/// Brings a machine to the end of all frames of a recording, of which those before `right` were the same: from
+/// itself where only the last frame is new, else from the image that follows so many newer ones. Images of some
+/// of the frames after it replace the newer ones. It fails only when memory runs out; then machine and images
+/// are as they were.
 pub(crate) fn remake<R: Replays>(
     alloc: Global,
     replays: &R,

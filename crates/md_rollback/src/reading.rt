@@ -9,7 +9,7 @@ use crate::number::read_buttons;
 use debug_text::{behind, is_ascii, read_decimal, word_in};
 use std::str::from_utf8;
 
-/// Reads a line of a script, without its line feed.
+/// Reads a line of a script, without its line feed; `None` where it asks for nothing that there is.
 pub fn read_line(line: &[u8]) -> Option<Line>
     ensures { result ≡ meaning.line_of line.now }
 {
@@ -54,7 +54,8 @@ fn read_player(word: &str) -> Option<Player>
     None
 }
 
-/// The buttons of a player, with the frame, in which they stand behind a blank.
+/// The buttons of a player, with the frame: they follow the frame and a blank. `None` where either is not as it
+/// should be.
 fn press(player: Player, numbers: Option<&str>) -> Option<Line>
     ensures { result ≡ option_and_then (meaning.press_of player) (option_copied numbers.entry) }
 {

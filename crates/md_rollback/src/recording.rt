@@ -7,7 +7,7 @@ use md_word::NoMemory;
 use std::alloc::Global;
 use std::sync::Arc;
 
-/// The recording of these frames, for several owners.
+/// The recording of these frames, for several owners. It fails only when memory runs out.
 pub(crate) fn shared_recording(
     alloc: Global,
     frames: &[(u16, u16)],

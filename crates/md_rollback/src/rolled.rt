@@ -1,6 +1,6 @@
 use crate::LineFault;
 
-/// What the last frame of a session came to.
+/// What is reported after the last frame of a session.
 #[derive(Clone, Copy)]
 pub struct Rolled {
     /// How many frames were made.
@@ -11,7 +11,7 @@ pub struct Rolled {
     pub digest: [u8; 32],
 }
 
-/// What a script comes to.
+/// The outcome of a script.
 #[derive(Clone, Copy)]
 pub enum Comes {
     /// Each of its lines was obeyed.

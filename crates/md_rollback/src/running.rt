@@ -4,17 +4,17 @@ ghost use Rattle.md_rollback.specs.Rolls.{ComesTo, IsRolled};
 
 use crate::opening::session;
 use crate::rolled::{Comes, Rolled};
-use crate::Session;
+use crate::{Ending, Session, play};
 use md_word::NoMemory;
-use crate::{Ending, play};
 use rom_header::Cart;
 use save_state::write;
 use sha2::{Digest, Sha256};
-use state_replays::StateReplays;
+use state_laws::StateReplays;
 use std::alloc::Global;
 use std::sync::Arc;
 
-/// Obeys a script with a cartridge, from power-on of NTSC on.
+/// Obeys a script with a cartridge, from power-on of NTSC on. Its outcome is the first refused line, or what is
+/// reported of the last frame, or that memory ran out.
 pub fn run_script(alloc: Global, cart: Arc<Cart>, window: u32, script: &[u8]) -> Comes
     requires some { 1 ≤ window }
     requires most { window ≤ 16 }
@@ -34,7 +34,7 @@ pub fn run_script(alloc: Global, cart: Arc<Cart>, window: u32, script: &[u8]) ->
     }
 }
 
-/// What a session has come to.
+/// What is reported of a session. It fails only when memory runs out.
 fn last_frame(alloc: Global, session: &Session<StateReplays>) -> Result<Rolled, NoMemory>
     ensures { IfOk result (IsRolled session.now) }
 {

@@ -10,19 +10,18 @@ ghost use Rattle.md_rollback.specs.Scripts.{IsFault, IsRefusedInput, Obeys, Play
 ghost use Rattle.md_rollback.specs.Scripts as scripts;
 
 use crate::line_fault::LineFault;
-use crate::{AdvanceFault, InputFault, Session};
-use replays::Replays;
-use crate::{Line, Player, read_line};
+use crate::{AdvanceFault, InputFault, Line, Player, Session, read_line};
+use state_laws::Replays;
 use text_lines::first_line;
 
-/// How a script ends.
+/// The outcome of a script.
 #[derive(Clone, Copy)]
 pub enum Ending {
     /// Each of its lines was obeyed.
     Obeyed,
     /// The line of this number, from 1 on, is refused.
     Refused(u64, LineFault),
-    /// Memory was wanting.
+    /// Memory ran out.
     OutOfMemory,
 }
 
@@ -44,7 +43,7 @@ pub fn play<R: Replays>(session: &mut Session<R>, script: &[u8]) -> Ending
     Ending::Obeyed
 }
 
-/// How a script ends at a line that is not obeyed.
+/// The outcome of a script at a line that is not obeyed.
 fn ending_of(number: u64, fault: Option<LineFault>) -> Ending
     ensures { result ≡ ending_at number fault }
 {
@@ -54,7 +53,7 @@ fn ending_of(number: u64, fault: Option<LineFault>) -> Ending
     }
 }
 
-/// Obeys a line. It is refused for a fault, or where memory is wanting, without one.
+/// Obeys a line. It fails with the fault for which the line is refused, or with `None` when memory runs out.
 fn obey<R: Replays>(session: &mut Session<R>, line: &[u8]) -> Result<(), Option<LineFault>>
     ensures window { session.new.window ≡ session.old.window }
     ensures obeyed { OnOk result ((cart : List ℕ) (old : Script) → Follows cart session.old old
@@ -81,7 +80,7 @@ fn fault_of(fault: InputFault) -> LineFault
     }
 }
 
-/// Gives a player's buttons in a frame.
+/// Gives a player's buttons in a frame. It fails as `Session::local` and `Session::remote` do.
 fn press<R: Replays>(
     session: &mut Session<R>,
     player: Player,
@@ -99,7 +98,7 @@ fn press<R: Replays>(
     }
 }
 
-/// Gives player 1's buttons in a frame.
+/// Gives player 1's buttons in a frame. It fails as `Session::local` does.
 fn press_local<R: Replays>(
     session: &mut Session<R>,
     frame: u64,
@@ -119,7 +118,7 @@ fn press_local<R: Replays>(
     }
 }
 
-/// Gives player 2's buttons in a frame.
+/// Gives player 2's buttons in a frame. It fails as `Session::remote` does.
 fn press_remote<R: Replays>(
     session: &mut Session<R>,
     frame: u64,
@@ -139,7 +138,7 @@ fn press_remote<R: Replays>(
     }
 }
 
-/// Makes the next frame.
+/// Makes the next frame. It fails as `Session::advance` does, with `None` when memory runs out.
 fn go_on<R: Replays>(session: &mut Session<R>) -> Result<(), Option<LineFault>>
     ensures window { session.new.window ≡ session.old.window }
     ensures obeyed { OnOk result ((cart : List ℕ) (old : Script) → Follows cart session.old old

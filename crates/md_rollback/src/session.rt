@@ -10,18 +10,17 @@ ghost use Rattle.md_rollback.specs.Played.{IsMachineOf, KeepsReached};
 use crate::fault::AdvanceFault;
 use crate::images::Images;
 use crate::play::remake;
+use crate::{InputFault, Inputs, KeptImages, MOST_FRAMES, same_frames};
+use machine_laws::saved;
 use md_machine::Machine;
-use md_reached::saved;
 use md_word::NoMemory;
-use replays::Replays;
-use crate::KeptImages;
-use crate::{InputFault, Inputs, MOST_FRAMES, same_frames};
+use state_laws::Replays;
 use std::alloc::Global;
 use std::marker::Model;
 
 /// A session of two players, frame by frame, for at most 36,000 frames. A player's buttons in a frame may be
-/// given later than the frame is made: it is made with the buttons that are expected, those that were given
-/// last before it, and made anew where they turn out to be others.
+/// given later than the frame is made. Then it is made with the buttons that are expected, those that were
+/// given last before it, and made again where they turn out to be others.
 #[derive(Drop)]
 pub struct Session<R: Replays> {
     alloc: Global,
@@ -48,8 +47,9 @@ impl<R: Replays> Model for Session<R> {
 
 impl<R: Replays> Session<R> {
     /// The session at power-on. The machine is that of power-on of NTSC with the cartridge of `replays` and a
-    /// recording of no frames. The window is 1 to 16: so many frames it goes on beyond those of which both players'
-    /// buttons are known. The memory of all inputs and images is taken here.
+    /// recording of no frames. The window is 1 to 16: so many frames it continues beyond those of which both
+    /// players' buttons are known. The memory of all inputs and images is taken here. It fails only when memory
+    /// runs out.
     pub fn make(
         alloc: Global,
         machine: Machine,
@@ -77,7 +77,8 @@ impl<R: Replays> Session<R> {
         })
     }
 
-    /// Gives the buttons of player 1 in a frame.
+    /// Gives the buttons of player 1 in a frame. The frame is 0 to 35,999, and the buttons are bits 0 to 7. It
+    /// fails where there is no such frame, where the frame's buttons were given, or where another bit is set.
     pub fn local(&mut self, frame: u64, buttons: u16) -> Result<(), InputFault>
         ensures ok { OnOk result (self.new ≡ record self.old { local = slice_set self.old.local frame (Some buttons); confirmed = self.new.confirmed }) }
         ensures err { OnErr result (self.new ≡ self.old) }
@@ -88,7 +89,8 @@ impl<R: Replays> Session<R> {
         self.inputs.local(frame, buttons)
     }
 
-    /// Gives the buttons of player 2 in a frame.
+    /// Gives the buttons of player 2 in a frame. The frame is 0 to 35,999, and the buttons are bits 0 to 7. It
+    /// fails where there is no such frame, where the frame's buttons were given, or where another bit is set.
     pub fn remote(&mut self, frame: u64, buttons: u16) -> Result<(), InputFault>
         ensures ok { OnOk result (self.new ≡ record self.old { remote = slice_set self.old.remote frame (Some buttons); confirmed = self.new.confirmed }) }
         ensures err { OnErr result (self.new ≡ self.old) }
@@ -99,8 +101,9 @@ impl<R: Replays> Session<R> {
         self.inputs.remote(frame, buttons)
     }
 
-    /// Makes the next frame, with the frames before it as they are expected now. It waits for nobody. Where it is
-    /// refused, the session is as it was.
+    /// Makes the next frame, with the frames before it as they are expected now. It waits for nobody. It fails
+    /// where 36,000 frames were made, where it went its window beyond the confirmed frames, or when memory runs
+    /// out. Then the session is as it was.
     pub fn advance(&mut self) -> Result<(), AdvanceFault>
         ensures frames { OnOk result (self.new.frames ≡ self.old.frames + 1) }
         // The machine is that of the frames so far with the expected buttons.
@@ -157,7 +160,7 @@ impl<R: Replays> Session<R> {
         self.inputs.confirmed() as u64
     }
 
-    /// The machine, at the start of the frame behind those that it made.
+    /// The machine, at the start of the frame after those that it made.
     pub fn machine(&self) -> &Machine
         ensures machine { result.now ≡ self.now.machine }
         ensures at { result.now.at ≡ frame_length * self.now.frames }
@@ -166,9 +169,9 @@ impl<R: Replays> Session<R> {
         &self.machine
     }
 
-    /// The kept images, newest first, one more than the window has frames at most. Each frame that may still turn out
-    /// wrong has one of its start or of a frame at most three earlier, from which the frames are made again: so no more
-    /// than three in front of the first wrong one are.
+    /// The kept images, newest first, one more than the window has frames at most. Each frame that may still
+    /// turn out wrong has one of its start, or of a frame at most three earlier. The frames are made again from
+    /// there, so no more than three of them are before the first wrong one.
     pub fn images(&self) -> &KeptImages
         ensures near { (f : ℕ) → f ≤ self.now.frames → self.now.frames ≤ f + self.now.window → ReachBackTo f result.now.images }
         ensures most { result.now.most ≡ self.now.window + 1 }

@@ -14,7 +14,7 @@ const LAST_FRAME: u64 = 35_999;
 /// The bits of a word that name a button.
 const BUTTONS: u16 = 0xff;
 
-/// The words of a player who gave none.
+/// The words of a player who gave none. It fails only when memory runs out.
 pub(crate) fn none_given(alloc: Global) -> Result<Vec<Option<u16>>, NoMemory>
     ensures { IfOk result (λ words. words.items ≡ no_words) }
 {
@@ -26,7 +26,8 @@ pub(crate) fn none_given(alloc: Global) -> Result<Vec<Option<u16>>, NoMemory>
     Ok(words)
 }
 
-/// Gives a player's word of a frame.
+/// Gives a player's word of a frame. The frame is 0 to 35,999, and the buttons are bits 0 to 7. It fails where
+/// there is no such frame, where the frame's buttons were given, or where another bit is set.
 pub(crate) fn give(words: &mut [Option<u16>], frame: u64, buttons: u16) -> Result<(), InputFault>
     requires { length words.old ≡ most_frames }
     ensures ok { OnOk result (words.new ≡ slice_set words.old frame (Some buttons)) }

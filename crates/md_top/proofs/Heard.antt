@@ -5,7 +5,7 @@ use Rattle.md_pads.specs.Recording.{Recorded}
 use Rattle.md_machine.specs.Console.{Console, IsRunTo, power_on}
 use Rattle.md_machine.specs.Media.{Media}
 use Rattle.md_machine.specs.Starts.{Start}
-use Rattle.md_reached.specs.Heard.{HearsLevels, HearsSides}
+use Rattle.machine_laws.specs.Heard.{HearsLevels, HearsSides}
 use Rattle.md_top.specs.Heard.{HearsRuns}
 
 -- what a law says of the runs of this cartridge

@@ -9,8 +9,8 @@ use Rattle.md_machine.specs.Outputs.{frames_bytes, journal_bytes, sound_bytes}
 use Rattle.md_machine.specs.Starts.{IsStart, Start}
 use Rattle.md_machine.proofs.Kept.{cart-stays}
 use Rattle.md_machine.proofs.Regions.{run_stays}
-use Rattle.md_reached.specs.Reached.{IsReached}
-use Rattle.md_reached.specs.Settling.{GoesOn}
+use Rattle.machine_laws.specs.Reached.{IsReached}
+use Rattle.machine_laws.specs.Settling.{GoesOn}
 use Rattle.save_state.specs.Ready.{IsReady}
 use Rattle.save_state.specs.Versions.{IsState}
 use Rattle.save_state.specs.States.{kept_bytes, settled_console, state_bytes}

@@ -12,7 +12,7 @@ use Rattle.md_machine.specs.Outputs.{frame_bytes, frame_length, frames_bytes, jo
 use Rattle.md_machine.specs.Media.{Media, joined, no_media}
 use Rattle.md_machine.specs.Movers.{mover-lt}
 use Rattle.md_machine.specs.Starts.{IsStart, Start, batches_below}
-use Rattle.md_reached.specs.Reached.{IsReached}
+use Rattle.machine_laws.specs.Reached.{IsReached}
 use Rattle.save_state.specs.States.{state_bytes}
 use Rattle.md_top.specs.Courses.{CameTo}
 use Rattle.md_top.specs.Heard.{HearsRuns}

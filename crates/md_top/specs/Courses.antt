@@ -4,7 +4,7 @@ use Rattle.md_machine.specs.Console.{IsRunTo}
 use Rattle.md_machine.specs.Machines.{MachineValue}
 use Rattle.md_machine.specs.Media.{no_media}
 use Rattle.md_machine.specs.Starts.{IsStart, Start}
-use Rattle.md_reached.specs.Reached.{IsReached}
+use Rattle.machine_laws.specs.Reached.{IsReached}
 use Rattle.md_top.specs.Heard.{HearsRuns}
 use Rattle.md_top.specs.Runs.{RunLaws, entries_from, media_from}
 use Rattle.md_top.specs.declared.course.Course.{Course}

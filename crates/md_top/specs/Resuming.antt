@@ -7,8 +7,8 @@ use Rattle.md_machine.specs.Media.{Media, joined}
 use Rattle.md_machine.specs.Outputs.{frames_bytes, journal_bytes, sound_bytes}
 use Rattle.md_machine.specs.ValidParts.{HasValidParts}
 use Rattle.md_machine.specs.Starts.{Start}
-use Rattle.md_reached.specs.Reached.{IsReached}
-use Rattle.md_reached.specs.Settling.{GoesOn}
+use Rattle.machine_laws.specs.Reached.{IsReached}
+use Rattle.machine_laws.specs.Settling.{GoesOn}
 use Rattle.save_state.specs.Ready.{IsReady}
 use Rattle.save_state.specs.States.{settled_console, state_bytes}
 use Rattle.save_state.specs.Versions.{IsState}

@@ -15,9 +15,9 @@ ghost use Rattle.md_top.specs.Runs.{RunLaws, is_quiet, media_from, run_from};
 use md_debug::session_laws::debug_laws;
 use md_machine::{Machine, laws};
 use md_pads::Recording;
-use md_reached::{saved, settling};
+use machine_laws::{saved, settling};
 use md_rollback::outcome_laws::rollback_laws;
-use state_laws::states_keep_one_machine;
+use state_laws::verdicts::states_keep_one_machine;
 use std::alloc::Global;
 
 /// What the laws of the machine say of the runs from where a machine is.

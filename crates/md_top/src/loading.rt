@@ -13,7 +13,7 @@ use crate::inputs::Inputs;
 use md_machine::{Machine, laws};
 use md_outer::{Depot, Fetch};
 use md_pads::Recording;
-use md_reached::saved;
+use machine_laws::saved;
 use md_word::NoMemory;
 use rom_header::Cart;
 use save_state::{StateFault, read};

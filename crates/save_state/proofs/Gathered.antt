@@ -62,7 +62,7 @@ cut_sub bytes numbers store false long some e =
     let c = cut (part_of sub_part bytes) [] numbers store (part_long sub_part bytes (omega (arith, long)) ∙ sym some) e in
     (c.0, λ h. absurd cc)
 
--- the parts of what the bus keeps, behind RAM and bank register
+-- the parts of what the bus keeps, after RAM and bank register
 pub record AreBehind (bytes v f p l : List ℕ) : Type 0 where
   pub video : part_of video_part bytes ≡ v
   pub fm_port : part_of fm_port_part bytes ≡ f
@@ -85,7 +85,7 @@ cut_behind bytes v f p l long a b c e =
     let third = cut (part_of psg_port_part bytes) (part_of board_part bytes ++ []) p l (part_long psg_port_part bytes (omega (arith, long)) ∙ sym c) second.1 in
     record { video = first.0; fm_port = second.0; psg_port = third.0; lines = sym (append-nil (part_of board_part bytes)) ∙ third.1 }
 
--- RAM and bank register are as long as the parts say, and all stands in its part
+-- RAM and bank register are as long as the parts say, and all is in its part
 pub cut_shared : (bytes store v f p l : List ℕ) (has : Bool) → length bytes ≡ 393620 → length v ≡ 65813 → length f ≡ 12316 → length p ≡ 10242 → length l ≡ 36 → gathered (shared_parts has) bytes ≡ store ++ (v ++ (f ++ (p ++ l))) → (length store ≡ store_size has) × (has ≡ true → part_of store_part bytes ≡ store) × AreBehind bytes v f p l
 cut_shared bytes store v f p l true long a b c d e =
     let rest = joined_long v f p l a b c d in

@@ -133,14 +133,14 @@ shared_read recording bytes pal at parts part has seen resets answer board read 
     subst (SharedSays recording at part answer) region (record { found = found; only = only; rule = rule; wrong = wrong }) in
     shared_read_in recording bytes at parts part has seen resets answer board read r s h a b e g f says.found says.only says.rule says.wrong
 
--- ---- the drawing half of the VDP
+-- ---- the VDP renderer
 
 drawing_read_in : (bytes : List ℕ) (at : ℕ) (part : List ℕ) (answer read : Result Drawing Unspell) → read ≡ placed (drawing_part ∷ []) answer → at ≡ at_of bytes → part ≡ drawing_bytes bytes → IfOk answer (drawing.Spells at (region_of bytes) part) → ((d : Drawing) → drawing.Spells at (region_of bytes) part d → answer ≢ failed NoMemory → answer ≡ Ok d) → ((p : ℕ) → answer ≡ failed (Rule p) → drawing.GoesWrongAt at (region_of bytes) part p) → ((p : ℕ) → drawing.GoesWrongAt at (region_of bytes) part p → answer ≡ failed (Rule p)) → Reads (IsPicture bytes) (DrawingFails bytes) read
 drawing_read_in bytes at part answer read r e f found only rule wrong =
     subst (Reads (IsPicture bytes) (DrawingFails bytes)) (sym r) (
     item (λ (n : ℕ). drawing.Spells n (region_of bytes)) (λ (n : ℕ). drawing.GoesWrongAt n (region_of bytes)) (drawing_part ∷ []) (drawing_part ∷ []) at (at_of bytes) part (drawing_bytes bytes) answer refl refl e f found only rule (λ p h n. wrong p h))
 
--- what a reader of the drawing half says, by its region
+-- what a reader of the renderer says, by its region
 record DrawingSays (at : ℕ) (part : List ℕ) (answer : Result Drawing Unspell) (pal : Bool) : Type 0 where
   found : IfOk answer (drawing.Spells at pal part)
   only : (d : Drawing) → drawing.Spells at pal part d → answer ≢ failed NoMemory → answer ≡ Ok d

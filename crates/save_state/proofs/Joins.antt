@@ -1,4 +1,4 @@
--- Readers side by side: what they keep together, and the least place at which one of them fails.
+-- Readers side by side: what they keep together, and the least offset at which one of them fails.
 use Rattle.std.proofs.Common.{◌≡◌, ◌≢◌, ℕ, ◌≤◌, min, true, false, Bool, List, refl, sym, subst, arith, inl, inr, ◌⊎◌, Result, Ok, Err}
 use Rattle.std.specs.Result.{IfOk, IsErrAnd}
 use Rattle.md_word.specs.declared.unspell.Unspell.{Unspell}
@@ -36,7 +36,7 @@ one_item {T} Keeps Fails (Err NoMemory) found only rule wrong = record {
   least = λ p e. absurd cc;
 }
 
--- an item with its places in the state
+-- an item with its offsets in the state
 pub in_parts : {T : Type 0} (Keeps : T → Type 0) (Fails : ℕ → Type 0) (parts : List Part) (answer : Result T Unspell) → are_ordered 0 parts ≡ true → Reads Keeps Fails answer → Reads Keeps (FailsIn parts Fails) (placed parts answer)
 in_parts {T} Keeps Fails parts (Ok x) ordered r = record {
   found = r.found;
@@ -223,7 +223,7 @@ item {T} Keeps Wrong parts whole at cycle bytes kept answer same ordered e f fou
     subst (λ (a : ℕ). Reads (Keeps a bytes) (FailsIn parts (Wrong a bytes)) (placed {T = T} parts answer)) e (
     in_parts {T = T} (Keeps at bytes) (Wrong at bytes) parts answer ordered (one_item {T = T} (Keeps at bytes) (Wrong at bytes) answer found only rule wrong))))
 
--- memory was wanting
+-- memory ran out
 pub wanting : {T : Type 0} (K : T → Type 0) (F : ℕ → Type 0) (answer : Result T Unspell) → IsErrAnd answer (λ fault. fault ≡ NoMemory) → Reads K F answer
 wanting {T} K F (Ok x) e = absurd e
 wanting {T} K F (Err fault) e = subst (λ (f : Unspell). Reads {T = T} K F (Err f)) (sym e) (no_memory {A = T} K F)

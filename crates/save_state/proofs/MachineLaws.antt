@@ -92,7 +92,7 @@ kept_of : (cart : List ℕ) (recording : Recorded) (bytes : List ℕ) (m : Machi
 unfolding pieces_of
 kept_of cart recording bytes m is = ((is.main, is.sub), ((is.shared, is.drawing), (is.fm, is.psg)))
 
--- a drawing half that is drained is the one in the machine
+-- a renderer that is drained is the one in the machine
 again : (at : ℕ) (t : Pieces) → drawing.IsDrained t.1.0.1 → t.1.0.1 ≡ drawing_in (built at t).console
 again at t is = λ i. record { next = t.1.0.1.next; note = t.1.0.1.note; has_view = is.view i; picture = t.1.0.1.picture; frame = is.frame i; pal = t.1.0.1.pal }
 
@@ -177,7 +177,7 @@ machine_read cart recording bytes at t m all ea right e made r0 =
       least = λ p w. absurd cc;
     }
 
--- ---- no event of the machine stands below its cycle
+-- ---- no event of the machine is below its cycle
 
 main_soon : (cart : List ℕ) (at : ℕ) (bytes : List ℕ) (state : State68) → main.Spells cart at bytes state → at ≤ state.next
 unfolding AllHold
@@ -287,7 +287,7 @@ from_48 cart bytes p right (drawing_is_wrong h) = from_49 (drawing_part ∷ []) 
 from_48 cart bytes p right (fm_is_wrong h) = in_fm bytes p h
 from_48 cart bytes p right (psg_is_wrong h) = in_psg bytes p h
 
--- and no place stands before the cycle
+-- and no offset is before the cycle
 from_40 : (cart bytes : List ℕ) (p : ℕ) → FailsAt cart bytes p → 40 ≤ p
 from_40 cart bytes p (at_is_wrong e h) = omega (arith, e)
 from_40 cart bytes p (region_is_wrong e h) = omega (arith, e)

@@ -1,4 +1,4 @@
--- The parts of a state: how long they are, and what stands in them.
+-- The parts of a state: how long they are, and what is in them.
 use Rattle.std.proofs.Common.{◌≡◌, ℕ, ◌+◌, ◌≤◌, Bool, true, false, List, ◌++◌, length, take, drop, Option, Some, None, is_some, not, if◌then◌else◌, refl, sym, ap, ◌∙◌, arith}
 use Rattle.std.specs.Int.{Width, byte_len, from_be_bytes}
 use Rattle.std.proofs.lemmas.List.{append-nil, take_at, drop_at, length-append, length-take, length-drop, take-append-le, drop-append-le}
@@ -56,7 +56,7 @@ cut a b c d e f = (
 pub part_long : (p : Part) (bytes : List ℕ) → p.place + p.size ≤ length bytes → length (part_of p bytes) ≡ p.size
 part_long p bytes inside = omega (arith, length-take p.size (drop p.place bytes), length-drop p.place bytes)
 
--- the number at a place of the front of a list
+-- the number at an offset of the front of a list
 pub number_front : (w : Width) (place : ℕ) (a b : List ℕ) → place + byte_len w ≤ length a → number_at w place (a ++ b) ≡ number_at w place a
 unfolding number_at
 number_front w place a b inside =
@@ -98,7 +98,7 @@ main_own cart at bytes s p = p.keeps.all
 pub drawing_own : (at : ℕ) (pal : Bool) (bytes : List ℕ) (d : Drawing) → drawing.Spells at pal bytes d → bytes ≡ drawing.drawing_bytes d
 drawing_own at pal bytes d p = p.keeps.all ∙ drawing_laws.same_bytes at 0 pal false (saved_drawing.numbers_of d)
 
--- ---- the Z80: its numbers, and RAM with the bank register behind them
+-- ---- the Z80: its numbers, and RAM with the bank register after them
 
 same_sub : (holds : Bool) (at : ℕ) (n : Saved80) (store : Option Store) → spelling (saved80.fields_by at holds (record { numbers = n; store = store })) ≡ spelling (saved80.fields_by 0 true (record { numbers = n; store = store }))
 unfolding spelling
@@ -131,7 +131,7 @@ pub numbers_long : (cart : List ℕ) (at : ℕ) (bytes : List ℕ) (s : State80)
 numbers_long cart at bytes s p =
     sym (ap length (numbers_are s)) ∙ numbers_sized (saved80.numbers_of s) (sub_laws.answers_four cart at bytes (saved80.kept_of s) p.keeps)
 
--- what is left behind the Z80's numbers
+-- what is left after the Z80's numbers
 pub size_left : (has : Bool) → sub.spelled_size has ≡ 62 + shared.store_size has
 size_left true = refl
 size_left false = refl

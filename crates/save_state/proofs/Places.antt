@@ -9,7 +9,7 @@ pub yes : (b : Bool) → ¬ (b ≡ false) → b ≡ true
 yes true h = refl
 yes false h = absurd (h refl)
 
--- where parts stand behind a place, and how the first and the others do
+-- where parts are after an offset, and how the first and the others do
 pub at_most : (from : ℕ) (ps : List Part) → are_ordered from ps ≡ true → from ≤ 393620
 at_most from [] e = leb-true from 393620 e
 at_most from (p ∷ ps) e =
@@ -20,14 +20,14 @@ pub first_inside : (from : ℕ) (ps : List Part) (d : Part) → 1 ≤ length ps 
 first_inside from [] d some e = absurd (omega (arith, some))
 first_inside from (p ∷ ps) d some e = at_most (p.place + p.size) ps (and_parts _ (are_ordered (p.place + p.size) ps) e).1
 
--- a place of the first part, and one behind it
+-- an offset of the first part, and one after it
 place_in : (p q : Part) (ps : List Part) (n : ℕ) → n < p.size → place_of (p ∷ (q ∷ ps)) n ≡ p.place + n
 place_in p q ps n lt = ap (λ (b : Bool). cond b (p.place + n) (place_of (q ∷ ps) (n - p.size))) (lt-ltb n p.size lt)
 
 place_behind : (p q : Part) (ps : List Part) (n : ℕ) → p.size ≤ n → place_of (p ∷ (q ∷ ps)) n ≡ place_of (q ∷ ps) (n - p.size)
 place_behind p q ps n le = ap (λ (b : Bool). cond b (p.place + n) (place_of (q ∷ ps) (n - p.size))) (le-ltb n p.size le)
 
--- no place stands before the first part
+-- no offset is before the first part
 pub from_first : (p : Part) (ps : List Part) (from n : ℕ) → are_ordered from (p ∷ ps) ≡ true → from ≤ place_of (p ∷ ps) n
 from_first p [] from n e = omega (arith, leb-true from p.place (and_parts _ _ e).0)
 from_first p (q ∷ ps) from n e =

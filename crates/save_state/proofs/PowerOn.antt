@@ -26,7 +26,7 @@ use Rattle.save_state.proofs.VersionLaws.{marks_differ}
 
 -- ---- nothing is to be settled
 
--- where nothing goes on, nothing is due
+-- where no fill and no copy is in progress, nothing is due
 nothing_due : (at : ℕ) (s : Vdp) → s.left ≡ 0 → length (due at s) ≡ 0
 unfolding due writes
 nothing_due at s none =
@@ -60,7 +60,7 @@ cycles_by digest own a b one other small_a small_b is same =
     sym (take_at (to_be_bytes w64 a) one 8 refl) ∙ ap (take 8) rest ∙ take_at (to_be_bytes w64 b) other 8 refl in
     sym (from_be_bytes-to_be_bytes_8 a small_a) ∙ ap (from_be_bytes w64) digits ∙ from_be_bytes-to_be_bytes_8 b small_b
 
--- what stands behind the digest and the cycle
+-- what follows the digest and the cycle
 rest_of : ℕ → Console → List ℕ
 rest_of at m = spelling (drop 3 (state_fields [] at m))
 
@@ -69,7 +69,7 @@ unfolding spelling rest_of
 one_cycle a b m w cart small_a small_b same =
     cycles_by (sha256 m.cart) (sha256 w.cart) a b (rest_of a m) (rest_of b w) small_a small_b (ap sha256 cart) same
 
--- bytes that are written begin with the mark
+-- bytes that are written begin with the magic
 marked : (at : ℕ) (m : Console) → part_of mark_part (kept_bytes at m) ≡ mark
 unfolding spelling rest_of
 marked at m = take_at mark (sha256 m.cart ++ (to_be_bytes w64 at ++ rest_of at m)) 8 refl

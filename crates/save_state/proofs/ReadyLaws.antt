@@ -42,7 +42,7 @@ FmKept s = fm.SpellsSynth (fm.synth_bytes s) s
 abbrev pub PsgKept : psg_synths.Synth → Type 0
 PsgKept s = psg.SpellsSynth (psg.synth_bytes s) s
 
--- the next events of the processors stand at the cycle or later
+-- the next events of the processors are at the cycle or later
 main_from : (at : ℕ) (m : Console) → IsStart (record { at = at; console = m }) → at ≤ m.main.next
 unfolding key_in next_of
 main_from at m start = start.quiet 0 (lit< tt)
@@ -51,7 +51,7 @@ sub_from : (at : ℕ) (m : Console) → IsStart (record { at = at; console = m }
 unfolding key_in sub_next_of
 sub_from at m start = start.quiet 1 (lit< tt)
 
--- a drawing half that shows line, note and picture of a machine
+-- a renderer that shows line, note and picture of a machine
 pub drawing_in-kept : (at : ℕ) (d : Drawing) (m : Console) → d.next ≡ m.line → d.note ≡ m.note → d.picture ≡ m.picture → d.pal ≡ m.pal → DrawingKept at d → DrawingKept at (drawing_in m)
 drawing_in-kept at d m line note picture pal kept ready =
     let own : drawing.IsReady at d = record {

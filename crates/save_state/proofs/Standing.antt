@@ -1,4 +1,4 @@
--- What stands in the bytes of a state, part by part.
+-- What is in the bytes of a state, part by part.
 use Rattle.std.proofs.Common.{◌≡◌, ℕ, Bool, List, length, get_or, sym, ap, ◌∙◌, arith}
 use Rattle.std.specs.Int.{w64}
 use Rattle.std.specs.Prelude.{slice_index}

@@ -38,7 +38,7 @@ mark-long First = refl
 mark-long Second = refl
 mark-long Third = refl
 
--- bytes with a mark are long enough for it
+-- bytes with a magic are long enough for it
 marked-long : (v : Version) (bytes : List ℕ) → part_of mark_part bytes ≡ mark_of v → 8 ≤ length bytes
 marked-long v bytes e = omega (arith, ap length e ∙ mark-long v, length-take 8 (drop 0 bytes), length-drop 0 bytes)
 
@@ -69,7 +69,7 @@ migrated-first : (bytes : List ℕ) → migrated First bytes ≡ mark ++ (take 4
 unfolding migrated from_first
 migrated-first bytes = refl
 
--- what stands behind the picture's rows of the first version
+-- what follows the picture's scanlines of the first version
 rows-behind-long : (bytes : List ℕ) → length bytes ≡ 378240 → length (replicate 15360 0 ++ (drop 354881 bytes ++ replicate 18 0)) ≡ 38737
 rows-behind-long bytes long =
     let rows = length-append (replicate 15360 0) (drop 354881 bytes ++ replicate 18 0) in
@@ -202,9 +202,6 @@ other_cart v cart bytes kept digest k g has ek ed ne e =
     let a : kept ≡ k = cc in
     let b : digest ≡ g = cc in
     record { version = v; has = has; kept_is = sym a ∙ ek; given_is = sym b ∙ ed; differ = λ same. ne (a ∙ same ∙ sym b) }
-
-pub told_other : (cart bytes kept digest k g : List ℕ) → kept ≡ part_of digest_part bytes → digest ≡ sha256 cart → IsOtherCart cart bytes k g → bad (OtherCart kept digest) ≡ bad (OtherCart k g)
-told_other cart bytes kept digest k g ek ed o = λ i. bad (OtherCart ((ek ∙ sym o.kept_is) i) ((ed ∙ sym o.given_is) i))
 
 pub same_cart : (cart bytes k g : List ℕ) → part_of digest_part bytes ≡ sha256 cart → IsOtherCart cart bytes k g → ⊥
 same_cart cart bytes k g d o = o.differ (o.kept_is ∙ d ∙ sym o.given_is)

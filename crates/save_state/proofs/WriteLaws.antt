@@ -70,7 +70,7 @@ numbers_cut bytes s ok e long =
     let some = numbers_long s ok (sym (ap length e) ∙ long) in
     (ap (take 62) (e ∙ sub_joined s) ∙ take_at (number_bytes s) (shared.store_bytes s.store) 62 some, ap (drop 62) (e ∙ sub_joined s) ∙ drop_at (number_bytes s) (shared.store_bytes s.store) 62 some)
 
--- the parts of what stands behind the VDP
+-- the parts of what follows the VDP
 ports_cut : (f p l : List ℕ) → length f ≡ 12316 → length p ≡ 10242 → length l ≡ 36 → (part_of fm_port_there (f ++ (p ++ l)) ≡ f) × (part_of psg_port_there (f ++ (p ++ l)) ≡ p) × (part_of lines_there (f ++ (p ++ l)) ≡ l)
 ports_cut f p l b c d = (
   take_at f (p ++ l) 12316 b,
@@ -78,7 +78,7 @@ ports_cut f p l b c d = (
   ap (take 36) (ap (drop 22558) (sym (append_assoc f p l)) ∙ drop_at (f ++ p) l 22558 (omega (arith, b, c, length-append f p))) ∙ ap (take 36) (sym (append-nil l)) ∙ take_at l [] 36 d,
 )
 
--- how many bytes stand behind the VDP
+-- how many bytes are after the VDP
 pub behind_long : (at : ℕ) (b : Board) → IsBoard b → length (behind_video at b) ≡ 22594
 behind_long at b ok =
     let f = fm_port.port_bytes (shared.settled_board at b).fm in
@@ -90,7 +90,7 @@ pub board_least : (has : Bool) → 22594 ≤ shared.board_size has
 board_least true = omega arith
 board_least false = omega arith
 
--- a list that ends with what stands behind the VDP, cut there
+-- a list that ends with what follows the VDP, cut there
 pub cut_there : (at : ℕ) (b : Board) (old all : List ℕ) (cut : ℕ) → IsBoard b → all ≡ old ++ shared.board_bytes (shared.settled_board at b) → cut + 22594 ≡ length all
     → (take cut all ≡ old ++ (shared.store_bytes b.store ++ vdp_bytes (shared.settled_board at b).vdp)) × (drop cut all ≡ behind_video at b)
 cut_there at b old all cut ok e long =
@@ -105,7 +105,7 @@ cut_there at b old all cut ok e long =
 
 -- ---- RAM and bank register of whoever has them
 
--- those that the Z80 has, behind its numbers
+-- those that the Z80 has, after its numbers
 pub own_cut : (m : Console) (has : Bool) (apart : List ℕ) → IsChip80 m.sub → has ≡ is_some m.shared.store → apart ≡ sub.chip_bytes m.sub.state → length apart ≡ sub.spelled_size (is_some m.sub.state.store)
     → (part_of numbers_there apart ≡ number_bytes m.sub.state) × ((if has then [] else drop 62 apart) ≡ own_bytes m)
 own_cut m has apart ok h e long =
@@ -188,14 +188,7 @@ byte_of false = refl
 pub holder_byte : (m : Console) (has : Bool) (byte : ℕ) → has ≡ is_some m.shared.store → byte ≡ bool_byte has → byte ∷ [] ≡ holder_of m ∷ []
 holder_byte m has byte h e = ap (λ (n : ℕ). n ∷ []) (e ∙ byte_of has ∙ ap (λ (b : Bool). if b then 1 else 0) h)
 
-flag_of : (b : Bool) → bool_byte b ≡ flag_number b
-flag_of true = refl
-flag_of false = refl
-
-pub region_byte : (m : Console) (pal : Bool) (byte : ℕ) → pal ≡ m.pal → byte ≡ bool_byte pal → byte ∷ [] ≡ flag_number m.pal ∷ []
-region_byte m pal byte h e = ap (λ (n : ℕ). n ∷ []) (e ∙ flag_of pal ∙ ap flag_number h)
-
--- ---- lists behind one another
+-- ---- lists one after another
 
 seven_joined : (old a b c d e f g : List ℕ) → ((((((old ++ a) ++ b) ++ c) ++ d) ++ e) ++ f) ++ g ≡ old ++ (a ++ (b ++ (c ++ (d ++ (e ++ (f ++ g))))))
 seven_joined old a b c d e f g = simp (append_assoc)
@@ -210,7 +203,7 @@ seven old a b c d e f g r1 r2 r3 r4 r5 r6 r7 e1 e2 e3 e4 e5 e6 e7 =
     let p6 : r6 ≡ (((((old ++ a) ++ b) ++ c) ++ d) ++ e) ++ f = e6 ∙ ap (λ (x : List ℕ). x ++ f) p5 in
     e7 ∙ ap (λ (x : List ℕ). x ++ g) p6 ∙ seven_joined old a b c d e f g
 
--- three lists behind one another
+-- three lists one after another
 pub three : (old a b c r1 r2 r3 : List ℕ) → r1 ≡ old ++ a → r2 ≡ r1 ++ b → r3 ≡ r2 ++ c → r3 ≡ old ++ (a ++ (b ++ c))
 three old a b c r1 r2 r3 e1 e2 e3 = e3 ∙ ap (λ (x : List ℕ). x ++ c) (e2 ∙ ap (λ (x : List ℕ). x ++ b) e1) ∙ joined old a b c where
   joined : (old a b c : List ℕ) → ((old ++ a) ++ b) ++ c ≡ old ++ (a ++ (b ++ c))

@@ -11,7 +11,7 @@ use Rattle.save_state.specs.Items.{at_of, IsMain, MainFails, IsSub, SubFails, Is
 use Rattle.md_word.specs.Clock.{last_cycle}
 use Rattle.save_state.specs.States.{mark}
 
--- a field at this place breaks its rule
+-- a field at this offset breaks its rule
 pub data FailsAt (cart bytes : List ℕ) (place : ℕ) : Type 0 where
   at_is_wrong : place ≡ at_part.place → ¬ ((1 ≤ at_of bytes) × (at_of bytes ≤ last_cycle)) → FailsAt cart bytes place
   region_is_wrong : place ≡ region_part.place → ¬ (slice_index bytes region_part.place ≤ 1) → FailsAt cart bytes place
@@ -22,12 +22,12 @@ pub data FailsAt (cart bytes : List ℕ) (place : ℕ) : Type 0 where
   fm_is_wrong : FmFails bytes place → FailsAt cart bytes place
   psg_is_wrong : PsgFails bytes place → FailsAt cart bytes place
 
--- as many bytes as a state has, with its mark before them
+-- as many bytes as a state has, with its magic before them
 pub record HasForm (bytes : List ℕ) : Type 0 where
   pub long : length bytes ≡ state_size
   pub mark : part_of mark_part bytes ≡ mark
 
--- the parts behind the digest keep this machine, with nothing made that waits to be drained
+-- the parts after the digest keep this machine, with nothing made that waits to be drained
 pub record IsMachineOf (cart : List ℕ) (recording : Recorded) (bytes : List ℕ) (m : MachineValue) : Type 0 where
   pub at : m.at ≡ at_of bytes
   pub begun : 1 ≤ m.at

@@ -55,7 +55,7 @@ seen_resets bytes = number_at w64 (sub_part.place + 48) bytes
 abbrev pub holder_in : List ℕ → ℕ
 holder_in bytes = slice_index bytes holder_part.place
 
--- where the count of the resets that were written stands
+-- where the count of the resets that were written is
 abbrev pub resets_place : ℕ
 resets_place = board_part.place + 2
 
@@ -63,7 +63,7 @@ resets_place = board_part.place + 2
 abbrev pub resets_of : List ℕ → ℕ
 resets_of bytes = number_at w64 resets_place bytes
 
--- where the count of the FM port's writes stands
+-- where the count of the FM port's writes is
 abbrev pub fm_writes_place : ℕ
 fm_writes_place = fm_port_part.place + 26
 
@@ -78,7 +78,7 @@ pub record IsMain (cart bytes : List ℕ) (chip : Chip68Value) : Type 0 where
   pub image : chip.cart ≡ cart
   pub spells : main.Spells cart (at_of bytes) (main_bytes bytes) chip.state
 
--- they keep no 68000, and fail at this place of the state
+-- they keep no 68000, and fail at this offset of the state
 abbrev pub MainFails : List ℕ → List ℕ → ℕ → Type 0
 MainFails cart bytes place = FailsIn (main_part ∷ []) (main.GoesWrongAt cart (at_of bytes) (main_bytes bytes)) place
 
@@ -94,7 +94,7 @@ pub record IsSub (cart bytes : List ℕ) (chip : Chip80Value) : Type 0 where
   pub spells : sub.Spells cart (at_of bytes) (sub_bytes bytes) chip.state
   pub holder : is_holder (holder_in bytes) (stage_of bytes) ≡ true
 
--- they keep no Z80, or RAM is elsewhere, and fail at this place of the state
+-- they keep no Z80, or RAM is elsewhere, and fail at this offset of the state
 pub data SubFails (cart bytes : List ℕ) (place : ℕ) : Type 0 where
   chip_fails : FailsIn (sub_parts (holder_in bytes == 0)) (sub.GoesWrongAt cart (at_of bytes) (sub_bytes bytes)) place → SubFails cart bytes place
   holder_fails : place ≡ holder_part.place → is_holder (holder_in bytes) (stage_of bytes) ≡ false → SubFails cart bytes place
@@ -111,22 +111,22 @@ pub record IsShared (recording : Recorded) (bytes : List ℕ) (board : Board) : 
   pub spells : shared.Spells (at_of bytes) (region_of bytes) (shared_bytes bytes) board
   pub resets : seen_resets bytes ≤ resets_of bytes
 
--- they keep no board, or fewer resets than were seen, and fail at this place of the state
+-- they keep no board, or fewer resets than were seen, and fail at this offset of the state
 pub data SharedFails (bytes : List ℕ) (place : ℕ) : Type 0 where
   board_fails : FailsIn (shared_parts (holder_in bytes == 1)) (shared.GoesWrongAt (at_of bytes) (region_of bytes) (shared_bytes bytes)) place → SharedFails bytes place
   resets_fail : place ≡ resets_place → resets_of bytes < seen_resets bytes → SharedFails bytes place
 
--- ---- the drawing half of the VDP
+-- ---- the VDP renderer
 
--- the bytes that keep the drawing half
+-- the bytes that keep the renderer
 abbrev pub drawing_bytes : List ℕ → List ℕ
 drawing_bytes bytes = part_of drawing_part bytes
 
--- they keep this drawing half
+-- they keep this renderer
 abbrev pub IsPicture : List ℕ → Drawing → Type 0
 IsPicture bytes d = drawing.Spells (at_of bytes) (region_of bytes) (drawing_bytes bytes) d
 
--- they keep no drawing half, and fail at this place of the state
+-- they keep no renderer, and fail at this offset of the state
 abbrev pub DrawingFails : List ℕ → ℕ → Type 0
 DrawingFails bytes place = FailsIn (drawing_part ∷ []) (drawing.GoesWrongAt (at_of bytes) (region_of bytes) (drawing_bytes bytes)) place
 
@@ -145,7 +145,7 @@ pub record IsFm (bytes : List ℕ) (synth : fm_synths.Synth) : Type 0 where
   pub next : number_at w64 fm_next_part.place bytes ≡ first_batch (at_of bytes)
   pub writes : ¬ HasLateFm bytes
 
--- synthesis, next batch or writes fail at this place of the state
+-- synthesis, next batch or writes fail at this offset of the state
 pub data FmFails (bytes : List ℕ) (place : ℕ) : Type 0 where
   synth_fails : FailsIn (fm_part ∷ []) (fm.SynthGoesWrongAt (part_of fm_part bytes)) place → FmFails bytes place
   next_fails : place ≡ fm_next_part.place → number_at w64 fm_next_part.place bytes ≢ first_batch (at_of bytes) → FmFails bytes place
@@ -166,7 +166,7 @@ pub record IsPsg (bytes : List ℕ) (synth : psg_synths.Synth) : Type 0 where
   pub next : number_at w64 psg_next_part.place bytes ≡ first_batch (at_of bytes)
   pub writes : ¬ HasLatePsg bytes
 
--- synthesis, next batch or writes fail at this place of the state
+-- synthesis, next batch or writes fail at this offset of the state
 pub data PsgFails (bytes : List ℕ) (place : ℕ) : Type 0 where
   psg_synth_fails : FailsIn (psg_part ∷ []) (psg.SynthGoesWrongAt (part_of psg_part bytes)) place → PsgFails bytes place
   psg_next_fails : place ≡ psg_next_part.place → number_at w64 psg_next_part.place bytes ≢ first_batch (at_of bytes) → PsgFails bytes place

@@ -1,17 +1,17 @@
--- Where the parts of a saved state stand. This project's profile.
+-- Where the parts of a saved state are. This project's profile.
 use Rattle.std.specs.Prelude.{ℕ, ◌+◌, ◌-◌, ◌&&◌, Bool, nat_le, nat_lt, min, if◌then◌else◌, List, [], ◌∷◌, ◌++◌, take, drop, sum, slice_index}
 use Rattle.save_state.specs.declared.layout.Part.{Part}
 
--- how many bytes each part has, in their order; nothing stands between them
+-- how many bytes each part has, in their order; nothing is between them
 abbrev pub layout : List ℕ
 layout =
-    -- the mark, the digest of the cartridge, the cycle, and the region
+    -- the magic, the digest of the cartridge, the cycle, and the region
     8 ∷ 32 ∷ 8 ∷ 1 ∷
     -- the 68000
     65714 ∷
     -- the Z80's numbers, who has its RAM, and RAM with the bank register
     62 ∷ 1 ∷ 8194 ∷
-    -- the VDP, and its drawing half
+    -- the VDP, and its renderer
     65813 ∷ 230410 ∷
     -- the FM chip: its port, its next batch, and its synthesis
     12316 ∷ 8 ∷ 741 ∷
@@ -28,7 +28,7 @@ state_size = sum layout
 abbrev pub nth_part : ℕ → Part
 nth_part n = record { place = sum (take n layout); size = slice_index layout n }
 
--- the mark that a state begins with
+-- the magic that a state begins with
 abbrev pub mark_part : Part
 mark_part = nth_part 0
 
@@ -64,7 +64,7 @@ store_part = nth_part 7
 abbrev pub video_part : Part
 video_part = nth_part 8
 
--- the VDP's drawing half, with its picture
+-- the VDP renderer, with its picture
 abbrev pub drawing_part : Part
 drawing_part = nth_part 9
 
@@ -96,11 +96,11 @@ psg_part = nth_part 15
 abbrev pub board_part : Part
 board_part = nth_part 16
 
--- the Z80 has its RAM behind its numbers, where the bus has not
+-- the Z80 has its RAM after its numbers, where the bus has not
 abbrev pub sub_parts : Bool → List Part
 sub_parts has = sub_part ∷ (if has then store_part ∷ [] else [])
 
--- what the bus keeps stands in five parts, in four where it has no RAM
+-- what the bus keeps is in five parts, in four where it has no RAM
 abbrev pub shared_parts : Bool → List Part
 shared_parts has =
     (if has then store_part ∷ [] else []) ++ (video_part ∷ fm_port_part ∷ psg_port_part ∷ board_part ∷ [])
@@ -109,7 +109,7 @@ shared_parts has =
 abbrev pub numbers_there : Part
 numbers_there = record { place = 0; size = 62 }
 
--- the parts of what the bus keeps behind the VDP
+-- the parts of what the bus keeps after the VDP
 abbrev pub fm_port_there : Part
 fm_port_there = record { place = 0; size = 12316 }
 
@@ -119,7 +119,7 @@ psg_port_there = record { place = 12316; size = 10242 }
 abbrev pub lines_there : Part
 lines_there = record { place = 22558; size = 36 }
 
--- how many bytes do not stand in their place at once
+-- how many bytes are put apart while a state is written
 abbrev pub apart_size : ℕ
 apart_size = 22594
 
@@ -132,13 +132,13 @@ abbrev pub gathered : List Part → List ℕ → List ℕ
 gathered [] bytes = []
 gathered (p ∷ ps) bytes = part_of p bytes ++ gathered ps bytes
 
--- where a place of the gathered bytes stands; the end of them is the end of the last part
+-- where an offset of the gathered bytes is; the end of them is the end of the last part
 abbrev pub place_of : List Part → ℕ → ℕ
 place_of [] n = 0
 place_of (p ∷ []) n = p.place + min n p.size
 place_of (p ∷ (q ∷ ps)) n = if nat_lt n p.size then p.place + n else place_of (q ∷ ps) (n - p.size)
 
--- each part stands behind the one before it, and within the state
+-- each part is after the one before it, and within the state
 abbrev pub are_ordered : ℕ → List Part → Bool
 are_ordered from [] = nat_le from state_size
 are_ordered from (p ∷ ps) = nat_le from p.place && are_ordered (p.place + p.size) ps

@@ -11,7 +11,7 @@ use Rattle.save_state.specs.Layout.{board_part}
 use Rattle.save_state.specs.declared.version.Version.{Version}
 use Rattle.save_state.specs.declared.version.Version.TheVariants.{First, Second, Third}
 
--- where the words of pad 1 and of pad 2 stand in the form that is written
+-- where the words of pad 1 and of pad 2 are in the form that is written
 abbrev pub pads1_place : ℕ
 pads1_place = board_part.place + 14
 
@@ -24,7 +24,7 @@ has_buttons First word = nat_lt word (2 ^ 8)
 has_buttons Second word = nat_lt word (2 ^ 8)
 has_buttons Third word = true
 
--- the word at a place has others
+-- the word at an offset has others
 abbrev pub HasOthers : Version → ℕ → List ℕ → Type 0
 HasOthers version place bytes = has_buttons version (number_at w16 place bytes) ≡ false
 
@@ -32,17 +32,17 @@ HasOthers version place bytes = has_buttons version (number_at w16 place bytes) 
 abbrev pub HasPads : Version → List ℕ → Type 0
 HasPads version bytes = ¬ HasOthers version pads1_place bytes × ¬ HasOthers version pads2_place bytes
 
--- a field at this place breaks its rule, or that of the version
+-- a field at this offset breaks its rule, or that of the version
 abbrev pub FailsUnder : Version → List ℕ → List ℕ → ℕ → Type 0
 FailsUnder version cart bytes =
     Either (Either (FailsAt cart bytes) (λ p. (p ≡ pads1_place) × HasOthers version pads1_place bytes))
     (λ p. (p ≡ pads2_place) × HasOthers version pads2_place bytes)
 
--- the first place at which one does
+-- the first offset at which one does
 abbrev pub IsFirstFault : Version → List ℕ → List ℕ → ℕ → Type 0
 IsFirstFault version cart bytes place = IsLeast (FailsUnder version cart bytes) place
 
--- the parts behind the digest keep this machine by the version's rules
+-- the parts after the digest keep this machine by the version's rules
 abbrev pub IsMachineUnder : Version → List ℕ → Recorded → List ℕ → MachineValue → Type 0
 IsMachineUnder version cart recording bytes m =
     (IsMachineOf cart recording bytes m × ¬ HasOthers version pads1_place bytes) × ¬ HasOthers version pads2_place bytes

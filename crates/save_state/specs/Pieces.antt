@@ -13,7 +13,7 @@ use Rattle.md_machine.specs.Starts.{first_batch}
 use Rattle.save_state.specs.Items.{IsMain, MainFails, IsSub, SubFails, IsShared, SharedFails, IsPicture, DrawingFails, IsFm, FmFails, IsPsg, PsgFails}
 use Rattle.save_state.specs.Joining.{KeepsBoth, Either}
 
--- the 68000 and the Z80; the board and the drawing half; the syntheses of the FM chip and the PSG
+-- the 68000 and the Z80; the board and the renderer; the syntheses of the FM chip and the PSG
 abbrev pub Pieces : Type 0
 Pieces = (Chip68Value × Chip80Value) × ((Board × Drawing) × (fm_synths.Synth × psg_synths.Synth))
 
@@ -22,7 +22,7 @@ abbrev pub KeepsPieces : List ℕ → Recorded → List ℕ → Pieces → Type 
 KeepsPieces cart recording bytes =
     KeepsBoth (KeepsBoth (IsMain cart bytes) (IsSub cart bytes)) (KeepsBoth (KeepsBoth (IsShared recording bytes) (IsPicture bytes)) (KeepsBoth (IsFm bytes) (IsPsg bytes)))
 
--- some piece fails at this place of the bytes
+-- some piece fails at this offset of the bytes
 abbrev pub Fails : List ℕ → List ℕ → ℕ → Type 0
 Fails cart bytes =
     Either (Either (MainFails cart bytes) (SubFails cart bytes)) (Either (Either (SharedFails bytes) (DrawingFails bytes)) (Either (FmFails bytes) (PsgFails bytes)))

@@ -1,4 +1,4 @@
--- When a machine may be kept as it stands, so that its bytes are read again. This project's profile.
+-- When a machine may be kept as it is, so that its bytes are read again. This project's profile.
 use Rattle.std.specs.Prelude.{◌≡◌, ℕ, ◌≤◌, true}
 use Rattle.m68k_chip.specs.Rules as main
 use Rattle.z80_chip.specs.Rules as sub
@@ -10,8 +10,7 @@ use Rattle.md_machine.specs.Starts.{IsStart}
 use Rattle.md_word.specs.Clock.{last_cycle}
 use Rattle.save_state.specs.States.{are_fm_early, are_psg_early}
 
--- the parts may be kept at the cycle, no event stands below it, and the rules that speak of several parts
--- hold
+-- the parts may be kept at the cycle, no event is below it, and the rules that speak of several parts hold
 pub record IsReady (at : ℕ) (m : Console) : Type 0 where
   pub begun : 1 ≤ at
   pub near : at ≤ last_cycle

@@ -10,13 +10,13 @@ use Rattle.save_state.specs.declared.fault.StateFault.{StateFault}
 use Rattle.save_state.specs.declared.fault.StateFault.TheVariants.{Form, NoMemory}
 use Rattle.save_state.specs.declared.version.Version.{Version}
 
--- a rule that fails is one of the state's form, at the place of the version's bytes
+-- a rule that fails is one of the state's form, at the offset of the version's bytes
 abbrev pub refusal_of : Version → Unspell → StateFault
 refusal_of version (fields.Rule place) = Form (place_back version place)
 refusal_of version fields.NoMemory = NoMemory
 
 -- bytes of the form that is written, and of this cartridge, are refused at a field of which this is the
--- place in the bytes of the version
+-- offset in the bytes of the version
 pub record FieldFailsBack (version : Version) (cart newest : List ℕ) (place : ℕ) : Type 0 where
   pub field : ℕ
   pub own : part_of digest_part newest ≡ sha256 cart

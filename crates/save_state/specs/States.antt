@@ -47,7 +47,7 @@ number_bytes state = sub.chip_bytes (record state { store = None })
 abbrev pub own_bytes : Console → List ℕ
 own_bytes m = if is_some m.shared.store then [] else shared.store_bytes m.sub.state.store
 
--- what the bus keeps behind the VDP, as it is once it is settled to a cycle
+-- what the bus keeps after the VDP, as it is once it is settled to a cycle
 abbrev pub behind_video : ℕ → Board → List ℕ
 behind_video at b = fm_port.port_bytes (settled_board at b).fm ++ (psg_port.port_bytes b.psg ++ shared.lines_bytes (lines_of b))
 
@@ -73,12 +73,12 @@ state_fields digest at m =
     ∷ block 36 (shared.lines_bytes (lines_of m.shared)) true
     ∷ []
 
--- the bytes that keep a machine as it stands, with the SHA-256 of its cartridge's image
+-- the bytes that keep a machine as it is, with the SHA-256 of its cartridge's image
 abbrev pub kept_bytes : ℕ → Console → List ℕ
 kept_bytes at m = spelling (state_fields (sha256 m.cart) at m)
 
--- the machine with the bytes of fill and copy, and the overflows of the timers, made that stand below a
--- cycle, as it is kept
+-- the machine with the bytes of fill and copy, and the overflows of the timers, made that are below a cycle,
+-- as it is kept
 abbrev pub settled_console : ℕ → Console → Console
 settled_console at m = record m { shared = settled_board at m.shared }
 
@@ -92,8 +92,8 @@ is_holder holder stage =
     if (stage == 1) || (stage == 2) then holder == 0
     else (if stage == 3 then holder == 1 else nat_le holder 1)
 
--- each write that the FM chip's port holds stands the gap of its processor before the next event of
--- that processor, at least
+-- each write that the FM chip's port holds is earlier than the next event of its processor, by the gap of that
+-- processor at least
 abbrev pub are_fm_early : ℕ → ℕ → Port → Bool
 are_fm_early main sub port = list_all (λ w. is_before_next main sub w.key) port.writes
 

@@ -22,13 +22,13 @@ size_of First = 378240
 size_of Second = 393602
 size_of Third = state_size
 
--- bytes of a version: its mark, and as many as it has
+-- bytes of a version: its magic, and as many as it has
 pub record HasVersion (version : Version) (bytes : List ℕ) : Type 0 where
   pub mark_is : part_of mark_part bytes ≡ mark_of version
   pub long : length bytes ≡ size_of version
 
 -- those of the form that is written, made of the first version's: the region and the height of the display
--- come to them, both 0, sixteen rows behind the picture, and that no pad counted a fall
+-- come to them, both 0, sixteen scanlines after the picture, and that no pad counted a fall
 unfoldable pub from_first : List ℕ → List ℕ
 from_first bytes =
     mark ++ (take 40 (drop 8 bytes) ++ ((0 ∷ [])
@@ -50,8 +50,8 @@ abbrev pub newest_of : Option (List ℕ) → List ℕ → List ℕ
 newest_of None bytes = bytes
 newest_of (Some newest) bytes = newest
 
--- where a place of those stands in the bytes of the first version; what was made stands where the next byte
--- does that was there
+-- where an offset of those is in the bytes of the first version; what was added is where the next byte of the
+-- first version is
 abbrev pub place_in_first : ℕ → ℕ
 place_in_first place =
     if nat_le place 48 then place
@@ -59,7 +59,7 @@ place_in_first place =
     else (if nat_lt place 354883 then place - 2
     else (if nat_lt place 370243 then 354881 else min (place - 15362) 378240)))
 
--- where it stands in the bytes of a version
+-- where it is in the bytes of a version
 unfoldable pub place_back : Version → ℕ → ℕ
 place_back First place = place_in_first place
 place_back Second place = min place 393602
@@ -72,14 +72,14 @@ pub record IsState (cart bytes : List ℕ) (start : Start) : Type 0 where
   pub pads : HasPads version (migrated version bytes)
   pub newest : IsNewest cart (migrated version bytes) start
 
--- bytes of no version are refused at this place: they are too short for a mark, or begin with none, or are
--- longer or shorter than those of the version whose mark they have
+-- bytes of no version are refused at this offset: they are too short for a magic, or begin with none, or are
+-- longer or shorter than those of the version whose magic they have
 pub data IsUnversioned (bytes : List ℕ) (place : ℕ) : Type 0 where
   unmarked : length bytes < 8 → place ≡ length bytes → IsUnversioned bytes place
   strange : 8 ≤ length bytes → ((version : Version) → part_of mark_part bytes ≢ mark_of version) → place ≡ 0 → IsUnversioned bytes place
   other_size : (version : Version) → part_of mark_part bytes ≡ mark_of version → length bytes ≢ size_of version → place ≡ min (length bytes) (size_of version) → IsUnversioned bytes place
 
--- bytes of a version and of this cartridge break the rule of a field at this place, of which the one in
+-- bytes of a version and of this cartridge break the rule of a field at this offset, of which the one in
 -- their migration is the first
 pub record BreaksRuleAt (cart bytes : List ℕ) (place : ℕ) : Type 0 where
   pub version : Version
@@ -89,7 +89,7 @@ pub record BreaksRuleAt (cart bytes : List ℕ) (place : ℕ) : Type 0 where
   pub first : IsFirstFault version cart (migrated version bytes) field
   pub place_is : place ≡ place_back version field
 
--- the bytes are refused at this place
+-- the bytes are refused at this offset
 abbrev pub IsWrongAt : List ℕ → List ℕ → ℕ → Type 0
 IsWrongAt cart bytes place = IsUnversioned bytes place ⊎ BreaksRuleAt cart bytes place
 

@@ -1,9 +1,9 @@
 /// Why bytes are no saved state of a cartridge.
 #[derive(Clone, Copy, PartialEq, Eq, Debug)]
 pub enum StateFault {
-    /// They are as long as no state, or begin with another mark, or a field breaks its rule.
+    /// They are as long as no state, or begin with another magic, or a field breaks its rule.
     Form {
-        /// The lesser of the two lengths, or 0, or where the first such field stands.
+        /// The lesser of the two lengths, or 0, or where the first such field is.
         place: u64,
     },
     /// They are a state of another cartridge.

@@ -27,17 +27,17 @@ use std::sync::Arc;
 use vdp_chip::ChipVdp;
 use z80_chip::Chip80;
 
-/// Where the number of the Z80's stage stands, and how many resets it has seen.
+/// Where the number of the Z80's stage is, and how many resets it has seen.
 const STAGE: usize = SUB.place + 8;
 
 const SEEN_RESETS: usize = SUB.place + 48;
 
-/// Where the count of resets stands, and that of the FM chip's writes.
+/// Where the count of resets is, and that of the FM chip's writes.
 const RESETS: usize = BOARD.place + 2;
 
 const FM_WRITES: usize = FM_PORT.place + FM_COUNT;
 
-/// Where the count of writes stands in what keeps the FM chip's port, and where in what keeps the PSG's.
+/// Where the count of writes is in what keeps the FM chip's port, and where in what keeps the PSG's.
 const FM_COUNT: usize = 26;
 
 const PSG_COUNT: usize = 0;
@@ -54,8 +54,9 @@ fn is_holder(holder: u8, stage: u8) -> bool
     }
 }
 
-/// Whether the FM chip's writes that the bytes keep stand well before the next events of their
-/// processors; where there is none nothing else is read. Bytes that keep no port are refused elsewhere.
+/// Whether the FM chip's writes that the bytes keep are well before the next events of their processors; where
+/// there is none nothing else is read. Bytes that keep no port are refused elsewhere. It fails only when memory
+/// runs out.
 #[inline(never)]
 fn are_fm_writes_early(alloc: Global, bytes: &[u8], at: u64) -> Result<bool, NoMemory>
     requires whole { length bytes.now ≡ state_size }
@@ -86,7 +87,7 @@ fn are_early_in_fm(port: &mut FmPort, bytes: &[u8], at: u64) -> bool
     }
 }
 
-/// The same of the PSG's writes.
+/// The same of the PSG's writes. It fails only when memory runs out.
 #[inline(never)]
 fn are_psg_writes_early(alloc: Global, bytes: &[u8], at: u64) -> Result<bool, NoMemory>
     requires whole { length bytes.now ≡ state_size }
@@ -115,7 +116,8 @@ fn are_early_in_psg(port: &mut PsgPort, bytes: &[u8], at: u64) -> bool
     }
 }
 
-/// The 68000.
+/// The 68000. It fails at the least offset in the state of a field that breaks its rule, or when memory runs
+/// out.
 #[inline(never)]
 pub fn read_main(alloc: Global, bytes: &[u8], at: u64, cart: Arc<Cart>) -> Result<Chip68, Unspell>
     requires whole { length bytes.now ≡ state_size }
@@ -125,7 +127,8 @@ pub fn read_main(alloc: Global, bytes: &[u8], at: u64, cart: Arc<Cart>) -> Resul
     placed(&[MAIN], Chip68::unspell(alloc, MAIN.of(bytes), at, cart))
 }
 
-/// The Z80, with its RAM where the holder is 0.
+/// The Z80, with its RAM where the holder is 0. It fails at the least offset in the state of a field that
+/// breaks its rule, or when memory runs out.
 #[inline(never)]
 pub fn read_sub(alloc: Global, bytes: &[u8], at: u64, cart: Arc<Cart>) -> Result<Chip80, Unspell>
     requires whole { length bytes.now ≡ state_size }
@@ -139,7 +142,8 @@ pub fn read_sub(alloc: Global, bytes: &[u8], at: u64, cart: Arc<Cart>) -> Result
     with_rule(chip, is_holder(holder, u8_at(bytes, STAGE)), HOLDER.place)
 }
 
-/// The board of a region, with the Z80's RAM where the holder is 1.
+/// The board of a region, with the Z80's RAM where the holder is 1. It fails at the least offset in the state
+/// of a field that breaks its rule, or when memory runs out.
 #[inline(never)]
 pub fn read_shared(
     alloc: Global,
@@ -167,7 +171,8 @@ pub fn read_shared(
     )
 }
 
-/// The drawing half of the VDP, of a region.
+/// The VDP renderer, of a region. It fails at the least offset in the state of a field that breaks its rule, or
+/// when memory runs out.
 #[inline(never)]
 pub fn read_drawing(alloc: Global, bytes: &[u8], at: u64, pal: bool) -> Result<ChipVdp, Unspell>
     requires whole { length bytes.now ≡ state_size }
@@ -181,7 +186,8 @@ pub fn read_drawing(alloc: Global, bytes: &[u8], at: u64, pal: bool) -> Result<C
     )
 }
 
-/// The FM synthesis, with its next batch and the writes that its port holds.
+/// The FM synthesis, with its next batch and the writes that its port holds. It fails at the least offset in
+/// the state of a field that breaks its rule, or when memory runs out.
 pub fn read_fm(alloc: Global, bytes: &[u8], at: u64) -> Result<FmSynth, Unspell>
     requires whole { length bytes.now ≡ state_size }
     requires cycle { at ≡ at_of bytes.now }
@@ -195,7 +201,8 @@ pub fn read_fm(alloc: Global, bytes: &[u8], at: u64) -> Result<FmSynth, Unspell>
     with_rule(synth, early, FM_WRITES)
 }
 
-/// The PSG's synthesis, with its next batch and the writes that its port holds.
+/// The PSG's synthesis, with its next batch and the writes that its port holds. It fails at the least offset in
+/// the state of a field that breaks its rule, or when memory runs out.
 pub fn read_psg(alloc: Global, bytes: &[u8], at: u64) -> Result<PsgSynth, Unspell>
     requires whole { length bytes.now ≡ state_size }
     requires cycle { at ≡ at_of bytes.now }

@@ -5,7 +5,8 @@ ghost use Rattle.save_state.specs.Layout.{are_ordered};
 use crate::layout::{Part, place_of};
 use md_word::Unspell;
 
-/// The answer of an item's reader, with its places in the state.
+/// The answer of an item's reader, with its offset in the state in place of that in the item's parts. It fails
+/// as the reader did.
 pub fn placed<T: Drop>(parts: &[Part], answer: Result<T, Unspell>) -> Result<T, Unspell>
     requires { are_ordered 0 parts.now ≡ true }
     ensures { result ≡ joining.placed parts.now answer }
@@ -19,7 +20,8 @@ pub fn placed<T: Drop>(parts: &[Part], answer: Result<T, Unspell>) -> Result<T, 
     }
 }
 
-/// Both values; else the fault at the lesser place, where memory was there.
+/// Both values. Where one reader fails, they fail as it does; where both do, at the lesser offset, but out of
+/// memory comes first.
 pub fn both<A: Drop, B: Drop>(
     first: Result<A, Unspell>,
     second: Result<B, Unspell>,
@@ -49,7 +51,8 @@ fn lesser(fault: Unspell, other: Unspell) -> Unspell
     }
 }
 
-/// The answer, where a rule holds; else the fault at the lesser place, where memory was there.
+/// The answer, where a rule holds. Else it fails at the lesser offset of the rule and the answer's fault; out
+/// of memory comes first.
 pub fn with_rule<T: Drop>(
     answer: Result<T, Unspell>,
     holds: bool,

@@ -26,7 +26,7 @@ pub fn kept(machine: &Machine)
     machine.psg().is_read_again();
 }
 
-/// The machine of power-on stands at cycle 0, where nothing of it is to be settled, and its bytes are no saved
+/// The machine of power-on is at cycle 0, where nothing of it is to be settled, and its bytes are no saved
 /// state of its cartridge.
 pub fn power_on_is_no_state()
     ensures settled { (cart : List ℕ) (recording : Recorded) (pal : Bool) → settled_console 0 (power_on cart recording pal) ≡ power_on cart recording pal }

@@ -5,14 +5,14 @@ ghost use Rattle.save_state.specs.Layout.{are_ordered, state_size};
 use md_word::NoMemory;
 use std::alloc::Global;
 
-/// So many bytes of a saved state from a place on.
+/// So many bytes of a saved state from an offset on.
 #[derive(Clone, Copy)]
 pub struct Part {
     pub place: usize,
     pub size: usize,
 }
 
-/// How many bytes each part has, in their order; nothing stands between them.
+/// How many bytes each part has, in their order; nothing is between them.
 const MARK_SIZE: usize = 8;
 
 const DIGEST_SIZE: usize = 32;
@@ -47,10 +47,10 @@ const PSG_SIZE: usize = 26;
 
 const BOARD_SIZE: usize = 36;
 
-/// The text with which a state begins.
+/// The magic, with which a state begins.
 pub const TEXT: [u8; 8] = *b"MDSTATE3";
 
-/// Where it stands.
+/// Where it is.
 pub const MARK: Part = Part {
     place: 0,
     size: MARK_SIZE,
@@ -104,7 +104,7 @@ pub const VIDEO: Part = Part {
     size: VIDEO_SIZE,
 };
 
-/// Its drawing half.
+/// The VDP renderer.
 pub const DRAWING: Part = Part {
     place: VIDEO.place + VIDEO_SIZE,
     size: DRAWING_SIZE,
@@ -160,8 +160,7 @@ pub const PADS2: usize = BOARD.place + 16;
 /// How many bytes a saved state has.
 pub const LENGTH: usize = BOARD.place + BOARD.size;
 
-/// How many bytes of a machine do not stand in their place at once while it is written: those behind the VDP that the
-/// bus keeps.
+/// How many bytes of a machine are put apart while it is written: those after the VDP that the bus keeps.
 pub const APART: usize = FM_PORT.size + PSG_PORT.size + BOARD.size;
 
 /// How many bytes the parts of an item have at most: those of the bus.
@@ -205,7 +204,7 @@ impl Part {
     }
 }
 
-/// The bytes of parts, one after another.
+/// The bytes of parts, one after another. It fails only when memory runs out.
 pub fn gathered(alloc: Global, bytes: &[u8], parts: &[Part]) -> Result<Vec<u8>, NoMemory>
     requires whole { length bytes.now ≡ state_size }
     requires ordered { are_ordered 0 parts.now ≡ true }
@@ -220,7 +219,7 @@ pub fn gathered(alloc: Global, bytes: &[u8], parts: &[Part]) -> Result<Vec<u8>, 
     Ok(all)
 }
 
-/// Where a place of the bytes of parts stands in the state.
+/// Where an offset of the bytes of parts is in the state.
 pub fn place_of(parts: &[Part], place: u64) -> u64
     requires { are_ordered 0 parts.now ≡ true }
     ensures { result ≡ layout.place_of parts.now place }

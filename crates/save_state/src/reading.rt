@@ -37,8 +37,9 @@ use std::sync::Arc;
 use vdp_chip::ChipVdp;
 use z80_chip::Chip80;
 
-/// The machine that the bytes of a saved state of this cartridge keep, with a recording of the pads. The
-/// state may be of any version.
+/// The machine that the bytes of a saved state of this cartridge keep, with a recording of the pads. The state
+/// may be of any version. It fails with the offset of the first invalid byte, with both digests where the state
+/// is another cartridge's, or when memory runs out.
 pub fn read(
     alloc: Global,
     bytes: &[u8],
@@ -58,7 +59,8 @@ pub fn read(
     read_with(alloc, bytes, &digest, cart, recording)
 }
 
-/// The same by the SHA-256 of the cartridge's image, for whoever reads many states of one cartridge.
+/// The same by the SHA-256 of the cartridge's image, for whoever reads many states of one cartridge. It fails
+/// as `read` does.
 pub fn read_with(
     alloc: Global,
     bytes: &[u8],
@@ -93,7 +95,7 @@ pub fn read_with(
     }
 }
 
-/// The same of the bytes of the form that is written, made of those of a version: refused at their places.
+/// The same of the bytes of the form that is written, made of those of a version: refused at their offsets.
 fn read_newest(
     alloc: Global,
     version: Version,
@@ -131,8 +133,8 @@ fn refusal_of(version: Version, fault: Unspell) -> StateFault
     }
 }
 
-/// The machine of the parts behind the digest, or the least place at which a field breaks its rule or that
-/// of the version.
+/// The machine of the parts after the digest, or the least offset at which a field breaks its rule or that of
+/// the version.
 fn read_under(
     alloc: Global,
     version: Version,
@@ -158,7 +160,7 @@ fn has_buttons(version: Version, word: u16) -> bool
     }
 }
 
-/// The machine of the parts behind the digest, or the least place at which a field breaks its rule.
+/// The machine of the parts after the digest, or the least offset at which a field breaks its rule.
 fn read_machine(
     alloc: Global,
     bytes: &[u8],
@@ -186,10 +188,10 @@ fn read_machine(
     }
 }
 
-/// The items of a state: the processors, the board with the drawing half of the VDP, and the sound chips.
+/// The items of a state: the processors, the board with the VDP renderer, and the sound chips.
 type Pieces = ((Chip68, Chip80), Chips);
 
-/// Both processors, or the least place at which one of them fails.
+/// Both processors, or the least offset at which one of them fails.
 #[inline(never)]
 fn read_processors(
     alloc: Global,
@@ -209,10 +211,10 @@ fn read_processors(
     )
 }
 
-/// The board with the drawing half of the VDP, and the sound chips.
+/// The board with the VDP renderer, and the sound chips.
 type Chips = ((Shared, ChipVdp), (FmSynth, PsgSynth));
 
-/// The other chips, or the least place at which one of them fails.
+/// The other chips, or the least offset at which one of them fails.
 #[inline(never)]
 fn read_chips(
     alloc: Global,
@@ -237,7 +239,7 @@ fn read_chips(
     both(board, sound)
 }
 
-/// The items, or the least place at which one of them fails.
+/// The items, or the least offset at which one of them fails.
 #[inline(never)]
 fn read_pieces(
     alloc: Global,

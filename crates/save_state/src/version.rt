@@ -18,28 +18,28 @@ pub enum Version {
     Third,
 }
 
-/// The text with which a state of the first version begins.
+/// The magic of a state of the first version.
 const FIRST_TEXT: [u8; 8] = *b"MDSTATE1";
 
 /// How many bytes it has.
 const FIRST_LENGTH: usize = 378_240;
 
-/// Where its 68000 stands, where the drawing half of its VDP does, and where what is behind it.
+/// The offsets of its 68000, of its VDP renderer, and of what follows the renderer.
 const FIRST_MAIN: usize = 48;
 
 const FIRST_DRAWING: usize = 139_831;
 
 const FIRST_FM_PORT: usize = 354_881;
 
-/// Where the height of the display stands, where the drawing half ends but for the rows behind the
-/// picture of NTSC, and where what is behind those.
+/// The offsets of the height of the display, of the end of the renderer but for the scanlines after the picture
+/// of NTSC, and of what follows those.
 const TALL: u64 = 139_832;
 
 const FIRST_ROWS_END: u64 = 354_883;
 
 const ROWS_END: u64 = 370_243;
 
-/// The text with which a state of the second version begins, and how many bytes it has.
+/// The magic of a state of the second version, and how many bytes it has.
 const SECOND_TEXT: [u8; 8] = *b"MDSTATE2";
 
 const SECOND_LENGTH: usize = 393_602;
@@ -49,14 +49,15 @@ const NTSC: [u8; 1] = [0];
 
 const LOW: [u8; 1] = [0];
 
-/// The rows that a picture for PAL has more.
+/// The scanlines that a picture for PAL has more.
 const MORE_ROWS: [u8; 15_360] = [0; 15_360];
 
 /// That neither pad counted a fall of TH.
 const NO_FALLS: [u8; 18] = [0; 18];
 
-/// The version of the bytes, or the place at which they are refused: their number where they are too few
-/// for a mark, 0 where they begin with none, and else the lesser of their number and that of the version.
+/// The version of the bytes. It fails with the offset at which they are refused: their number where they are
+/// too few for a magic, 0 where they begin with none, and else the lesser of their number and that of the
+/// version.
 pub fn version_of(bytes: &[u8]) -> Result<Version, u64>
     ensures version { IfOk result (λ version. HasVersion version bytes.now) }
     ensures none { IfErr result (λ place. IsUnversioned bytes.now place) }
@@ -85,7 +86,7 @@ pub fn version_of(bytes: &[u8]) -> Result<Version, u64>
     Err(0)
 }
 
-/// Whether the bytes begin with a mark.
+/// Whether the bytes begin with a magic.
 fn begins_with(bytes: &[u8], mark: &[u8; 8]) -> bool
     requires { 8 ≤ length bytes.now }
     ensures { IsTrue result ↔ (part_of mark_part bytes.now ≡ mark.now) }
@@ -93,7 +94,8 @@ fn begins_with(bytes: &[u8], mark: &[u8; 8]) -> bool
     MARK.of(bytes) == mark.as_slice()
 }
 
-/// The bytes of the form that is written, made of those of an older version; none where they have that form.
+/// The bytes of the form that is written, made of those of an older version; `None` where they have that form.
+/// It fails only when memory runs out.
 #[tactic(auto, unfolding(crate::specs::Versions::migrated))]
 pub fn migrated(alloc: Global, version: Version, bytes: &[u8]) -> Result<Option<Vec<u8>>, NoMemory>
     requires { HasVersion version bytes.now }
@@ -116,7 +118,8 @@ pub fn newest_of<'a>(made: &'a Option<Vec<u8>>, bytes: &'a [u8]) -> &'a [u8]
     }
 }
 
-/// The bytes of the form that is written, made of those of the first version.
+/// The bytes of the form that is written, made of those of the first version. It fails only when memory runs
+/// out.
 fn from_first(alloc: Global, bytes: &[u8]) -> Result<Vec<u8>, NoMemory>
     requires { length bytes.now ≡ 378240 }
     ensures { IfOk result (λ newer. newer.items ≡ from_first bytes.now) }
@@ -134,7 +137,7 @@ fn from_first(alloc: Global, bytes: &[u8]) -> Result<Vec<u8>, NoMemory>
     Ok(newer)
 }
 
-/// The same made of those of the second version.
+/// The same made of those of the second version. It fails only when memory runs out.
 fn from_second(alloc: Global, bytes: &[u8]) -> Result<Vec<u8>, NoMemory>
     requires { length bytes.now ≡ 393602 }
     ensures { IfOk result (λ newer. newer.items ≡ from_second bytes.now) }
@@ -146,7 +149,7 @@ fn from_second(alloc: Global, bytes: &[u8]) -> Result<Vec<u8>, NoMemory>
     Ok(newer)
 }
 
-/// Where a place of the form that is written stands in the bytes of a version of which it was made.
+/// Where an offset of the form that is written is in the bytes of a version of which it was made.
 #[tactic(auto, unfolding(crate::specs::Versions::place_back))]
 pub fn place_back(version: Version, place: u64) -> u64
     ensures { result ≡ versions.place_back version place }

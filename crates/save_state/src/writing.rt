@@ -30,7 +30,7 @@ const NUMBERS_THERE: Part = Part {
     size: SUB.size,
 };
 
-/// The parts of what the bus keeps behind the VDP.
+/// The parts of what the bus keeps after the VDP.
 const FM_PORT_THERE: Part = Part {
     place: 0,
     size: FM_PORT.size,
@@ -47,7 +47,8 @@ const LINES_THERE: Part = Part {
 };
 
 /// The bytes of the machine at its cycle, as many as each state has where the Z80's RAM has one owner. Where
-/// its parts may be kept, they are a saved state of its cartridge, which is read again.
+/// its parts may be kept, they are a saved state of its cartridge, which is read again. It fails only when
+/// memory runs out.
 pub fn write(alloc: Global, machine: &Machine) -> Result<Vec<u8>, NoMemory>
     requires { machine.now.at ≤ last_cycle }
     ensures bytes { IfOk result (λ bytes. bytes.items ≡ state_bytes machine.now.at machine.now.console) }
@@ -59,7 +60,8 @@ pub fn write(alloc: Global, machine: &Machine) -> Result<Vec<u8>, NoMemory>
     write_with(alloc, machine, &digest)
 }
 
-/// The same by the SHA-256 of the cartridge's image, for whoever writes many states of one cartridge.
+/// The same by the SHA-256 of the cartridge's image, for whoever writes many states of one cartridge. It fails
+/// only when memory runs out.
 pub fn write_with(alloc: Global, machine: &Machine, digest: &[u8; 32]) -> Result<Vec<u8>, NoMemory>
     requires cycle { machine.now.at ≤ last_cycle }
     requires digest { digest.now ≡ sha256 machine.now.console.cart }
@@ -75,8 +77,8 @@ pub fn write_with(alloc: Global, machine: &Machine, digest: &[u8; 32]) -> Result
     Ok(bytes)
 }
 
-/// Appends them, for whoever has the memory: there is room for the bytes, and in `apart` for what does not stand in
-/// its place at once, 22,594 bytes at most.
+/// Appends the same bytes without taking memory. `into` has room for them, and `apart` for the bytes of the bus
+/// after the VDP, 22,594 at most, which wait there until the renderer is written.
 pub fn spell(machine: &Machine, digest: &[u8; 32], apart: &mut Vec<u8>, into: &mut Vec<u8>)
     requires cycle { machine.now.at ≤ last_cycle }
     requires digest { digest.now ≡ sha256 machine.now.console.cart }
@@ -117,7 +119,7 @@ fn put_part(part: Part, bytes: &[u8], into: &mut Vec<u8>)
     put_bytes(part.of(bytes), into);
 }
 
-/// Appends what stands before the chips: the mark, the digest of the cartridge, the cycle and the region.
+/// Appends the header: the magic, the digest of the cartridge, the cycle and the region.
 fn put_head(machine: &Machine, digest: &[u8; 32], into: &mut Vec<u8>)
     requires { vec_len into.old + 49 ≤ vec_capacity into.old }
     ensures bytes { into.new.items ≡ into.old.items ++ (mark ++ (digest.now ++ (to_be_bytes w64 machine.now.at ++ (flag_number machine.now.console.pal ∷ [])))) }
@@ -169,8 +171,8 @@ fn own_of(has: bool, sub: &[u8]) -> &[u8]
     if has { &[] } else { &sub[SUB.size..] }
 }
 
-/// Appends what the bus keeps, as it is once it is settled to the cycle, and cuts off what stands behind the VDP,
-/// which is put apart: the drawing half comes first.
+/// Appends what the bus keeps, as it is once it is settled to the cycle, and cuts off what follows the VDP, which
+/// is put apart: the renderer comes first.
 fn put_board(machine: &Machine, apart: &mut Vec<u8>, into: &mut Vec<u8>)
     requires cycle { machine.now.at ≤ last_cycle }
     requires apart { apart_size ≤ vec_capacity apart.old }
@@ -203,7 +205,7 @@ fn cut_off(into: &mut Vec<u8>, apart: &mut Vec<u8>)
     into.truncate(from);
 }
 
-/// Appends the sound chips: ports, which the bus keeps, next batches and syntheses, and the lines behind them.
+/// Appends the sound chips: ports, which the bus keeps, next batches and syntheses, and the lines after them.
 fn put_sound(machine: &Machine, behind: &[u8], into: &mut Vec<u8>)
     requires cycle { machine.now.at ≤ last_cycle }
     requires behind { length behind.now ≡ 22594 }

@@ -1,4 +1,5 @@
--- Whatever bytes there are for a chip or the board, they keep one whose rules hold, or go wrong at a place.
+-- Whatever bytes there are for a chip or the board, they keep one whose rules hold, or are invalid at an
+-- offset.
 use Rattle.std.proofs.Common.{◌≡◌, ◌⊎◌, inl, inr, ℕ, ◌+◌, Bool, true, false, List, length, take, drop, min, Option, Some, None, IfSome, refl, arith}
 use Rattle.std.proofs.lemmas.Bool.{cases_eq, cases_lt}
 use Rattle.std.proofs.lemmas.List.{length-take}
@@ -161,7 +162,7 @@ store_long : (bytes : List ℕ) → shared.IsLength bytes → (length (take (sha
 store_long bytes (inl short) = inl (omega (arith, short, length-take (shared.store_length bytes) bytes))
 store_long bytes (inr long) = inr (omega (arith, long, length-take (shared.store_length bytes) bytes))
 
--- a part, and what stands behind it
+-- a part, and what follows it
 chained : {A B : Type 0} (start : ℕ) (Wrong Behind : ℕ → Type 0) → A ⊎ ((place : ℕ) × Wrong place) → (A → (place : ℕ) → Wrong place → ⊥)
     → B ⊎ ((place : ℕ) × Behind place) → (A × B) ⊎ ((place : ℕ) × shared.GoesWrongFrom start Wrong Behind place)
 chained start Wrong Behind (inr (place, wrong)) none rest = inr (start + place, inl (place, wrong, refl))

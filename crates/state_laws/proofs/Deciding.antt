@@ -1,4 +1,4 @@
--- What a reader that never wants memory answers: the value that bytes keep, or where they go wrong.
+-- What a reader that never runs out of memory answers: the value that bytes keep, or where they are invalid.
 use Rattle.std.proofs.Common.{◌≡◌, ◌≢◌, ◌⊎◌, inl, inr, ℕ, List, length, min, Option, Some, None, Result, Ok, refl, ap, subst}
 use Rattle.std.proofs.lemmas.Bool.{cases_eq}
 use Rattle.std.specs.Result.{IfOk}
@@ -10,7 +10,7 @@ use Rattle.md_fields.proofs.Refusals.{failed, same_rule}
 use Rattle.md_word.specs.declared.unspell.Unspell.{Unspell}
 use Rattle.md_word.specs.declared.unspell.Unspell.TheVariants.{NoMemory, Rule}
 
--- a value is kept, or something goes wrong at a place
+-- a value is kept, or something is invalid at an offset
 abbrev pub Verdict : {T : Type 0} → (T → Type 0) → (ℕ → Type 0) → Type 0
 Verdict {T} Kept Wrong = ((x : T) × Kept x) ⊎ ((place : ℕ) × Wrong place)
 
@@ -21,7 +21,7 @@ by_first : {S : Type 0} (fields : S → List Field) (bytes : List ℕ) (s : S) �
 by_first fields bytes s keeps None e = inl (keeps, e)
 by_first fields bytes s keeps (Some place) e = inr (place, record { saved = s; keeps = keeps; first = e })
 
--- numbers that stand in bytes are right, or a rule fails
+-- numbers that are in bytes are right, or a rule fails
 pub fields_judged : {S : Type 0} (fields : S → List Field) (bytes : List ℕ) (s : S) → IsBytes bytes → Stand 0 (fields s) bytes
     → (Keeps fields bytes s × IsRight fields s) ⊎ ((place : ℕ) × Breaks fields bytes place)
 fields_judged fields bytes s fits stands = by_first fields bytes s (kept fields bytes s fits stands) (first_wrong 0 (fields s)) refl

@@ -1,4 +1,5 @@
--- Each item of a state is kept by its bytes, or fails at a least place, once it is known what the chips' bytes are.
+-- Each item of a state is kept by its bytes, or fails at a least offset, once it is known what the chips' bytes
+-- are.
 use Rattle.std.proofs.Common.{◌≡◌, ◌≢◌, ◌⊎◌, inl, inr, ℕ, leb, eqb, Bool, true, false, ◌==◌, List, [], ◌∷◌, refl, sym, ◌∙◌, Result, Ok, Err}
 use Rattle.std.specs.Int.{w64}
 use Rattle.md_fields.specs.Places.{number_at}
@@ -34,7 +35,7 @@ use Rattle.save_state.proofs.Joins.{joined}
 use Rattle.state_laws.proofs.Chips.{BoardKept}
 use Rattle.state_laws.proofs.Deciding.{Decided, Verdict, decided_by}
 
--- the answer of a reader that wants no memory
+-- the answer of a reader that needs no memory
 pub record Answered {T : Type 0} (Keeps : T → Type 0) (Fails : ℕ → Type 0) : Type 0 where
   pub answer : Result T Unspell
   pub reads : Reads Keeps Fails answer
@@ -117,7 +118,7 @@ sub_answered cart bytes v =
       memory = ruled_memory (placed parts d.answer) holds holder_part.place (placed_memory parts d.answer d.memory);
     }
 
--- ---- the board and the drawing half of the VDP
+-- ---- the board and the VDP renderer
 
 shared_decided : (recording : Recorded) (at : ℕ) (pal : Bool) (bytes : List ℕ) → Verdict (BoardKept recording at pal bytes) (shared.GoesWrongAt at pal bytes) → Decided (BoardKept recording at pal bytes) (shared.GoesWrongAt at pal bytes)
 shared_decided recording at pal bytes v =

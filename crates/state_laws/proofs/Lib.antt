@@ -1,5 +1,9 @@
 pub mod Chips
 pub mod Deciding
 pub mod Items
+pub mod Machines
 pub mod Numbers
+pub mod ReachedSettled
+pub mod Recordings
+pub mod StateLaws
 pub mod Whole

@@ -1,4 +1,4 @@
--- The numbers that stand in bytes, whatever these are, one for each field of a chip's table.
+-- The numbers that are in bytes, whatever these are, one for each field of a chip's table.
 use Rattle.std.proofs.Common.{◌≡◌, ℕ, zero, suc, ◌+◌, Bool, List, [], ◌∷◌, ◌++◌, length, take, drop, refl, ap, ◌∙◌, arith}
 use Rattle.std.specs.Int.{w16}
 use Rattle.md_fields.specs.Fields.{Field}
@@ -21,7 +21,7 @@ use Rattle.psg_sound.specs.declared.saved_synth.SavedSynth.{SavedSynth as PsgNum
 use Rattle.bus_shared.specs.Saved.{lines_fields}
 use Rattle.bus_shared.specs.declared.saved_lines.SavedLines.{SavedLines}
 
--- so many words from a place on
+-- so many words from an offset on
 abbrev words_in : ℕ → ℕ → List ℕ → List ℕ
 words_in zero place bytes = []
 words_in (suc count) place bytes = number_at w16 place bytes ∷ words_in count (place + 2) bytes
@@ -46,7 +46,7 @@ main_there bytes long = (
   λ at holds. (refl, (refl, (refl, (refl, (refl, (refl, (refl, (refl, (refl, (refl, (refl, (refl, (refl, (refl, (refl, (refl, (refl, (refl, (refl, (refl, (refl, (refl, (refl, (refl, (refl, (refl, (refl, (refl, (words_there 32 104 bytes, (refl, (refl, (refl, (refl, long))))))))))))))))))))))))))))))))),
 )
 
--- the Z80's numbers, with what stands behind them
+-- the Z80's numbers, with what follows them
 pub sub_there : (bytes : List ℕ) → (n : Saved80) × ((at : ℕ) (has : Bool) (rest : List Field) → Stand 62 rest bytes → Stand 0 (saved80.number_fields at has n ++ rest) bytes)
 unfolding Stand
 sub_there bytes = (
@@ -62,7 +62,7 @@ video_there bytes long = (
   λ at pal. (refl, (refl, (words_there 64 65560 bytes, (words_there 40 65688 bytes, (refl, (refl, (refl, (refl, (refl, (refl, (refl, (refl, (refl, (refl, (refl, (refl, (refl, (refl, (refl, (refl, (refl, (refl, long)))))))))))))))))))))),
 )
 
--- its drawing half
+-- its renderer
 pub drawing_there : (bytes : List ℕ) → length bytes ≡ drawing.drawing_size → (n : saved_drawing.DrawingNumbers) × ((at : ℕ) (pal : Bool) → Stand 0 (saved_drawing.drawing_fields at pal n) bytes)
 unfolding Stand
 drawing_there bytes long = (
@@ -70,7 +70,7 @@ drawing_there bytes long = (
   λ at pal. (refl, (refl, (refl, (refl, long)))),
 )
 
--- latches and timers of the FM chip's port, with what stands behind them
+-- latches and timers of the FM chip's port, with what follows them
 pub fm_port_there : (bytes : List ℕ) → (n : FmNumbers) × ((at : ℕ) (rest : List Field) → Stand 26 rest bytes → Stand 0 (fm_port.number_fields at n ++ rest) bytes)
 unfolding Stand
 fm_port_there bytes = (

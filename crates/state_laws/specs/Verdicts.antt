@@ -4,7 +4,7 @@ use Rattle.md_pads.specs.Recording.{Recorded}
 use Rattle.md_machine.specs.Starts.{Start}
 use Rattle.save_state.specs.Versions.{IsOtherCart, IsState, IsWrongAt}
 
--- a machine at a cycle, a state of another cartridge with both digests, or wrong at a place
+-- a machine at a cycle, a state of another cartridge with both digests, or invalid at an offset
 pub data StateVerdict : Type 0 where
   Keeps : Start → StateVerdict
   OfOther : List ℕ → List ℕ → StateVerdict

@@ -2,7 +2,7 @@ use Rattle.std.proofs.Common.{◌≡◌, subst}
 use Rattle.std.specs.Prelude.{IfOk}
 use Rattle.md_debug.specs.Opened.{opened}
 use Rattle.md_debug.specs.Sessions.{SessionValue}
-use Rattle.state_images.specs.Images.{ImagesValue}
+use Rattle.state_laws.specs.Images.{ImagesValue}
 use Rattle.md_debug.proofs.playing.session_with.Goals as goal
 
 pub returns : goal.returns

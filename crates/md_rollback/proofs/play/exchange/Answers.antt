@@ -1,7 +1,7 @@
 use Rattle.std.proofs.Common.{ap, ◌∙◌}
 use Rattle.std.specs.Arc.{arc_value}
 use Rattle.md_pads.specs.declared.version.Version.{Version}
-use Rattle.recording_laws.specs.Recorded.{with_recording}
+use Rattle.machine_laws.specs.Recorded.{with_recording}
 use Rattle.md_rollback.proofs.Steps.{exchanged-machine}
 use Rattle.md_rollback.proofs.play.exchange.Goals as goal
 

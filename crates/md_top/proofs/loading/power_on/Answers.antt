@@ -6,7 +6,7 @@ use Rattle.md_machine.specs.Console.{power_on}
 use Rattle.md_machine.specs.Machines.{MachineValue}
 use Rattle.md_machine.specs.Media.{no_media}
 use Rattle.md_machine.specs.Starts.{IsStart}
-use Rattle.md_reached.specs.Reached.{IsReached}
+use Rattle.machine_laws.specs.Reached.{IsReached}
 use Rattle.md_top.specs.Courses.{IsFresh}
 use Rattle.md_top.specs.declared.inputs.Inputs.{Inputs}
 use Rattle.md_top.proofs.loading.power_on.Goals as goal

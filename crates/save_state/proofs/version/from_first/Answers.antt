@@ -6,7 +6,7 @@ use Rattle.save_state.specs.States.{mark}
 use Rattle.save_state.specs.Versions.{from_first}
 use Rattle.save_state.proofs.version.from_first.Goals as goal
 
--- nine lists, one behind the other
+-- nine lists, one after the other
 in_order : (a b c d e f g h k : List ℕ) → ((((((((([] ++ a) ++ b) ++ c) ++ d) ++ e) ++ f) ++ g) ++ h) ++ k) ≡ a ++ (b ++ (c ++ (d ++ (e ++ (f ++ (g ++ (h ++ k)))))))
 in_order a b c d e f g h k =
     append_assoc (((((((a ++ b) ++ c) ++ d) ++ e) ++ f) ++ g)) h k

@@ -2,7 +2,7 @@ use Rattle.std.proofs.Common.{◌-◌, ◌≤◌}
 use Rattle.md_debug.specs.Debuggees.{WentOn}
 use Rattle.md_debug.proofs.debuggee.Debuggee.go_to.Given as goal
 
--- the machine went on so far, and not past the end
+-- the machine continued so far, and not past the end
 abbrev pub invariant-events : goal.invariant-events
 invariant-events l = WentOn l.initial.self l.self.machine.at l.self × (l.self.machine.at ≤ l.end)
 

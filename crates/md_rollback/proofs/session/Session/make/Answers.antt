@@ -3,7 +3,7 @@ use Rattle.std.proofs.lemmas.List.Elements.{All-nil}
 use Rattle.md_pads.specs.Recording.{Frame, IsFrame, no_frames}
 use Rattle.md_machine.specs.Console.{power_on}
 use Rattle.md_machine.specs.Machines.{MachineValue}
-use Rattle.md_reached.specs.Reached.{IsReached}
+use Rattle.machine_laws.specs.Reached.{IsReached}
 use Rattle.save_state.specs.States.{settled_console}
 use Rattle.md_rollback.specs.Images.{Kept}
 use Rattle.md_rollback.specs.Sessions.{IsSession}

@@ -1,0 +1,10 @@
+pub mod BoardLines
+pub mod Heard
+pub mod Paces
+pub mod Processors
+pub mod Reached
+pub mod Recorded
+pub mod Settling
+pub mod Timers
+pub mod Video
+pub mod Writes

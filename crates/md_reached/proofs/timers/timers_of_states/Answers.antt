@@ -1,5 +1,0 @@
-use Rattle.md_reached.proofs.Spelled.{fm_timed}
-use Rattle.md_reached.proofs.timers.timers_of_states.Goals as goal
-
-pub returns : goal.returns
-returns c = λ at bytes m p. fm_timed at bytes m.shared.fm p

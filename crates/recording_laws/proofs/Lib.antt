@@ -1,3 +1,0 @@
-pub mod RecordedBoard
-pub mod RecordedMoves
-pub mod RecordedRuns

@@ -1,6 +1,0 @@
-use Rattle.state_images.proofs.Machines.{image_made}
-use Rattle.state_images.proofs.images.StateImagesImagesMachine.image.Goals as goal
-
-pub returns-clause-kept : goal.returns-clause-kept
-returns-clause-kept c =
-    image_made c.args.self.now c.args.machine.now c.write_with.result c.requires c.reached_may_be_kept.ensures c.write_with.ensures.kept c.write_with.ensures.bytes

@@ -1,5 +1,0 @@
-use Rattle.state_images.proofs.Machines.{keep_one}
-use Rattle.state_images.proofs.laws.images_keep_one_machine.Goals as goal
-
-pub returns : goal.returns
-returns c = λ images bytes a b one other. keep_one images bytes a b one other

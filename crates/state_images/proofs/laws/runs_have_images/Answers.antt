@@ -1,5 +1,0 @@
-use Rattle.state_images.proofs.Machines.{run_has}
-use Rattle.state_images.proofs.laws.runs_have_images.Goals as goal
-
-pub returns : goal.returns
-returns c = λ images m z end entries output has later near run. run_has images m z end entries output c.runs_reach.ensures has later near run
