@@ -10,10 +10,9 @@ ghost use Rattle.asm_m68k.specs.Reading as reading;
 
 use crate::building::built;
 use crate::stems::stem_of;
+use crate::{encode, read};
 use arrayvec::ArrayVec;
 use m68k_decode::{Op, decode};
-use crate::encode;
-use crate::read;
 use md_asm_text::{Piece, same, split};
 use md_disasm::text68;
 use md_word::{NoMemory, Size};

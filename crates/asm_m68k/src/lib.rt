@@ -9,6 +9,7 @@ pub mod encoding_laws;
 mod extension;
 mod first;
 mod form;
+mod form_values;
 mod judge;
 mod reader;
 mod reading;

@@ -10,12 +10,12 @@ ghost use Rattle.asm_z80.specs.Reading as reading;
 use crate::building::built;
 use crate::reader::read;
 use crate::stems::stem_of;
+use crate::{Bytes, encode};
 use md_asm_text::{Piece, same, split};
 use md_disasm::text80;
 use md_word::NoMemory;
 use std::alloc::Global;
 use z80_decode::{Op80, decode};
-use crate::{Bytes, encode};
 
 /// One to four bytes, filled up with 0.
 fn padded(bytes: &[u8]) -> [u8; 4]

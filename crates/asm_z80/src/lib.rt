@@ -7,6 +7,7 @@ mod codes;
 mod encoder;
 pub mod encoding_laws;
 mod form;
+mod form_values;
 mod judge;
 mod opcode;
 mod operands;
