@@ -32,6 +32,7 @@ use Rattle.asm_laws.proofs.Named68.{row_is_text}
 use Rattle.asm_laws.proofs.Rounds.{even, max_zero, org_is, org_line, org_text, plain_line, small, two_lines}
 use Rattle.asm_laws.proofs.Solid.{IsText}
 use Rattle.asm_laws.proofs.RoundTrip68.{from_front, front_long, image_is, main_round_trip, words_back}
+use Rattle.asm_m68k.proofs.Again.{none_op}
 
 abbrev word_row : ℕ → Row68
 word_row w = one (codes "dc.w") (operands.Opcode w)
@@ -108,10 +109,6 @@ illegal_is : (w : ℕ) (tail : List ℕ) → IsWord (made rows.Illegal (w ∷ ta
 unfolding made
 illegal_is w tail = record { text = λ at. refl; whole = refl }
 
-none_same : (w : ℕ) (tail rest : List ℕ) → unmatched (w ∷ rest) ≡ unmatched (w ∷ tail)
-unfolding unmatched
-none_same w tail rest = refl
-
 illegal_same : (w : ℕ) (tail rest : List ℕ) → made rows.Illegal (w ∷ rest) ≡ made rows.Illegal (w ∷ tail)
 unfolding made
 illegal_same w tail rest = refl
@@ -149,7 +146,7 @@ round_trip_by : (found : Option Row) (w : ℕ) (tail : List ℕ) (at : ℕ) → 
 round_trip_by None w tail at h is all e room =
     let picks : (rest : List ℕ) → instruction_of (w ∷ rest) ≡ unmatched (w ∷ rest) = λ rest. decoded_is_picked (w ∷ rest) h ∙ ap (λ (r : Option Row). picked r (w ∷ rest)) is in
     word_round_trip w tail at h (subst (λ (d : Decoded). IsWord d w) (sym (picks tail)) (unmatched_by _ _ w tail refl refl))
-    (λ rest. picks rest ∙ none_same w tail rest ∙ sym (picks tail)) e room
+    (λ rest. picks rest ∙ none_op w tail rest ∙ sym (picks tail)) e room
 round_trip_by (Some rows.Illegal) w tail at h is all e room =
     let picks : (rest : List ℕ) → instruction_of (w ∷ rest) ≡ made rows.Illegal (w ∷ rest) = λ rest. decoded_is_picked (w ∷ rest) h ∙ ap (λ (r : Option Row). picked r (w ∷ rest)) is in
     word_round_trip w tail at h (subst (λ (d : Decoded). IsWord d w) (sym (picks tail)) (illegal_is w tail))

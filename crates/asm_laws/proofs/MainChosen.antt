@@ -70,7 +70,7 @@ least said (word ∷ tail) at h a is = record {
   best = λ other k entered say. best_of said (word ∷ tail) other at k a (found said (word ∷ tail) at is).own entered say;
 }
 
-none_by : (code : Option (List ℕ)) (found : List ℕ) → code ≡ None → code ≡ Some found → ⊥
+pub none_by : (code : Option (List ℕ)) (found : List ℕ) → code ≡ None → code ≡ Some found → ⊥
 none_by code found none some = cc
 
 -- where nothing is found, no words say the pieces

@@ -31,9 +31,8 @@ use Rattle.md_asm_text.specs.Bodies.{told}
 use Rattle.md_asm_text.specs.Lines.{line_of}
 use Rattle.md_asm_text.specs.declared.body.Body.TheVariants as bodies
 use Rattle.asm_z80.specs.Instruction.{is_db}
-use Rattle.asm_z80.proofs.Sources.{is_none, row_opens}
+use Rattle.asm_z80.proofs.Sources.{is_none, led_by, row_opens}
 use Rattle.asm_laws.proofs.Line.{free, instruction_line, is_free, line_is}
-use Rattle.asm_laws.proofs.Rows80.{led_by}
 use Rattle.asm_laws.proofs.Solid.{IsText, four_solid, is_clean, marked, solid, solid_all, solid_more, text_more, text_solid, two_solid}
 
 -- ---- operands

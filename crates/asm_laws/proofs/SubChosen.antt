@@ -1,5 +1,5 @@
 -- What is assembled of pieces is chosen among all bytes that say them, and is found where some do.
-use Rattle.std.proofs.Common.{◌≡◌, ◌⊎◌, ℕ, zero, suc, ◌<◌, ◌≤◌, false, List, [], ◌∷◌, ◌++◌, length, Option, Some, None, append-nil, refl, ap, ◌∙◌, sym, subst, arith}
+use Rattle.std.proofs.Common.{◌≡◌, ◌⊎◌, ℕ, zero, suc, ◌<◌, ◌≤◌, false, List, [], ◌∷◌, ◌++◌, length, Some, None, append-nil, refl, ap, ◌∙◌, sym, subst, arith}
 use Rattle.z80_decode.specs.Instructions.{instruction_of}
 use Rattle.md_disasm.specs.Texts80.{text_of}
 use Rattle.md_asm_text.specs.Pieces.{Piece, pieces}
@@ -15,6 +15,7 @@ use Rattle.md_asm.specs.Codes.{sub_code}
 use Rattle.asm_laws.specs.Chosen.{AreChosen, IsPassed, Says}
 use Rattle.asm_laws.proofs.SubCodes.{own_or_passed}
 use Rattle.asm_laws.proofs.SubTexts.{assembled_again, found, keeps_text}
+use Rattle.asm_laws.proofs.MainChosen.{none_by}
 
 no_bytes : AreBytes []
 no_bytes i = omega arith
@@ -69,9 +70,6 @@ chosen said bytes at h a is = record {
   };
   best = λ other k say. best_of said bytes other at k a (found said bytes at is).own say;
 }
-
-none_by : (code : Option (List ℕ)) (found : List ℕ) → code ≡ None → code ≡ Some found → ⊥
-none_by code found none some = cc
 
 -- where nothing is found, no bytes say the pieces
 pub none : (said : List Piece) (at : ℕ) → at < 65536 → sub_code said at ≡ None → (bytes : List ℕ) → AreBytes bytes → Says bytes said at → ⊥

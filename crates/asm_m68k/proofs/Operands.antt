@@ -1,7 +1,6 @@
 -- How the texts of operands fall into pieces, and what is read of them.
-use Rattle.std.proofs.Common.{◌≡◌, ℕ, ◌+◌, ◌-◌, ◌*◌, ◌/◌, ◌%◌, ◌^◌, ◌<◌, ◌==◌, Bool, true, false, not, ◌&&◌, List, [], ◌∷◌, ◌++◌, nat_lt, append_assoc, append-nil, refl, ap, ◌∙◌, sym, arith, if◌then◌else◌, codes}
+use Rattle.std.proofs.Common.{◌≡◌, ℕ, ◌+◌, ◌-◌, ◌%◌, ◌<◌, ◌==◌, Bool, true, false, List, [], ◌∷◌, ◌++◌, nat_lt, append_assoc, append-nil, refl, ap, ◌∙◌, arith, if◌then◌else◌, codes}
 use Rattle.std.specs.Fmt.{digit_glyph}
-use Rattle.std.specs.List.{filter, flat_map, join_by}
 use Rattle.std.proofs.lemmas.Bool.Decides.{nat_tests}
 use Rattle.md_word.specs.Modes.{IsMode}
 use Rattle.md_word.specs.declared.mode.Mode.{Mode}
@@ -9,10 +8,10 @@ use Rattle.md_word.specs.declared.mode.Mode.TheVariants as modes
 use Rattle.md_word.specs.declared.size.Size.{Size}
 use Rattle.md_word.specs.declared.size.Size.TheVariants.{Byte, Word, Long}
 use Rattle.md_disasm.specs.Digits.{one_digit, two_digits, four_digits, eight_digits, marked_digit, marked_byte, marked_word, marked_long}
-use Rattle.md_disasm.specs.Operands68.{index_text, is_listed, list_text, mode_text, number_text, operand_text, register_name, registers}
+use Rattle.md_disasm.specs.Operands68.{index_text, mode_text, number_text, register_name}
 use Rattle.md_asm_text.specs.Pieces as pieces
-use Rattle.md_asm_text.specs.Pieces.{Piece, is_worded, is_name, split, told, closed}
-use Rattle.md_asm_text.proofs.Splits.{is_end, register_split, number_1, number_2, number_4, number_8, mark_split, word_ends, word_split}
+use Rattle.md_asm_text.specs.Pieces.{Piece, is_worded, is_name, split, told}
+use Rattle.md_asm_text.proofs.Splits.{is_end, register_split, number_2, number_4, number_8, mark_split, word_split, behind, apart}
 use Rattle.asm_m68k.specs.Reading.{operand_form, register_of, low_register_of, word_form}
 use Rattle.asm_m68k.specs.declared.form.Form.{Form}
 use Rattle.asm_m68k.specs.declared.form.Form.TheVariants as forms
@@ -60,9 +59,6 @@ IsWritten mode = Unit {0}
 
 -- ---- texts fall into these pieces
 
-pub behind : (p : Piece) (xs ys : List Piece) → xs ≡ ys → p ∷ xs ≡ p ∷ ys
-behind p xs ys e = ap (λ (l : List Piece). p ∷ l) e
-
 -- An and a bracket behind it
 in_bracket : (n : ℕ) (e : List ℕ) → split [] (40 ∷ 97 ∷ (one_digit n ++ (41 ∷ e))) ≡ pieces.Mark 40 ∷ address_word n ∷ pieces.Mark 41 ∷ split [] e
 unfolding is_worded
@@ -97,9 +93,6 @@ index_split index long e =
     ap (split []) (index_shape index long e)
     ∙ name_split index (46 ∷ ((if long then codes "l" else codes "w") ++ (41 ∷ e))) refl
     ∙ behind _ _ _ (size_letter long e)
-
-pub apart : (a b c e : List ℕ) → ((a ++ b) ++ c) ++ e ≡ a ++ (b ++ (c ++ e))
-apart a b c e = append_assoc (a ++ b) c e ∙ append_assoc a b (c ++ e)
 
 pub number_parts : (size : Size) (n : ℕ) (e : List ℕ) → n < 4294967296 → is_end e ≡ true → split [] (number_text size n ++ e) ≡ number_pieces size n ++ split [] e
 unfolding marked_byte marked_word marked_long is_worded

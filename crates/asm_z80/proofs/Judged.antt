@@ -113,7 +113,7 @@ tried_again bytes rest at h k a none =
 
 -- ---- what is tried has never a directive's text
 
-name_stays : (op : Op80) (at : ℕ) → (row_of op at).name ≡ (row_of op 0).name
+pub name_stays : (op : Op80) (at : ℕ) → (row_of op at).name ≡ (row_of op 0).name
 name_stays (ops.JumpRelative distance) at = refl
 name_stays _ at = refl
 

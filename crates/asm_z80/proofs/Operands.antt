@@ -1,5 +1,5 @@
 -- How the texts of operands fall into pieces, and what is read of them.
-use Rattle.std.proofs.Common.{◌≡◌, ℕ, ◌<◌, Bool, true, false, List, [], ◌∷◌, ◌++◌, nat_lt, refl, ap, ◌∙◌, append_assoc, arith, codes}
+use Rattle.std.proofs.Common.{◌≡◌, ℕ, ◌<◌, Bool, true, false, List, [], ◌∷◌, ◌++◌, nat_lt, refl, ap, ◌∙◌, arith, codes}
 use Rattle.std.proofs.lemmas.Bool.Decides.{nat_tests}
 use Rattle.md_word.specs.declared.bit.Bit.{Bit}
 use Rattle.md_word.specs.declared.bit.Bit.TheVariants.{Bit0, Bit1, Bit2, Bit3, Bit4, Bit5, Bit6, Bit7}
@@ -20,15 +20,9 @@ use Rattle.md_disasm.specs.declared.operand80.Operand80.TheVariants as operands
 use Rattle.md_asm_text.specs.Operands.{operands_of as parted}
 use Rattle.md_asm_text.specs.Pieces as pieces
 use Rattle.md_asm_text.specs.Pieces.{Piece, is_worded, is_name, split, told}
-use Rattle.md_asm_text.proofs.Splits.{is_end, number_2, number_4, mark_split, word_split}
+use Rattle.md_asm_text.proofs.Splits.{is_end, number_2, number_4, mark_split, word_split, behind, apart}
 use Rattle.asm_z80.specs.Forms.{Form, Nothing, AtWord, Displaced, Bare, AtNumber, Worded}
 use Rattle.asm_z80.specs.Reading.{operand_form}
-
-pub behind : (p : Piece) (xs ys : List Piece) → xs ≡ ys → p ∷ xs ≡ p ∷ ys
-behind p xs ys e = ap (λ (l : List Piece). p ∷ l) e
-
-apart : (a b c e : List ℕ) → ((a ++ b) ++ c) ++ e ≡ a ++ (b ++ (c ++ e))
-apart a b c e = append_assoc (a ++ b) c e ∙ append_assoc a b (c ++ e)
 
 byte_fits : (n : ℕ) → nat_lt n 256 ≡ true → n < 256
 byte_fits n h = grind (arith, nat_tests)

@@ -1,5 +1,5 @@
 -- How texts fall into pieces: words, the numbers of md_disasm, and what stands between them.
-use Rattle.std.proofs.Common.{◌≡◌, ℕ, ◌+◌, ◌-◌, ◌*◌, ◌/◌, ◌%◌, ◌<◌, ◌==◌, Bool, true, false, not, ◌||◌, List, [], ◌∷◌, ◌++◌, nat_lt, length, append_assoc, append-nil, refl, ap, ◌∙◌, sym, arith, if◌then◌else◌}
+use Rattle.std.proofs.Common.{◌≡◌, ℕ, ◌+◌, ◌-◌, ◌*◌, ◌/◌, ◌%◌, ◌<◌, ◌==◌, Bool, true, false, not, List, [], ◌∷◌, ◌++◌, nat_lt, length, append_assoc, append-nil, refl, ap, ◌∙◌, sym, arith, if◌then◌else◌}
 use Rattle.std.specs.Fmt.{digit_glyph}
 use Rattle.std.proofs.lemmas.Bool.Decides.{nat_tests}
 use Rattle.std.proofs.lemmas.Bool.{not-true, and_parts}
@@ -10,6 +10,13 @@ use Rattle.md_asm_text.specs.Pieces.{Piece, Word, Number, Mark, are_digits, clos
 abbrev pub is_end : List ℕ → Bool
 is_end [] = true
 is_end (c ∷ cs) = not (is_worded c)
+
+-- a piece before others, and what stands between three texts and a fourth
+pub behind : (p : Piece) (xs ys : List Piece) → xs ≡ ys → p ∷ xs ≡ p ∷ ys
+behind p xs ys e = ap (λ (l : List Piece). p ∷ l) e
+
+pub apart : (a b c e : List ℕ) → ((a ++ b) ++ c) ++ e ≡ a ++ (b ++ (c ++ e))
+apart a b c e = append_assoc (a ++ b) c e ∙ append_assoc a b (c ++ e)
 
 -- ---- one digit
 
@@ -107,7 +114,7 @@ one_all : (n : ℕ) → every is_hexadecimal (one_digit n) ≡ true
 unfolding one_digit
 one_all n = rw (hexadecimal n) refl
 
-every_both : (test : ℕ → Bool) (xs ys : List ℕ) → every test xs ≡ true → every test ys ≡ true → every test (xs ++ ys) ≡ true
+pub every_both : (test : ℕ → Bool) (xs ys : List ℕ) → every test xs ≡ true → every test ys ≡ true → every test (xs ++ ys) ≡ true
 every_both test [] ys h k = k
 every_both test (x ∷ xs) ys h k =
     let parts = and_parts (test x) (every test xs) h in
