@@ -1,4 +1,4 @@
--- Up to four bytes are filled up with others behind them.
+-- Up to four bytes are filled up with others after them.
 use Rattle.std.proofs.Common.{◌≡◌, ℕ, zero, suc, ◌<◌, ◌≤◌, List, [], ◌∷◌, ◌++◌, length, replicate, refl, arith}
 use Rattle.asm_z80.specs.Coded80.{AreBytes}
 use Rattle.asm_z80.specs.Judged.{padded}

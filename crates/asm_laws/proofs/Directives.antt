@@ -1,4 +1,4 @@
--- Words that are tried for pieces and say them are no directive's: for a directive's text NOP is tried.
+-- Words that are tried for tokens and say them are no directive's: for a directive's text NOP is tried.
 use Rattle.std.proofs.Common.{◌≡◌, ℕ, ◌/◌, ◌<◌, Bool, true, false, List, [], ◌∷◌, ◌++◌, Option, Some, None, refl, ap, ◌∙◌, sym, subst, codes, if◌then◌else◌}
 use Rattle.std.specs.Prelude.{◌==◌, slice_index}
 use Rattle.md_word.specs.declared.size.Size.{Size}
@@ -82,7 +82,7 @@ nop_is = tt
 entered : (word : ℕ) (found : Option Row) → word ≡ 0x4e71 → nested word ≡ found → IsInstruction found
 entered word found nop is = subst (λ (f : Option Row). IsInstruction f) (ap nested (sym nop) ∙ is) nop_is
 
--- the row of a first word that is tried and says the pieces
+-- the row of a first word that is tried and says the tokens
 by_row : (found : Option Row) (word : ℕ) (tail : List ℕ) (said : List Piece) (at : ℕ) → word < 65536 → nested word ≡ found
     → (front : List ℕ) → (slice_index front 0 ≡ word) → front ≡ tried said at → pieces (text_of (picked found (word ∷ tail)) at) ≡ said → IsInstruction found
 by_row None word tail said at below is front first own text =

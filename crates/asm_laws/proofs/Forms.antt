@@ -29,7 +29,7 @@ or_right : (a b : Bool) → (a || b) ≡ false → b ≡ false
 or_right true b h = cc
 or_right false b h = h
 
--- none of a list's pieces is a misfit, so this one is none
+-- none of a list's tokens is a misfit, so this one is none
 one_misfit : (z80 : Bool) (own : List Piece) (j : ℕ) (xs : List Piece) (p : Piece) (ys : List Piece) → misfits z80 own j (xs ++ p ∷ ys) ≡ false → misfit z80 own (j + length xs) p ≡ false
 unfolding misfits
 one_misfit z80 own j [] p ys h = ap (λ (k : ℕ). misfit z80 own k p) (let e : j + 0 ≡ j = omega arith in e) ∙ or_left (misfit z80 own j p) (misfits z80 own (j + 1) ys) h
@@ -76,7 +76,7 @@ sub_number bytes at said xs ys n h a none own_is same =
     let own = sub_coded bytes at h a none in
     coded_number true _ said xs ys n at own.0 own.1 own_is same
 
--- so pieces of the form of an instruction are as long as it, and a number fits that one has
+-- so tokens of the form of an instruction are as long as it, and a number fits that one has
 pub form_size : (z80 : Bool) (said : List Piece) (long : ℕ) → IsForm z80 said long → size z80 Instruction said ≡ Some long
 form_size true said long (bytes, at, form, is) = sub_size bytes at said form.all form.address form.instruction form.alike ∙ ap (λ (n : ℕ). Some n) is
 form_size false said long (word, tail, at, form, is) =

@@ -1,4 +1,4 @@
--- In a source that is assembled each number of an instruction is in the range of its place: what stands there has it.
+-- In a source that is assembled each number of an instruction is in the range of its place: what is there has it.
 use Rattle.std.proofs.Common.{◌≡◌, ℕ, ◌<◌, Bool, true, false, List, [], ◌∷◌, append-nil, ap, ◌∙◌, sym, subst, arith}
 use Rattle.m68k_decode.specs.Instructions as main
 use Rattle.z80_decode.specs.Instructions as sub
@@ -24,7 +24,7 @@ use Rattle.asm_laws.proofs.Low68.{cons_low, none_low}
 use Rattle.asm_laws.proofs.Places80.{none_byte}
 use Rattle.asm_laws.proofs.Ranges.{has_in}
 
--- words of an instruction that say the pieces have their numbers
+-- words of an instruction that say the tokens have their numbers
 least_has : (words : List ℕ) (said : List Piece) (at : ℕ) → AreWords words → at < 4294967296 → AreLeast words said at → (place n : ℕ) → StandsIn said place (pieces.Number n) → HasNumber false said place n
 least_has [] said at all below least place n stands =
     let none = least.text.whole (0 ∷ []) in

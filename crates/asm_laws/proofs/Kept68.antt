@@ -67,7 +67,7 @@ op_kept a b op = op
 abbrev pub decoded_kept : Bool → Bool → Decoded → Decoded
 decoded_kept a b d = record { op = op_kept a b d.op; length = d.length }
 
--- a branch has its displacement in the first word or behind it
+-- a branch has its displacement in the first word or after it
 abbrev pub is_branch : Row → Bool
 is_branch rows.Dbcc = true
 is_branch rows.Bra = true

@@ -1,4 +1,4 @@
--- What is assembled of pieces for the 68000 is the least of all words that say them, and is found where some do.
+-- What is assembled of tokens for the 68000 is the least of all words that say them, and is found where some do.
 use Rattle.std.proofs.Common.{◌≡◌, ◌⊎◌, inl, inr, ℕ, zero, suc, ◌*◌, ◌<◌, List, [], ◌∷◌, ◌++◌, length, Option, Some, None, append-nil, ap, ◌∙◌, sym, subst, arith}
 use Rattle.std.specs.Prelude.{slice_index}
 use Rattle.m68k_decode.specs.Instructions.{instruction_of}
@@ -17,7 +17,7 @@ use Rattle.asm_laws.specs.Chosen.{AreLeast, IsBefore}
 use Rattle.asm_laws.proofs.MainCodes.{encoded_long, own_or_later}
 use Rattle.asm_laws.proofs.Texts.{assembled_again, found, going_on, keeps_text}
 
--- ---- other words that say the pieces
+-- ---- other words that say the tokens
 
 text_alone : (other : List ℕ) (said : List Piece) (at : ℕ) → Says other said at → pieces (text_of (instruction_of other) at) ≡ said
 text_alone other said at say = ap (λ (l : List ℕ). pieces (text_of (instruction_of l) at)) (sym (append-nil other)) ∙ say.text []
@@ -73,7 +73,7 @@ least said (word ∷ tail) at h a is = record {
 pub none_by : (code : Option (List ℕ)) (found : List ℕ) → code ≡ None → code ≡ Some found → ⊥
 none_by code found none some = cc
 
--- where nothing is found, no words say the pieces
+-- where nothing is found, no words say the tokens
 pub none : (said : List Piece) (at : ℕ) → at < 4294967296 → main_code said at ≡ None
     → (words : List ℕ) → AreWords words → IsInstruction (nested (slice_index words 0)) → Says words said at → ⊥
 none said at a is [] h entered say =

@@ -26,7 +26,7 @@ use Rattle.asm_laws.proofs.Sound68.{AreLongs}
 use Rattle.asm_laws.proofs.Tried68.{tried_words}
 use Rattle.asm_laws.proofs.Tried80.{tried_bytes}
 
--- ---- pieces with 8 for their numbers
+-- ---- tokens with 8 for their numbers
 
 filled_again : (said : List Piece) → filled (filled said) ≡ filled said
 filled_again [] = refl
@@ -59,7 +59,7 @@ single_filled front behind n =
 
 -- ---- what is assembled has a text
 
--- bytes of the Z80 that are found for pieces
+-- bytes of the Z80 that are found for tokens
 record IsSubText (said : List Piece) (at : ℕ) (bytes : List ℕ) : Type 0 where
   form : (other : List Piece) → filled other ≡ filled said → IsSubForm other bytes at
   text : pieces.pieces (sub_texts.text_of (sub.instruction_of bytes) at) ≡ said

@@ -1,4 +1,4 @@
--- The operands and codes of what is made of pieces of the Z80 are bytes.
+-- The operands and codes of what is made of tokens of the Z80 are bytes.
 use Rattle.std.proofs.Common.{ℕ, zero, suc, ◌/◌, ◌%◌, ◌<◌, ◌≤◌, ◌==◌, Bool, true, false, List, [], ◌∷◌, ◌++◌, arith, if◌then◌else◌}
 use Rattle.md_word.specs.declared.bit.Bit.{Bit}
 use Rattle.md_word.specs.declared.bit.Bit.TheVariants.{Bit0}

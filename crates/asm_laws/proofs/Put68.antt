@@ -15,7 +15,7 @@ use Rattle.asm_laws.proofs.Low68.{cons_low, none_low}
 use Rattle.asm_laws.proofs.Rows68.{mode_with}
 use Rattle.asm_m68k.proofs.Again.{halves}
 
--- ---- four words behind the first
+-- ---- four words after the first
 
 abbrev behind : (ℕ → ℕ) → List ℕ
 behind f = f 1 ∷ f 2 ∷ f 3 ∷ f 4 ∷ []
@@ -241,7 +241,7 @@ pub with_counted : (n : ℕ) (size : Size) (mode : Mode) → words_of_mode size 
 with_counted n size (modes.Data r) = refl
 with_counted n size _ = refl
 
--- what stands behind, and in front
+-- what follows, and at the start
 pub same_behind : (k count from more w : ℕ) (tail rest : List ℕ) → IsPut k count w tail rest → k + count ≤ from → from + more ≤ 5 → AreSame from more (w ∷ rest) (w ∷ tail)
 same_behind k count from more w tail rest put high few = λ j a b. put.after j (omega (arith, a, high)) (omega (arith, b, few))
 

@@ -98,7 +98,7 @@ sub_has said place n (bytes, at, range) =
 abbrev main_left : Row68 → List Piece
 main_left row = main_trip.front row ++ main_pieces.led_pieces 32 row.first
 
--- the pieces of a row, with the seam behind its first operand
+-- the tokens of a row, with the seam after its first operand
 seam : (row : Row68) → main_pieces.row_pieces row ≡ main_left row ++ main_pieces.led_pieces 44 row.second
 seam row = sym (append_assoc (main_trip.front row) (main_pieces.led_pieces 32 row.first) (main_pieces.led_pieces 44 row.second))
 
@@ -150,7 +150,7 @@ filled_part xs ys zs e = filled_both xs ys ∙ ap (λ (l : List Piece). filled x
 filled_front : (xs ys zs : List Piece) → filled xs ≡ filled ys → filled (xs ++ zs) ≡ filled (ys ++ zs)
 filled_front xs ys zs e = filled_both xs zs ∙ ap (λ (l : List Piece). l ++ filled zs) e ∙ sym (filled_both ys zs)
 
--- the pieces in front of the seam with another number
+-- the tokens before the seam with another number
 left_put : (op : Op) (row : Row68) (n : ℕ) → main_allows op row.first n ≡ true → main_left (main_with.first_with n row) ≡ put_all n (main_left row)
 left_put op row n h =
     ap (λ (l : List Piece). main_trip.front row ++ l) (led_with op 32 row.first n h)

@@ -95,7 +95,7 @@ own_pieces w tail at main =
 abbrev pub front : Row68 → List Piece
 front row = pieces.Word row.name ∷ size_pieces row.size
 
--- the pieces in front of the second operand
+-- the tokens before the second operand
 pub front_pieces : (w : ℕ) (tail : List ℕ) (at : ℕ) → AreMain w tail
     → length (pieces.pieces (row_text (record (row_of (instruction_of (w ∷ tail)).op at) { second = operands.Nothing })))
     ≡ length (front (row_of (instruction_of (w ∷ tail)).op at) ++ led_pieces 32 (row_of (instruction_of (w ∷ tail)).op at).first)
@@ -220,7 +220,7 @@ row_fits row first second =
     (moved false (row_pieces row) (row_pieces row) (length (front row)) (0 + length (front row)) (led_pieces 32 row.first ++ led_pieces 44 row.second) refl (omega arith)
     (misfits_both false (row_pieces row) (length (front row)) (led_pieces 32 row.first) (led_pieces 44 row.second) (first_fits row first) (second_fits row second)))
 
--- ---- what a text comes to
+-- ---- what a text results in
 
 four_low : 4 < 4294967296
 four_low = omega arith

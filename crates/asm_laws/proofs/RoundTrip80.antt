@@ -36,7 +36,7 @@ use Rattle.asm_laws.proofs.Rows80.{front_split, led_filled, led_single, read_spl
 
 -- ---- bytes for a row
 
--- the bytes that a row's pieces are assembled to have the length of the instruction
+-- the bytes that a row's tokens are assembled to have the length of the instruction
 record IsRow (row : Row80) (at long : ℕ) : Type 0 where
   bytes : List ℕ
   is : code true (row_pieces row) at ≡ Some bytes
@@ -46,7 +46,7 @@ pub own_shown : (bytes : List ℕ) (at : ℕ) → AreBytes bytes → is_db (inst
 own_shown bytes at h none =
     let parts = read_split (row_of (instruction_of bytes).op at) (row_read bytes at h none) in (parts.0, parts.1)
 
--- the pieces in front of the second operand
+-- the tokens before the second operand
 pub front_pieces : (bytes : List ℕ) (at : ℕ) → AreBytes bytes → is_db (instruction_of bytes).op ≡ false
     → length (pieces.pieces (row_text (record (row_of (instruction_of bytes).op at) { second = operands.Nothing })))
     ≡ length (pieces.Word (row_of (instruction_of bytes).op at).name ∷ led_pieces 32 (row_of (instruction_of bytes).op at).first)
@@ -103,7 +103,7 @@ row_fits bytes at h none =
     let row = row_of (instruction_of bytes).op at in
     misfits_both true (row_pieces row) 1 (led_pieces 32 row.first) (led_pieces 44 row.second) (first_fits bytes at h none) (second_fits bytes at h none)
 
--- ---- what a text comes to
+-- ---- what a text results in
 
 pub sub_coded : (bytes : List ℕ) (at : ℕ) → AreBytes bytes → at < 65536 → is_db (instruction_of bytes).op ≡ false
     → (own : List ℕ) × IsCoded true (pieces.pieces (text_of (instruction_of bytes) at)) at own × (length own ≡ (instruction_of bytes).length)

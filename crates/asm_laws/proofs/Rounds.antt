@@ -104,7 +104,7 @@ pub none_written : (long place : ℕ) → any_written (λ other. false) place lo
 none_written zero place = refl
 none_written (suc long) place = none_written long (place + 1)
 
--- what the pieces of an instruction come to at an address
+-- what the tokens of an instruction result in at an address
 pub record IsCoded (sub : Bool) (said : List Piece) (at : ℕ) (bytes : List ℕ) : Type 0 where
   pub other : List ℕ
   pub sized : code sub (filled said) 4 ≡ Some other

@@ -1,4 +1,4 @@
--- The pieces of the Z80's rows, and what they are with 8 for a number.
+-- The tokens of the Z80's rows, and what they are with 8 for a number.
 use Rattle.std.proofs.Common.{◌≡◌, ℕ, Bool, true, false, not, ◌&&◌, ◌||◌, List, [], ◌∷◌, ◌++◌, append-nil, refl, ap, ◌∙◌, codes, None}
 use Rattle.std.proofs.lemmas.Bool.{and_parts}
 use Rattle.z80_decode.specs.declared.place8.Place8.{Place8}
@@ -15,7 +15,7 @@ use Rattle.asm_z80.proofs.Operands.{operand_pieces, place_pieces, shown}
 use Rattle.asm_z80.proofs.Sources.{is_none, is_read, led_end, led_pieces, led_split, row_opens, row_pieces}
 use Rattle.asm_laws.proofs.Fits.{filled_both, is_single, number_of}
 
--- ---- a row falls into its pieces
+-- ---- a row falls into its tokens
 
 pub row_split : (row : Row80) → every is_worded row.name ≡ true → shown row.first ≡ true → shown row.second ≡ true → pieces.pieces (row_text row) ≡ row_pieces row
 unfolding is_worded split

@@ -28,7 +28,7 @@ use Rattle.asm_laws.proofs.Texts as main_laws
 use Rattle.asm_laws.specs.Lines.{AreSaid, IsKept, IsSaid, IsWritten, SaysLines}
 use Rattle.asm_laws.specs.Places.{bytes_from, text_at, word_at, words_from}
 
--- ---- the laws of what pieces are assembled to
+-- ---- the laws of what tokens are assembled to
 
 pub record Laws : Type 0 where
   pub main_again : (word : ℕ) (tail : List ℕ) (at : ℕ) → word < 65536 → IsInstruction (nested word) → AreWords (word ∷ tail) → at < 4294967296
@@ -40,7 +40,7 @@ pub record Laws : Type 0 where
   pub main_least : (said : List Piece) (words : List ℕ) (at : ℕ) → AreWords words → at < 4294967296 → main_code said at ≡ Some words → AreLeast words said at
   pub sub_best : (said : List Piece) (bytes : List ℕ) (at : ℕ) → AreBytes bytes → at < 65536 → sub_code said at ≡ Some bytes → AreChosen bytes said at
 
--- ---- what an instruction comes to is what is found for it
+-- ---- what an instruction results in is what is found for it
 
 sized_is : (long : ℕ) (own bytes : List ℕ) (b : Bool) → (if b then Good own else Far) ≡ Good bytes → own ≡ bytes
 sized_is long own bytes true is = cc

@@ -1,4 +1,4 @@
--- What is assembled of pieces is chosen among all bytes that say them, and is found where some do.
+-- What is assembled of tokens is chosen among all bytes that say them, and is found where some do.
 use Rattle.std.proofs.Common.{◌≡◌, ◌⊎◌, ℕ, zero, suc, ◌<◌, ◌≤◌, false, List, [], ◌∷◌, ◌++◌, length, Some, None, append-nil, refl, ap, ◌∙◌, sym, subst, arith}
 use Rattle.z80_decode.specs.Instructions.{instruction_of}
 use Rattle.md_disasm.specs.Texts80.{text_of}
@@ -46,7 +46,7 @@ own_code said bytes rest at h k a is =
       long = sym (encoded_long (bytes ++ rest) all) ∙ ap length (sym code);
     }
 
--- ---- other bytes that say the pieces
+-- ---- other bytes that say the tokens
 
 text_alone : (other : List ℕ) (said : List Piece) (at : ℕ) → Says other said at → pieces (text_of (instruction_of other) at) ≡ said
 text_alone other said at say = ap (λ (l : List ℕ). pieces (text_of (instruction_of l) at)) (sym (append-nil other)) ∙ say.text [] no_bytes
@@ -71,7 +71,7 @@ chosen said bytes at h a is = record {
   best = λ other k say. best_of said bytes other at k a (found said bytes at is).own say;
 }
 
--- where nothing is found, no bytes say the pieces
+-- where nothing is found, no bytes say the tokens
 pub none : (said : List Piece) (at : ℕ) → at < 65536 → sub_code said at ≡ None → (bytes : List ℕ) → AreBytes bytes → Says bytes said at → ⊥
 none said at a is bytes h say =
     let again = assembled_again bytes at h a say.instruction in

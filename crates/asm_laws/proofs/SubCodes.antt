@@ -56,7 +56,7 @@ codes_iy : (b2 b3 : ℕ) → b2 < 256 → map (if_named (λ w. own (by_opcode in
 unfolding range place_of pair_of stacked_of condition_of bit_of arithmetic accumulator relative_jumps pair_loads memory_loads pair_steps step number_loads low_group loads returns jumps calls control by_opcode low_names_hl names_hl prefixes opcode_of operands encoded
 codes_iy b2 b3 h = rw (low_byte b2 b3 h, high_byte b2 b3 h) refl
 
--- ---- behind DD CB d and FD CB d
+-- ---- after DD CB d and FD CB d
 
 -- the code that stands for one of (HL)
 abbrev ix_code : ℕ → ℕ → ℕ

@@ -46,9 +46,9 @@ assembled_again bytes at h a none =
       λ rest k. tried_again bytes rest at h k a none,
     )
 
--- ---- what is found for pieces
+-- ---- what is found for tokens
 
--- what is found is what is tried, and says the pieces where 0 stands behind it
+-- what is found is what is tried, and says the tokens where 0 stands after it
 pub record IsFound (said : List Piece) (bytes : List ℕ) (at : ℕ) : Type 0 where
   pub own : bytes ≡ tried said at
   pub text : pieces (text_of (instruction_of (padded bytes)) at) ≡ said

@@ -38,14 +38,14 @@ assembled_again word tail at below is all h =
       λ rest. tried_again word tail rest at below is all h,
     )
 
--- ---- what is found for pieces
+-- ---- what is found for tokens
 
 -- what a test lets through
 pub let_through : {X : Type 0} (b : Bool) (own found : X) → (if b then Some own else None) ≡ Some found → (b ≡ true) × (own ≡ found)
 let_through true own found is = (refl, cc)
 let_through false own found is = cc
 
--- what is found is what is tried, and says the pieces where 0 stands behind it
+-- what is found is what is tried, and says the tokens where 0 stands after it
 pub record IsFound (said : List Piece) (words : List ℕ) (at : ℕ) : Type 0 where
   pub own : words ≡ tried said at
   pub text : pieces (text_of (instruction_of (padded words)) at) ≡ said

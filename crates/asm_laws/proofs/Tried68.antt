@@ -1,4 +1,4 @@
--- The words that are tried for pieces of the 68000 are words.
+-- The words that are tried for tokens of the 68000 are words.
 use Rattle.std.proofs.Common.{ℕ, ◌%◌, ◌<◌, Bool, true, false, List, [], ◌∷◌, arith, if◌then◌else◌}
 use Rattle.std.specs.Str.{bytes_eq}
 use Rattle.md_word.specs.Width.{modulus_of}
@@ -430,7 +430,7 @@ module _ (size : Size) (first second : Form) (f : IsSound first) (s : IsSound se
       by true own rest = own
       by false own rest = rest
 
--- what is tried for pieces whose numbers have 32 bits
+-- what is tried for tokens whose numbers have 32 bits
 pub tried_words : (said : List Piece) (at : ℕ) → AreLongs said → AreWords (tried said at)
 unfolding meant stem_of
 tried_words said at h =

@@ -1,4 +1,4 @@
--- The bytes that are tried for pieces are bytes.
+-- The bytes that are tried for tokens are bytes.
 use Rattle.std.proofs.Common.{◌≡◌, ℕ, ◌<◌, Bool, true, false, List, [], ◌∷◌, refl, arith, if◌then◌else◌}
 use Rattle.std.specs.Str.{bytes_eq}
 use Rattle.md_word.specs.declared.bit.Bit.{Bit}
@@ -323,7 +323,7 @@ module _ (first second : Form) where
       by true own rest = own
       by false own rest = rest
 
--- what is tried for pieces
+-- what is tried for tokens
 pub tried_bytes : (said : List Piece) (at : ℕ) → AreBytes (tried said at)
 unfolding meant stem_of
 tried_bytes said at =

@@ -15,7 +15,7 @@ use Rattle.asm_laws.proofs.Ranges.{in_has}
 
 -- ---- numbers that do not fit
 
--- a piece more stands in front
+-- a token more stands at the start
 stands_more : (p : Piece) (ps : List Piece) (place : ℕ) (piece : Piece) → StandsIn ps place piece → StandsIn (p ∷ ps) (place + 1) piece
 stands_more p ps place piece (front, behind, is, long) = (p ∷ front, behind, ap (λ (l : List Piece). p ∷ l) is, (omega (arith, long)))
 
@@ -37,7 +37,7 @@ over_stands limit (pieces.Name name ∷ ps) h =
 over_stands limit (pieces.Mark c ∷ ps) h =
     let there = over_stands limit ps h in (there.0 + 1, there.1, stands_more (pieces.Mark c) ps there.0 (pieces.Number there.1) there.2, there.3)
 
--- one of a list's pieces is a misfit
+-- one of a list's tokens is a misfit
 abbrev HasMisfit : Bool → List Piece → ℕ → List Piece → Type 0
 HasMisfit z80 said i ps = (place : ℕ) × (n : ℕ) × StandsIn ps place (pieces.Number n) × (misfit z80 said (i + place) (pieces.Number n) ≡ true)
 

@@ -43,7 +43,7 @@ pub record IsSomewhere (row : Row68) : Type 0 where
   pub long : ℕ
   pub reached : IsReached row at long
 
--- words behind the same first word
+-- words after the same first word
 there : (row : Row) (w : ℕ) (tail rest : List ℕ) (at : ℕ) (wanted : Row68) → at < 4294967296 → AreOf row w tail → AreWords (w ∷ rest) → row_of (made row (w ∷ rest)).op at ≡ wanted → IsSomewhere wanted
 there row w tail rest at wanted a of all is =
     let own : AreOf row w rest = record { low = of.low; is = of.is; entered = of.entered; all = all } in
@@ -66,7 +66,7 @@ turned_with : (n : ℕ) (mode : Mode) → is_turned (mode_with n mode) ≡ is_tu
 turned_with n (modes.PreDec r) = refl
 turned_with n _ = refl
 
--- ---- a number in front of a mode
+-- ---- a number before a mode
 
 record IsFirstNumber (size : Size) (n w : ℕ) (tail : List ℕ) : Type 0 where
   rest : List ℕ
@@ -104,7 +104,7 @@ mode_behind size n w tail fits all =
       mode = p.is;
     }
 
--- behind one word, whatever the mode's size
+-- after one word, whatever the mode's size
 record IsBehindWord (size : Size) (n w : ℕ) (tail : List ℕ) : Type 0 where
   rest : List ℕ
   all : AreWords (w ∷ rest)
@@ -212,7 +212,7 @@ vector_is n h = omega arith
 vector_fits : (n : ℕ) → n < 16 → 0x4e40 + n < 65536
 vector_fits n h = omega arith
 
--- the mode of a word with other bits 11 to 9, from the same words behind it
+-- the mode of a word with other bits 11 to 9, from the same words after it
 one_other : (m r : ℕ) (size : Size) (v w : ℕ) (tail : List ℕ) → mode_of m r size 1 (v ∷ tail) ≡ mode_of m r size 1 (w ∷ tail)
 unfolding mode_of number_at
 one_other m r Byte v w tail = refl

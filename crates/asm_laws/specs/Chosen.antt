@@ -13,14 +13,14 @@ use Rattle.asm_z80.specs.Instruction.{is_db}
 
 -- ---- the Z80
 
--- bytes say pieces at an address: whatever follows them, they are an instruction of their length whose text has
--- these pieces
+-- bytes say tokens at an address: whatever follows them, they are an instruction of their length whose text has
+-- these tokens
 pub record Says (bytes : List ℕ) (said : List Piece) (at : ℕ) : Type 0 where
   pub instruction : is_db (instruction_of bytes).op ≡ false
   pub text : (rest : List ℕ) → AreBytes rest → pieces (text_of (instruction_of (bytes ++ rest)) at) ≡ said
   pub whole : (rest : List ℕ) → AreBytes rest → (instruction_of (bytes ++ rest)).length ≡ length bytes
 
--- behind DD CB d and FD CB d the manual has the codes of (HL) alone, and none of SLL
+-- after DD CB d and FD CB d the manual has the codes of (HL) alone, and none of SLL
 abbrev pub is_manual : List ℕ → Bool
 is_manual (p ∷ q ∷ d ∷ code ∷ []) = not ((p == 0xdd || p == 0xfd) && q == 0xcb) || (code % 8 == 6 && not (code / 8 == 6))
 is_manual bytes = true
@@ -36,14 +36,14 @@ IsPassed other bytes =
     (is_manual other ≡ false)
     × ((is_manual bytes ≡ true) ⊎ ((length bytes < length other) ⊎ ((length bytes ≡ length other) × IsBefore bytes other)))
 
--- they say the pieces, and all others that do are passed over
+-- they say the tokens, and all others that do are passed over
 pub record AreChosen (bytes : List ℕ) (said : List Piece) (at : ℕ) : Type 0 where
   pub text : Says bytes said at
   pub best : (other : List ℕ) → AreBytes other → Says other said at → (other ≡ bytes) ⊎ IsPassed other bytes
 
 -- ---- the 68000
 
--- words of an instruction of the 68000 say the pieces, and all others that do are as long and come later: those of
+-- words of an instruction of the 68000 say the tokens, and all others that do are as long and come later: those of
 -- other bits that the processor does not look at
 pub record AreLeast (words : List ℕ) (said : List Piece) (at : ℕ) : Type 0 where
   pub instruction : IsInstruction (nested (slice_index words 0))

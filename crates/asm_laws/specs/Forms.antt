@@ -12,7 +12,7 @@ use Rattle.asm_z80.specs.Coded80.{AreBytes}
 use Rattle.asm_z80.specs.Instruction.{is_db}
 use Rattle.md_asm.specs.Numbers.{filled}
 
--- the pieces are those of the text, at an address, of an instruction that words of the 68000 decode to, but for the
+-- the tokens are those of the text, at an address, of an instruction that words of the 68000 decode to, but for the
 -- numbers and the names in their places
 pub record IsMainForm (said : List Piece) (word : ℕ) (tail : List ℕ) (at : ℕ) : Type 0 where
   pub first : word < 65536
@@ -34,7 +34,7 @@ IsForm true said long = (bytes : List ℕ) × (at : ℕ) × IsSubForm said bytes
 IsForm false said long =
     (word : ℕ) × (tail : List ℕ) × (at : ℕ) × IsMainForm said word tail at × ((main.instruction_of (word ∷ tail)).length ≡ long)
 
--- a piece stands at a place among others
+-- a token stands at a place among others
 abbrev pub StandsIn : List Piece → ℕ → Piece → Type 0
 StandsIn all place piece = (front : List Piece) × (behind : List Piece) × (all ≡ front ++ piece ∷ behind) × (length front ≡ place)
 

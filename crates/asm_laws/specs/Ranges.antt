@@ -54,7 +54,7 @@ main_allows op (operands.Number size m) n = nat_lt n (modulus_of size)
 main_allows op (operands.Target address) n = nat_lt n 0x1_0000_0000
 main_allows op operand n = false
 
--- the operand in which a place of a row's text lies: the first, or the second behind it
+-- the operand in which a place of a row's text lies: the first, or the second after it
 abbrev pub main_operand : Row68 → ℕ → Operand68
 main_operand row place = if nat_lt place (length (pieces (main_texts.row_text (record row { second = operands.Nothing })))) then row.first else row.second
 
@@ -82,7 +82,7 @@ sub_allows op (sub_operands.Word m) n = nat_lt n 0x1_0000
 sub_allows op (sub_operands.AtWord address) n = nat_lt n 0x1_0000
 sub_allows op operand n = false
 
--- the operand in which a place of a row's text lies: the first, or the second behind it
+-- the operand in which a place of a row's text lies: the first, or the second after it
 abbrev pub sub_operand : Row80 → ℕ → Operand80
 sub_operand row place = if nat_lt place (length (pieces (sub_texts.row_text (record row { second = sub_operands.Nothing })))) then row.first else row.second
 

@@ -6,7 +6,7 @@ ghost use Rattle.md_asm.specs.Assembly.{Done, assembly};
 ghost use Rattle.md_asm.specs.declared.placed.Placed.{Placed};
 ghost use Rattle.asm_laws.specs.Lines.{SaysLines};
 
-use crate::assemblies::{codes_are_chosen, texts_are_assembled};
+use crate::laws::{codes_are_chosen, texts_are_assembled};
 
 /// An image is bytes.
 pub fn known_bytes(image: &[u8])

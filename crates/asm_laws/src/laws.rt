@@ -25,7 +25,7 @@ pub fn texts_are_assembled()
         × ((rest : List ℕ) → AreBytes rest → sub.instruction_of (found ++ rest) ≡ sub.instruction_of bytes) }
 {}
 
-/// What pieces are assembled to at an address has a text there with these pieces, whatever follows it, for both
+/// What tokens are assembled to at an address has a text there with these tokens, whatever follows it, for both
 /// processors.
 pub fn codes_say_their_line()
     ensures main { (said : List Piece) (words rest : List ℕ) (at : ℕ) → AreWords words → at < 4294967296 → main_code said at ≡ Some words
@@ -34,7 +34,7 @@ pub fn codes_say_their_line()
         → pieces (sub_texts.text_of (sub.instruction_of (bytes ++ rest)) at) ≡ said }
 {}
 
-/// What pieces are assembled to is chosen among all words or bytes that say them there; where nothing is found, none
+/// What tokens are assembled to is chosen among all words or bytes that say them there; where nothing is found, none
 /// do.
 pub fn codes_are_chosen()
     ensures main { (said : List Piece) (words : List ℕ) (at : ℕ) → AreWords words → at < 4294967296 → main_code said at ≡ Some words → AreLeast words said at }

@@ -23,7 +23,7 @@ ghost use Rattle.asm_laws.specs.Sources.{KeepsInstruction, main_source, sub_sour
 use crate::assemblies::{image_says_its_lines, known_bytes};
 
 /// Whatever words or bytes decode to, but what the Z80's text writes as a directive: a source of its text at an address
-/// has an image, and what stands there decodes to it. For the 68000 the address is even, and its bytes stay below 400000h.
+/// has an image, and what is there decodes to it. For the 68000 the address is even, and its bytes stay below 400000h.
 pub fn sources_are_assembled()
     ensures main { (word : ℕ) (tail : List ℕ) (at : ℕ) → word < 65536 → AreWords (word ∷ tail) → at % 2 ≡ 0
         → at + (main.instruction_of (word ∷ tail)).length ≤ 4194304

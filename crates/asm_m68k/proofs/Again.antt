@@ -138,11 +138,11 @@ words_counted Long (modes.Immediate value) = refl
 one : (size : Size) (w : ℕ) (tail rest : List ℕ) → low_mode size 1 (w ∷ (mode_words size (low_mode size 1 (w ∷ tail)) ++ rest)) ≡ low_mode size 1 (w ∷ tail)
 one size w tail rest = low_again size 1 w tail [] rest refl
 
--- behind one word
+-- after one word
 two : (size : Size) (w x : ℕ) (tail rest : List ℕ) → low_mode size 2 (w ∷ x ∷ (mode_words size (low_mode size 2 (w ∷ tail)) ++ rest)) ≡ low_mode size 2 (w ∷ tail)
 two size w x tail rest = low_again size 2 w tail (x ∷ []) rest refl
 
--- a number and the mode behind it
+-- a number and the mode after it
 record HasNumberAndMode (size : Size) (u words : List ℕ) : Type 0 where
   number : number_at size 1 u ≡ number_at size 1 words
   mode : low_mode size (1 + words_of_number size) u ≡ low_mode size (1 + words_of_number size) words
@@ -162,7 +162,7 @@ with_number Long w tail rest = record {
   mode = low_again Long 3 w tail (number_at Long 1 (w ∷ tail) / 65536 ∷ number_at Long 1 (w ∷ tail) % 65536 ∷ []) rest refl;
 }
 
--- a word behind the first, and a byte
+-- a word after the first, and a byte
 pub second_word : (w : ℕ) (tail rest : List ℕ) → number_at Word 1 (w ∷ number_at Word 1 (w ∷ tail) ∷ rest) ≡ number_at Word 1 (w ∷ tail)
 unfolding number_at
 second_word w tail rest = refl

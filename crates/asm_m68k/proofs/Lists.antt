@@ -1,4 +1,4 @@
--- The lists of MOVEM: how their texts fall into pieces, and that what is read of them is the list.
+-- The lists of MOVEM: how their texts fall into tokens, and that what is read of them is the list.
 use Rattle.std.proofs.Common.{◌≡◌, ℕ, ◌+◌, ◌-◌, ◌*◌, ◌/◌, ◌%◌, ◌^◌, ◌<◌, ◌==◌, Bool, true, false, cond, List, [], ◌∷◌, ◌++◌, append_assoc, refl, ap, ◌∙◌, arith, if◌then◌else◌, codes, lit<}
 use Rattle.std.specs.List.{filter, flat_map, join_by}
 use Rattle.std.proofs.lemmas.Bool.Decides.{nat_tests}
@@ -12,7 +12,7 @@ use Rattle.asm_m68k.specs.declared.form.Form.{Form}
 use Rattle.asm_m68k.specs.declared.form.Form.TheVariants as forms
 use Rattle.asm_m68k.proofs.Operands.{either_form, name_read, name_split}
 
--- ---- pieces
+-- ---- tokens
 
 abbrev pub more_pieces : List ℕ → List Piece
 more_pieces [] = []

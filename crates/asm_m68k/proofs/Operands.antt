@@ -1,4 +1,4 @@
--- How the texts of operands fall into pieces, and what is read of them.
+-- How the texts of operands fall into tokens, and what is read of them.
 use Rattle.std.proofs.Common.{◌≡◌, ℕ, ◌+◌, ◌-◌, ◌%◌, ◌<◌, ◌==◌, Bool, true, false, List, [], ◌∷◌, ◌++◌, nat_lt, append_assoc, append-nil, refl, ap, ◌∙◌, arith, if◌then◌else◌, codes}
 use Rattle.std.specs.Fmt.{digit_glyph}
 use Rattle.std.proofs.lemmas.Bool.Decides.{nat_tests}
@@ -16,7 +16,7 @@ use Rattle.asm_m68k.specs.Reading.{operand_form, register_of, low_register_of, w
 use Rattle.asm_m68k.specs.declared.form.Form.{Form}
 use Rattle.asm_m68k.specs.declared.form.Form.TheVariants as forms
 
--- ---- the pieces of operands
+-- ---- the tokens of operands
 
 abbrev pub data_word : ℕ → Piece
 data_word n = pieces.Word (100 ∷ one_digit n)
@@ -57,9 +57,9 @@ IsWritten (modes.PcIndexed index long by) = by < 256
 IsWritten (modes.Immediate n) = n < 4294967296
 IsWritten mode = Unit {0}
 
--- ---- texts fall into these pieces
+-- ---- texts fall into these tokens
 
--- An and a bracket behind it
+-- An and a bracket after it
 in_bracket : (n : ℕ) (e : List ℕ) → split [] (40 ∷ 97 ∷ (one_digit n ++ (41 ∷ e))) ≡ pieces.Mark 40 ∷ address_word n ∷ pieces.Mark 41 ∷ split [] e
 unfolding is_worded
 in_bracket n e =
@@ -106,7 +106,7 @@ number_parts Long n e h ends =
     ap (split []) (apart (codes "#$") (eight_digits n) [] e)
     ∙ mark_split 35 (36 ∷ (eight_digits n ++ e)) refl ∙ behind _ _ _ (number_8 n e h ends)
 
--- An with a comma behind it, and an index
+-- An with a comma after it, and an index
 in_index : (n index : ℕ) (long : Bool) (e : List ℕ) → is_end e ≡ true
     → split [] (40 ∷ 97 ∷ (one_digit n ++ (44 ∷ (index_text index long ++ e)))) ≡ pieces.Mark 40 ∷ address_word n ∷ pieces.Mark 44 ∷ (index_pieces index long ++ split [] e)
 unfolding is_worded
@@ -115,7 +115,7 @@ in_index n index long e ends =
     ∙ behind _ _ _ (register_split 97 n (44 ∷ (index_text index long ++ e)) refl refl refl
     ∙ behind _ _ _ (mark_split 44 (index_text index long ++ e) refl ∙ behind _ _ _ (index_split index long e)))
 
--- PC and a bracket behind it
+-- PC and a bracket after it
 in_pc : (e : List ℕ) → split [] (40 ∷ 112 ∷ 99 ∷ 41 ∷ e) ≡ pieces.Mark 40 ∷ pieces.Word (codes "pc") ∷ pieces.Mark 41 ∷ split [] e
 unfolding split is_worded told is_name
 in_pc e = refl
@@ -128,7 +128,7 @@ in_pc_index : (index : ℕ) (long : Bool) (e : List ℕ)
     → split [] (40 ∷ 112 ∷ 99 ∷ 44 ∷ (index_text index long ++ e)) ≡ pieces.Mark 40 ∷ pieces.Word (codes "pc") ∷ pieces.Mark 44 ∷ (index_pieces index long ++ split [] e)
 in_pc_index index long e = pc_comma (index_text index long ++ e) ∙ behind _ _ _ (behind _ _ _ (behind _ _ _ (index_split index long e)))
 
--- a size behind an address
+-- a size after an address
 short_end : (e : List ℕ) → is_end e ≡ true → split [] (46 ∷ 119 ∷ e) ≡ pieces.Mark 46 ∷ pieces.Word (codes "w") ∷ split [] e
 unfolding is_worded told is_name
 short_end e ends = mark_split 46 (119 ∷ e) refl ∙ behind _ _ _ (word_split (codes "w") e refl ends)

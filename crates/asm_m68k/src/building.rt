@@ -119,7 +119,8 @@ fn shift(task: Task, size: Size, first: Form, second: Form) -> Op
     }
 }
 
-/// The instruction of a name, a size and two operands, at an address.
+/// The instruction of a mnemonic, a size and two operands, at an address. It is total: operands that do not fit give some
+/// instruction, and the round-trip check refuses it.
 #[tactic(auto, unfolding(crate::specs::Building::built))]
 pub(crate) fn built(stem: Stem, size: Size, first: Form, second: Form, at: u32) -> Op
     requires first { IsForm first }

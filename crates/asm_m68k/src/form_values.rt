@@ -9,7 +9,7 @@ use crate::Form;
 use m68k_decode::Displacement;
 use md_word::{Mode, Size};
 
-/// An addressing mode.
+/// An addressing mode. A form that has none is D0.
 #[tactic(auto, unfolding(crate::specs::Building::mode))]
 pub(crate) fn mode(size: Size, form: Form) -> Mode
     requires { IsForm form }
@@ -33,7 +33,7 @@ pub(crate) fn mode(size: Size, form: Form) -> Mode
     }
 }
 
-/// A register of one kind.
+/// The number of a register among the eight of its kind; 0 for any other form.
 #[tactic(auto, unfolding(crate::specs::Building::register))]
 pub(crate) fn register(form: Form) -> u8
     ensures value { result ≡ building.register form }
@@ -45,7 +45,7 @@ pub(crate) fn register(form: Form) -> u8
     }
 }
 
-/// A number.
+/// A number; 0 for any other form.
 #[tactic(auto, unfolding(crate::specs::Building::number))]
 pub(crate) fn number(form: Form) -> u32
     ensures { result ≡ building.number form }
@@ -56,7 +56,7 @@ pub(crate) fn number(form: Form) -> u32
     }
 }
 
-/// A number from 1 to 8.
+/// A number from 1 to 8, as ADDQ, SUBQ and shifts have it.
 pub(crate) fn quick(form: Form) -> u8
     ensures value { result ≡ building.quick form }
     ensures some { 0 < result }
@@ -65,7 +65,7 @@ pub(crate) fn quick(form: Form) -> u8
     ((u64::from(number(form)) + 7) % 8 + 1) as u8
 }
 
-/// A list of registers as the bits of D0 to A7.
+/// A list of registers as the bits of D0 to A7, D0 in bit 0.
 #[tactic(auto, unfolding(crate::specs::Building::list))]
 pub(crate) fn list(form: Form) -> u16
     requires { IsForm form }
@@ -78,7 +78,7 @@ pub(crate) fn list(form: Form) -> u16
     }
 }
 
-/// The same turned round.
+/// The same turned round: A7 in bit 0.
 #[tactic(auto, unfolding(crate::specs::Building::turned))]
 fn turned(form: Form) -> u16
     requires { IsForm form }
@@ -91,7 +91,7 @@ fn turned(form: Form) -> u16
     }
 }
 
-/// The list that stands with a mode.
+/// The list of MOVEM with this mode: its bits are turned round where registers are stored by predecrement.
 pub(crate) fn list_with(mode: Mode, form: Form) -> u16
     requires { IsForm form }
     ensures { result ≡ building.list_with mode form }
@@ -102,7 +102,7 @@ pub(crate) fn list_with(mode: Mode, form: Form) -> u16
     }
 }
 
-/// The displacement from behind the first word of an instruction to a target.
+/// The displacement from the end of the first word of an instruction to a target.
 pub(crate) fn displacement(size: Size, at: u32, form: Form) -> Displacement
     ensures { result ≡ building.displacement size at form }
 {
@@ -185,7 +185,7 @@ pub(crate) fn is_data(form: Form) -> bool
     }
 }
 
-/// A register of sixteen.
+/// The number of a register among all sixteen; 0 for any other form.
 #[tactic(auto, unfolding(crate::specs::Building::either))]
 pub(crate) fn either(form: Form) -> u8
     requires { IsForm form }
@@ -198,7 +198,7 @@ pub(crate) fn either(form: Form) -> u8
     }
 }
 
-/// The address register of d16(An) and (An)+.
+/// The address register of d16(An) and (An)+; 0 for any other form.
 #[tactic(auto, unfolding(crate::specs::Building::base))]
 pub(crate) fn base(form: Form) -> u8
     requires { IsForm form }

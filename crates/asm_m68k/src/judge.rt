@@ -18,7 +18,7 @@ use md_disasm::text68;
 use md_word::{NoMemory, Size};
 use std::alloc::Global;
 
-/// One to five words, filled up with 0.
+/// One to five words, with words of 0 after them up to five.
 fn padded(words: &[u16]) -> [u16; 5]
     ensures { result ≡ judged.padded words.now }
 {
@@ -32,7 +32,7 @@ fn padded(words: &[u16]) -> [u16; 5]
     }
 }
 
-/// What is made of the pieces of an instruction.
+/// The instruction that is read of tokens, whatever they are; the round-trip check decides whether it is theirs.
 #[tactic(auto, unfolding(crate::specs::Building::meant))]
 fn meant(pieces: &[Piece<'_>], at: u32) -> Op
     ensures value { result ≡ building.meant (reading.read_source (map shown pieces.now)) at }
@@ -43,7 +43,8 @@ fn meant(pieces: &[Piece<'_>], at: u32) -> Op
     built(stem_of(source.stem), size, source.first, source.second, at)
 }
 
-/// Whether words say the pieces at an address.
+/// The round-trip check: whether words decode to an instruction whose text at an address has these tokens. It fails where
+/// memory runs out.
 fn is_said(alloc: Global, words: &[u16], pieces: &[Piece<'_>], at: u32) -> Result<bool, NoMemory>
     ensures { IfOk result (λ said. IsTrue said ↔ (texts.pieces (text_of (instruction_of (judged.padded words.now)) at) ≡ map shown pieces.now)) }
 {
@@ -53,7 +54,8 @@ fn is_said(alloc: Global, words: &[u16], pieces: &[Piece<'_>], at: u32) -> Resul
     Ok(same(&own, pieces))
 }
 
-/// The words of an instruction that is written, at an address.
+/// The one to five words of an instruction that is written, at an address, or `None` where its tokens are those of no
+/// instruction's text there. It fails where memory runs out.
 pub fn words_of(
     alloc: Global,
     pieces: &[Piece<'_>],

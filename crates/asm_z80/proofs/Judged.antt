@@ -1,4 +1,4 @@
--- What bytes decode to is made again of the pieces of its text; so what is judged to say the pieces is
+-- What bytes decode to is made again of the tokens of its text; so what is judged to say the tokens is
 -- that instruction, whatever follows its bytes.
 use Rattle.std.proofs.Common.{◌≡◌, ℕ, ◌<◌, Bool, true, false, List, [], ◌∷◌, ◌++◌, refl, ap, ◌∙◌, sym, arith, codes}
 use Rattle.std.specs.Prelude.{IsTrue}
@@ -76,7 +76,7 @@ iy_again at b1 b2 b3 h k l names =
     let same = joined (named (λ w. again at (by_opcode indexes.Iy w b2 b3))) (named (λ w. kept (by_opcode indexes.Iy w b2 b3))) (built_iy_low at b2 b3 k l) (built_iy_middle at b2 b3 k) (built_iy_high at b2 b3) b1 h in
     judged_again at (by_opcode indexes.Iy b1 b2 b3) (rw names at reads) (rw names at same)
 
--- a prefix that stands alone has a directive's text
+-- a prefix that is alone has a directive's text
 lone_again : (at : ℕ) (index : Index) → IsAgain at (of_bytes 1 (ops.LonePrefix index))
 lone_again at index none = absurd (true≢false none)
 
@@ -94,7 +94,7 @@ decoded_again bytes at h a = rw (decoded_is_nested bytes (h 0) (h 1) (h 3)) (nes
 
 -- ---- the law
 
--- the instruction is made again of the pieces of its text
+-- the instruction is made again of the tokens of its text
 pub meant_again : (bytes : List ℕ) (at : ℕ) → AreBytes bytes → at < 65536 → is_db (instruction_of bytes).op ≡ false
     → meant (read_source (pieces (text_of (instruction_of bytes) at))) at ≡ (instruction_of bytes).op
 meant_again bytes at h a none =
@@ -145,7 +145,7 @@ tried_zero d said at is text =
     let opens = db_opens (row_of d.op at) name in
     ap (λ (s : List Piece). tried s at) (sym text ∙ opens.1) ∙ tried_db opens.0 at
 
--- so what is tried and says the pieces is no directive
+-- so what is tried and says the tokens is no directive
 pub tried_is : (bytes more : List ℕ) (said : List Piece) (at : ℕ) → AreBytes (bytes ++ more) → bytes ≡ tried said at
     → pieces (text_of (instruction_of (bytes ++ more)) at) ≡ said → (b : Bool) → is_db (instruction_of (bytes ++ more)).op ≡ b → b ≡ false
 tried_is bytes more said at h are text false is = refl
@@ -155,7 +155,7 @@ tried_is bytes more said at h are text true is =
     let here : is_db (instruction_of (0 ∷ more)).op ≡ true = rw zero at is in
     sym here ∙ zero_is more all
 
--- bytes that say the pieces, and are those that are tried for them, say them whatever follows
+-- bytes that say the tokens, and are those that are tried for them, say them whatever follows
 pub said_again : (bytes more rest : List ℕ) (said : List Piece) (at : ℕ) → AreBytes (bytes ++ more) → AreBytes rest → at < 65536
     → bytes ≡ tried said at → pieces (text_of (instruction_of (bytes ++ more)) at) ≡ said → instruction_of (bytes ++ rest) ≡ instruction_of (bytes ++ more)
 said_again bytes more rest said at h k a are text =

@@ -1,4 +1,4 @@
--- How the texts of operands fall into pieces, and what is read of them.
+-- How the texts of operands fall into tokens, and what is read of them.
 use Rattle.std.proofs.Common.{◌≡◌, ℕ, ◌<◌, Bool, true, false, List, [], ◌∷◌, ◌++◌, nat_lt, refl, ap, ◌∙◌, arith, codes}
 use Rattle.std.proofs.lemmas.Bool.Decides.{nat_tests}
 use Rattle.md_word.specs.declared.bit.Bit.{Bit}
@@ -30,7 +30,7 @@ byte_fits n h = grind (arith, nat_tests)
 word_fits : (n : ℕ) → nat_lt n 65536 ≡ true → n < 65536
 word_fits n h = grind (arith, nat_tests)
 
--- ---- the pieces of operands, and their forms
+-- ---- the tokens of operands, and their forms
 
 abbrev pub in_brackets : List ℕ → List Piece
 in_brackets word = pieces.Mark 40 ∷ pieces.Word word ∷ pieces.Mark 41 ∷ []
@@ -113,7 +113,7 @@ shown (operands.AtWord address) = nat_lt address 65536
 shown (operands.ByteAndWord byte word) = false
 shown operand = true
 
--- ---- texts fall into these pieces
+-- ---- texts fall into these tokens
 
 bracket_split : (word : List ℕ) (e : List ℕ) → split [] (word ++ (41 ∷ e)) ≡ pieces.Word word ∷ split [] (41 ∷ e) → split [] (40 ∷ (word ++ (41 ∷ e))) ≡ in_brackets word ++ split [] e
 unfolding is_worded

@@ -179,7 +179,8 @@ fn output(first: Form80<'_>, second: Form80<'_>) -> Op80
     }
 }
 
-/// The instruction of a name and two operands, at an address.
+/// The instruction of a mnemonic and two operands, at an address. It is total: operands that do not fit give some
+/// instruction, and the round-trip check refuses it.
 #[tactic(auto, unfolding(crate::specs::Building::built))]
 pub(crate) fn built(stem: Stem80, first: Form80<'_>, second: Form80<'_>, at: u16) -> Op80
     ensures { result ≡ building.built stem (seen first.entry) (seen second.entry) at }

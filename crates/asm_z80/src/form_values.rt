@@ -11,7 +11,7 @@ use crate::words::{
 };
 use z80_decode::{Condition, Index, Pair, Place8};
 
-/// The word of an operand.
+/// The word of an operand; the empty one where it has none.
 pub(crate) fn word_in<'a>(form: Form80<'a>) -> &'a [u8]
     ensures { result.now ≡ building.word_in (seen form.entry) }
 {
@@ -21,7 +21,7 @@ pub(crate) fn word_in<'a>(form: Form80<'a>) -> &'a [u8]
     }
 }
 
-/// The number of an operand.
+/// The number of an operand; 0 where it has none.
 pub(crate) fn number(form: Form80<'_>) -> u32
     ensures { result ≡ building.number (seen form.entry) }
 {
@@ -124,7 +124,7 @@ pub(crate) fn condition(form: Form80<'_>) -> Condition
     condition_of(word_in(form))
 }
 
-/// The distance of a relative jump of two bytes that stands at an address.
+/// The distance of a relative jump of two bytes that is at an address, modulo 256.
 #[tactic(auto, unfolding(crate::specs::Building::distance))]
 pub(crate) fn distance(at: u16, to: u32) -> u8
     ensures { result ≡ building.distance at to }

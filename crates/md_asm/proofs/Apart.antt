@@ -36,7 +36,7 @@ pub record IsWithin (s : Slot) (k : ℕ) : Type 0 where
 abbrev pub AreApart : Slot → Slot → Type 0
 AreApart s t = (k : ℕ) → IsWithin s k → IsWithin t k → ⊥
 
--- each line is apart from those behind it
+-- each line is apart from those after it
 abbrev pub AllApart : List Slot → Type 0
 AllApart [] = Unit {0}
 AllApart (s ∷ more) = AllSlots (AreApart s) more × AllApart more

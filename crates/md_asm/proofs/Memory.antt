@@ -32,7 +32,7 @@ put_stands memory place bytes h k within =
     ∙ get_or-append_right (take place memory) bytes place (place + k) 0 front (omega arith)
     ∙ ap (λ (n : ℕ). get_or bytes n 0) (behind_by place k)
 
--- a place in front of the bytes or behind them is left
+-- a place before the bytes or after them is left
 pub put_leaves : (memory : List ℕ) (place : ℕ) (bytes : List ℕ) (k : ℕ) → place + length bytes ≤ length memory → (k < place) ⊎ (place + length bytes ≤ k)
     → get_or (put memory place bytes) k 0 ≡ get_or memory k 0
 unfolding put

@@ -1,4 +1,4 @@
--- Lines that are kept, and what a line without names comes to.
+-- Lines that are kept, and what a line without names results in.
 use Rattle.std.proofs.Common.{◌≡◌, ℕ, ◌+◌, ◌≤◌, ◌==◌, Bool, true, false, List, [], ◌∷◌, ◌++◌, length, Option, Some, None, refl, arith, ◌∙◌, ap, if◌then◌else◌}
 use Rattle.std.proofs.lemmas.Bool.{eqb-true}
 use Rattle.md_asm_text.specs.Pieces as pieces
@@ -14,7 +14,7 @@ pub kept_more : (entries : List Entry) (entry : Entry) → AreKept entries → I
 kept_more [] entry kept is = (is, tt)
 kept_more (e ∷ es) entry kept is = (kept.0, kept_more es entry kept.1 is)
 
--- pieces without names are as they are, whatever names mean
+-- tokens without names are as they are, whatever names mean
 pub resolved_plain : (names : Names) (said : List Piece) → has_name said ≡ false → resolved names said ≡ said
 unfolding has_name
 resolved_plain names [] none = refl
@@ -23,7 +23,7 @@ resolved_plain names (pieces.Number n ∷ ps) none = ap (λ (l : List Piece). pi
 resolved_plain names (pieces.Name w ∷ ps) none = cc
 resolved_plain names (pieces.Mark c ∷ ps) none = ap (λ (l : List Piece). pieces.Mark c ∷ l) (resolved_plain names ps none)
 
--- what a line without names comes to does not depend on them
+-- what a line without names results in does not depend on them
 pub settles_without_names : (sub : Bool) (body : Body) (long : ℕ) (said : List Piece) (at : ℕ) (bytes : List ℕ) → has_name said ≡ false
     → settled_line sub body long said at ≡ Good bytes → SettlesOn sub body long said at bytes
 settles_without_names sub body long said at bytes none is names =

@@ -11,7 +11,7 @@ use Rattle.asm_m68k.specs.Judged as main_read
 use Rattle.asm_z80.specs.Judged as sub_read
 use Rattle.md_asm.specs.Codes.{main_code, say_bytes, say_words, sub_code}
 
--- where pieces are the same the test says so, and where they are not
+-- where tokens are the same the test says so, and where they are not
 by_text : (own said : List Piece) → own ≡ said → all_alike own said ≡ true
 by_text own said e = rw e (all_alike_self said)
 

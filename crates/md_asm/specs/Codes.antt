@@ -1,4 +1,4 @@
--- The bytes of an instruction: those of the encoding of an instruction whose text has its pieces.
+-- The bytes of an instruction: those of the encoding of an instruction whose text has its tokens.
 use Rattle.std.specs.Prelude.{ℕ, ◌/◌, ◌%◌, Bool, true, false, if◌then◌else◌, List, [], ◌∷◌, Option, Some, None, option_map}
 use Rattle.m68k_decode.specs.Instructions as main
 use Rattle.z80_decode.specs.Instructions as sub
@@ -9,7 +9,7 @@ use Rattle.md_asm_text.specs.Pieces.{Piece, pieces}
 use Rattle.asm_m68k.specs.Judged as main_read
 use Rattle.asm_z80.specs.Judged as sub_read
 
--- words of the 68000 decode to an instruction whose text at an address has these pieces
+-- words of the 68000 decode to an instruction whose text at an address has these tokens
 abbrev pub say_words : List ℕ → List Piece → ℕ → Bool
 say_words words said at = all_alike (pieces (main_texts.text_of (main.instruction_of (main_read.padded words)) at)) said
 
@@ -17,7 +17,7 @@ say_words words said at = all_alike (pieces (main_texts.text_of (main.instructio
 abbrev pub say_bytes : List ℕ → List Piece → ℕ → Bool
 say_bytes bytes said at = all_alike (pieces (sub_texts.text_of (sub.instruction_of (sub_read.padded bytes)) at)) said
 
--- the words that are read and encoded, where they say the pieces
+-- the words that are read and encoded, where they say the tokens
 unfoldable pub main_code : List Piece → ℕ → Option (List ℕ)
 main_code said at = if say_words (main_read.tried said at) said at then Some (main_read.tried said at) else None
 

@@ -56,7 +56,7 @@ content z80 (bodies.Org place) said at = Some []
 content z80 bodies.Main said at = Some []
 content z80 (bodies.Sub n) said at = Some []
 
--- what a line comes to once all names have their values
+-- the outcome of a line once all names have their values
 pub data Settled : Type 0 where
   Good : List ℕ → Settled
   Unknown : Settled

@@ -7,7 +7,7 @@ use Rattle.md_asm.specs.Assembly.{places_of}
 use Rattle.md_asm.specs.Rounds.{Read, Round, Slot, round_one, settled_slot, start}
 use Rattle.md_asm.specs.declared.placed.Placed.{Placed}
 
--- bytes stand at a place of a memory
+-- bytes are at a place of a memory
 abbrev pub StandsAt : List ℕ → ℕ → List ℕ → Type 0
 StandsAt memory place bytes = (k : ℕ) → k < length bytes → slice_index memory (place + k) ≡ slice_index bytes k
 

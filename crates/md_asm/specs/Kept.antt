@@ -7,7 +7,7 @@ use Rattle.md_asm.specs.Numbers.{Names, resolved}
 use Rattle.md_asm.specs.declared.entry.Entry.{Entry}
 use Rattle.md_asm.specs.declared.pass.Pass.{Pass}
 
--- a line comes to these bytes whatever values names have
+-- a line results in these bytes whatever values names have
 abbrev pub SettlesOn : Bool → Body → ℕ → List Piece → ℕ → List ℕ → Type 0
 SettlesOn sub body long said at bytes = (names : Names) → settled_line sub body long (resolved names said) at ≡ Good bytes
 
@@ -25,7 +25,7 @@ pub record IsPass (pass : Pass) : Type 0 where
   pub whole : vec_len pass.cells.marks ≡ 4194304
   pub kept : AreKept pass.entries.items
 
--- bytes that a line comes to have room at its place
+-- the bytes of a line have room at its place
 abbrev pub FitsAt : Settled → ℕ → ℕ → Type 0
 FitsAt (Good bytes) place room = place + length bytes ≤ room
 FitsAt Unknown place room = Unit {0}

@@ -1,4 +1,4 @@
--- The numbers and names among the pieces of a line.
+-- The numbers and names among the tokens of a line.
 use Rattle.std.specs.Prelude.{ℕ, ◌+◌, ◌/◌, ◌%◌, Bool, true, false, ◌||◌, nat_le, if◌then◌else◌, List, [], ◌∷◌, ◌++◌, map, slice_set, Option, Some, None}
 use Rattle.md_asm_text.specs.Pieces as pieces
 use Rattle.md_asm_text.specs.Pieces.{Piece}
@@ -12,7 +12,7 @@ abbrev pub valued : List ℕ → Option ℕ → Piece
 valued name None = pieces.Name name
 valued name (Some value) = pieces.Number value
 
--- a name's value stands for it, where it has one
+-- a name's value is in its place, where it has one
 abbrev pub resolved_piece : Names → Piece → Piece
 resolved_piece names (pieces.Name name) = valued name (names name)
 resolved_piece names piece = piece
@@ -29,7 +29,7 @@ unfoldable pub has_name : List Piece → Bool
 has_name [] = false
 has_name (piece ∷ more) = is_name piece || has_name more
 
--- 8 stands for each number and name: it fits wherever one stands
+-- 8 in place of each number and name: it fits wherever one is
 abbrev pub filled_piece : Piece → Piece
 filled_piece (pieces.Name name) = pieces.Number 8
 filled_piece (pieces.Number n) = pieces.Number 8

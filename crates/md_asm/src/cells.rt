@@ -5,7 +5,7 @@ ghost use Rattle.md_asm.specs.Seen.{cells_seen};
 use md_word::NoMemory;
 use std::alloc::Global;
 
-/// The number of places: a byte stands below this one.
+/// The number of places: each byte of an image is below this one.
 pub(crate) const PLACES: usize = 4_194_304;
 
 /// The places that were written.
@@ -14,7 +14,7 @@ pub(crate) struct Cells {
     pub(crate) marks: Vec<bool>,
 }
 
-/// So many places that are not written.
+/// So many places that are not written. It fails where memory runs out.
 #[tactic(auto, using(crate::proofs::Places::none_marked))]
 fn unwritten(alloc: Global, count: usize) -> Result<Vec<bool>, NoMemory>
     ensures marks { IfOk result (λ marks. (k : ℕ) → slice_index_or marks.items k false ≡ false) }
@@ -24,7 +24,7 @@ fn unwritten(alloc: Global, count: usize) -> Result<Vec<bool>, NoMemory>
 }
 
 impl Cells {
-    /// No place is written.
+    /// No place is written. It fails where memory runs out.
     pub(crate) fn new(alloc: Global) -> Result<Self, NoMemory>
         ensures seen { IfOk result (λ cells. cells_seen cells ≡ (λ _. false)) }
         ensures long { IfOk result (λ cells. vec_len cells.marks ≡ 4194304) }

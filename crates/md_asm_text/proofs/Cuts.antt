@@ -2,7 +2,7 @@
 use Rattle.std.proofs.Common.{◌≡◌, ℕ, ◌<◌, ◌≤◌, Bool, true, false, List, [], ◌∷◌, ◌==◌, length, refl, ap, arith, if◌then◌else◌}
 use Rattle.md_asm_text.specs.Texts.{before, behind, lines, with_character}
 
--- a text that is not empty is its first line, and the lines behind it
+-- a text that is not empty is its first line, and the lines after it
 pub first_line : (c : ℕ) (cs : List ℕ) → lines (c ∷ cs) ≡ before 10 (c ∷ cs) ∷ lines (behind 10 (c ∷ cs))
 unfolding lines before behind
 first_line c [] = told (c == 10)

@@ -1,4 +1,4 @@
--- What the pieces of a line are: a directive, or else what has to be an instruction.
+-- What the tokens of a line are: a directive, or else what has to be an instruction.
 use Rattle.std.specs.Prelude.{ℕ, Bool, true, false, ◌&&◌, ◌==◌, if◌then◌else◌, List, [], ◌∷◌, codes}
 use Rattle.std.specs.Str.{bytes_eq}
 use Rattle.md_asm_text.specs.Pieces as pieces
@@ -6,22 +6,22 @@ use Rattle.md_asm_text.specs.Pieces.{Piece}
 use Rattle.md_asm_text.specs.declared.body.Body.{Body}
 use Rattle.md_asm_text.specs.declared.body.Body.TheVariants.{Org, Main, Sub, Words, Bytes, Instruction}
 
--- the pieces behind a space, or none
+-- the tokens after a space, or none
 abbrev pub spaced : List Piece → List Piece
 spaced (pieces.Mark c ∷ ps) = if c == 32 then ps else []
 spaced ps = []
 
--- behind `org`: a number
+-- after `org`: a number
 abbrev pub org : List Piece → Body
 org (pieces.Number n ∷ []) = Org n
 org ps = Instruction
 
--- behind `cpu z80`: a number
+-- after `cpu z80`: a number
 abbrev pub sub : List Piece → Body
 sub (pieces.Number n ∷ []) = Sub n
 sub ps = Instruction
 
--- behind `cpu`: which processor
+-- after `cpu`: which processor
 abbrev pub cpu : List Piece → Body
 cpu (pieces.Word word ∷ []) = if bytes_eq word (codes "68000") then Main else Instruction
 cpu (pieces.Name word ∷ ps) = if bytes_eq word (codes "z80") then sub (spaced ps) else Instruction
@@ -42,17 +42,17 @@ are_values [] = false
 are_values (p ∷ []) = is_value p
 are_values (p ∷ q ∷ ps) = is_value p && is_comma q && are_values ps
 
--- behind `dc`
+-- after `dc`
 abbrev pub dc : List Piece → Body
 dc (pieces.Mark c ∷ pieces.Word word ∷ ps) =
     if c == 46 && bytes_eq word (codes "w") && are_values (spaced ps) then Words else Instruction
 dc ps = Instruction
 
--- behind `db`
+-- after `db`
 abbrev pub db : List Piece → Body
 db ps = if are_values (spaced ps) then Bytes else Instruction
 
--- behind the first word
+-- after the first word
 abbrev pub named : List ℕ → List Piece → Body
 named word ps =
     if bytes_eq word (codes "org") then org (spaced ps)

@@ -15,16 +15,17 @@ use std::alloc::Global;
 /// A line of a source.
 #[derive(Drop)]
 pub struct Line<'a> {
-    /// A name in front of a colon.
+    /// The name before the first colon; `None` without a colon, or where the text before it is no name.
     pub label: Option<&'a [u8]>,
-    /// What stands behind it, without blanks at either end.
+    /// The text after it, without blanks at either end.
     pub text: &'a [u8],
-    /// The pieces of this text.
+    /// The tokens of this text.
     pub pieces: Vec<Piece<'a>>,
+    /// What this text is.
     pub body: Body,
 }
 
-/// What a text without blanks at either end is, by its pieces.
+/// What a text without blanks at either end is, by its tokens.
 fn body_of(text: &[u8], pieces: &[Piece<'_>]) -> Body
     requires { map shown pieces.now ≡ texts.pieces text.now }
     ensures { result ≡ lines.body_of text.now }
@@ -36,7 +37,7 @@ fn body_of(text: &[u8], pieces: &[Piece<'_>]) -> Body
     }
 }
 
-/// A line with this label, which says this text.
+/// A line with this label and this text. It fails where memory runs out.
 fn with_body<'a>(
     alloc: Global,
     label: Option<&'a [u8]>,
@@ -55,7 +56,7 @@ fn with_body<'a>(
     })
 }
 
-/// What a text without a comment and blanks at either end is.
+/// The line of a text without a comment and blanks at either end. It fails where memory runs out.
 fn labelled<'a>(alloc: Global, text: &'a [u8]) -> Result<Line<'a>, NoMemory>
     ensures line { IfOk result (λ line. line_seen line ≡ lines.labelled text.now) }
     ensures pieces { IfOk result (λ line. map shown line.pieces.items ≡ texts.pieces line.text.now) }
@@ -80,8 +81,9 @@ fn labelled<'a>(alloc: Global, text: &'a [u8]) -> Result<Line<'a>, NoMemory>
 
 /// A line of a source, of its text without the line feed.
 ///
-/// What stands from a semicolon on is a comment. Spaces and tabs at either end and behind the label's colon are left
-/// out. A directive has one space behind its name and none elsewhere.
+/// The text from a semicolon on is a comment. Spaces and tabs at either end and after the label's colon are left out. A
+/// directive has one space after its name and none elsewhere. It fails only where memory runs out: a line that is none
+/// has the body `Bad` or `Instruction`.
 #[tactic(auto, unfolding(crate::specs::Lines::line_of))]
 pub fn read_line<'a>(alloc: Global, text: &'a [u8]) -> Result<Line<'a>, NoMemory>
     ensures line { IfOk result (λ line. line_seen line ≡ lines.line_of text.now) }

@@ -4,7 +4,7 @@ ghost use Rattle.text_lines.specs.Lines.{lines_of};
 /// The line feed.
 const LINE_FEED: u8 = 10;
 
-/// Where the first line feed of a text stands, or its end where there is none.
+/// The place of the first line feed of a text, or its end where there is none.
 fn line_end(text: &[u8]) -> usize
     ensures within { result ≤ length text.now }
     ensures before { (k : ℕ) → k < result → slice_index text.now k ≢ 10 }
@@ -18,7 +18,7 @@ fn line_end(text: &[u8]) -> usize
     text.len()
 }
 
-/// The first line of a text that has bytes, and what stands behind it.
+/// The first line of a text that has bytes, and what follows it.
 pub fn first_line(text: &[u8]) -> (&[u8], &[u8])
     requires { 0 < length text.now }
     ensures lines { lines_of text.now ≡ result.0.now ∷ lines_of result.1.now }
