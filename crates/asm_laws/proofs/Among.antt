@@ -62,7 +62,7 @@ put_plain n (pieces.Mark c ∷ ps) h = ap (λ (l : List Piece). pieces.Mark c �
 put_plain n (pieces.Number m ∷ ps) h = cc
 put_plain n (pieces.Name w ∷ ps) h = cc
 
--- it stands where the other did
+-- it is where the other was
 pub put_stands : (n m : ℕ) (all : List Piece) (place : ℕ) → StandsIn all place (pieces.Number m) → StandsIn (put_all n all) place (pieces.Number n)
 put_stands n m all place (front, behind, is, long) =
     (put_all n front, put_all n behind, ap (put_all n) is ∙ put_both n front (pieces.Number m ∷ behind), put_long n front ∙ long)

@@ -1,4 +1,4 @@
--- Which numbers of an instruction's tokens fit: each stands alone, with 8 for the others.
+-- Which numbers of an instruction's tokens fit: each is tried alone, with 8 for the others.
 use Rattle.std.proofs.Common.{◌≡◌, ℕ, ◌+◌, Bool, true, false, ◌||◌, List, [], ◌∷◌, ◌++◌, length, append_assoc, length-append, refl, ap, ◌∙◌, sym, arith, Option, Some, None}
 use Rattle.std.specs.Prelude.{is_some, slice_set}
 use Rattle.md_asm_text.specs.Pieces as pieces
@@ -36,7 +36,7 @@ pub filled_long : (xs : List Piece) → length (filled xs) ≡ length xs
 filled_long [] = refl
 filled_long (x ∷ xs) = let e = filled_long xs in omega (arith, e)
 
--- a token is put after others
+-- a token after others
 set_behind : (xs ys : List Piece) (y p : Piece) → slice_set (xs ++ y ∷ ys) (length xs) p ≡ xs ++ p ∷ ys
 set_behind [] ys y p = refl
 set_behind (x ∷ xs) ys y p = ap (λ (l : List Piece). x ∷ l) (set_behind xs ys y p)
@@ -64,7 +64,7 @@ misfits_both sub said i (x ∷ xs) ys h k = cases (misfit sub said i x) refl (λ
     cases true is more = let no : true ≡ false = rw is at h in cc
     cases false is more = let left : misfits sub said (i + 1) xs ≡ false = rw is at h in rw (is, more left) refl
 
--- what the numbers of a part result in alone, with 8 for all that stand around it
+-- what the numbers of a part result in alone, with 8 for all around it
 abbrev pub IsAlone : Bool → List Piece → List Piece → List Piece → Type 0
 IsAlone sub pre part post = (n : ℕ) → number_of part ≡ Some n → is_some (code sub (filled pre ++ (part ++ filled post)) (under sub n)) ≡ true
 

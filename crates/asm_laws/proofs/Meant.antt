@@ -1,4 +1,4 @@
--- The other direction: a line that has a length has the form of some instruction, and a number that fits stands in one.
+-- The other direction: a line that has a length has the form of some instruction, and a number that fits is in one.
 use Rattle.std.proofs.Common.{◌≡◌, ℕ, ◌<◌, Bool, true, false, List, [], ◌∷◌, ◌++◌, length, append-nil, refl, ap, ◌∙◌, sym, arith, Option, Some, None}
 use Rattle.std.specs.Prelude.{is_some, option_map}
 use Rattle.m68k_decode.specs.Instructions as main

@@ -122,7 +122,7 @@ led_by : (mark : List ℕ) (o : Operand68) → led mark o ≡ (if is_none o then
 led_by mark operands.Nothing = refl
 led_by mark o = refl
 
--- a list stands before another operand
+-- a list is before another operand
 abbrev pub is_shaped : Operand68 → Operand68 → Bool
 is_shaped first second = if is_none second then is_none first || is_some first else true
 

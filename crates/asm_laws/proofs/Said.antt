@@ -67,7 +67,7 @@ code_of z80 bodies.Main long said at bytes instruction is = cc
 code_of z80 (bodies.Sub n) long said at bytes instruction is = cc
 code_of z80 bodies.Bad long said at bytes instruction is = cc
 
--- ---- bytes that stand in an image
+-- ---- bytes that are in an image
 
 pub stand_bytes : (image : List ℕ) (place : ℕ) (bytes : List ℕ) → AreBytes image → StandsAt image place bytes → AreBytes bytes
 stand_bytes image place bytes all stands k = elim (cases_lt k (length bytes)) [
@@ -78,7 +78,7 @@ stand_bytes image place bytes all stands k = elim (cases_lt k (length bytes)) [
 first_of : (image : List ℕ) (place a : ℕ) (more : List ℕ) → StandsAt image place (a ∷ more) → slice_index image place ≡ a
 first_of image place a more stands = ap (λ (n : ℕ). get_or image n 0) (sym (add-zero place)) ∙ stands 0 (omega arith)
 
--- what is read at a place begins with the bytes that stand there
+-- what is read at a place begins with the bytes that are there
 record Begins (read bytes : List ℕ) : Type 0 where
   rest : List ℕ
   whole : read ≡ bytes ++ rest
@@ -111,7 +111,7 @@ read_bytes image place all (suc (suc (suc (suc k)))) = omega arith
 rest_bytes : (bytes rest : List ℕ) → AreBytes (bytes ++ rest) → AreBytes rest
 rest_bytes bytes rest all k = let here = all (length bytes + k) in let e = get_or-append-add bytes rest k 0 in omega (arith, here, e)
 
--- ---- words that stand in an image
+-- ---- words that are in an image
 
 -- bytes of words that are bytes are those of words
 pub words_are : (words : List ℕ) → AreBytes (in_bytes words) → AreWords words

@@ -48,7 +48,7 @@ assembled_again bytes at h a none =
 
 -- ---- what is found for tokens
 
--- what is found is what is tried, and says the tokens where 0 stands after it
+-- what is found is what is tried, and says the tokens with 0 after it
 pub record IsFound (said : List Piece) (bytes : List ℕ) (at : ℕ) : Type 0 where
   pub own : bytes ≡ tried said at
   pub text : pieces (text_of (instruction_of (padded bytes)) at) ≡ said

@@ -45,7 +45,7 @@ pub let_through : {X : Type 0} (b : Bool) (own found : X) → (if b then Some ow
 let_through true own found is = (refl, cc)
 let_through false own found is = cc
 
--- what is found is what is tried, and says the tokens where 0 stands after it
+-- what is found is what is tried, and says the tokens with 0 after it
 pub record IsFound (said : List Piece) (words : List ℕ) (at : ℕ) : Type 0 where
   pub own : words ≡ tried said at
   pub text : pieces (text_of (instruction_of (padded words)) at) ≡ said

@@ -15,7 +15,7 @@ use Rattle.asm_laws.proofs.Ranges.{in_has}
 
 -- ---- numbers that do not fit
 
--- a token more stands at the start
+-- a token more is at the start
 stands_more : (p : Piece) (ps : List Piece) (place : ℕ) (piece : Piece) → StandsIn ps place piece → StandsIn (p ∷ ps) (place + 1) piece
 stands_more p ps place piece (front, behind, is, long) = (p ∷ front, behind, ap (λ (l : List Piece). p ∷ l) is, (omega (arith, long)))
 

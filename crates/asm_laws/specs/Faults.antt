@@ -19,12 +19,12 @@ use Rattle.md_asm.specs.Rounds.{Read, Round, Slot, round_one, start}
 use Rattle.asm_laws.specs.Forms.{HasNumber, IsForm, StandsIn}
 use Rattle.asm_laws.specs.Ranges.{IsInRange}
 
--- after a label's colon, or in place of a label, stands what is none; or it is no directive, and no instruction of the
+-- after a label's colon is no line, or in place of a label no name; or it is no directive, and no instruction of the
 -- processor has its form
 abbrev pub IsBad : Bool → Line → Type 0
 IsBad z80 line = (line.body ≡ bodies.Bad) ⊎ ((line.body ≡ bodies.Instruction) × ((long : ℕ) → ¬ IsForm z80 (pieces line.text) long))
 
--- a number stands among the tokens that is not below a limit
+-- a number among the tokens is not below a limit
 abbrev pub HasOver : ℕ → List Piece → Type 0
 HasOver limit said = (place : ℕ) × (n : ℕ) × StandsIn said place (Number n) × (limit ≤ n)
 

@@ -1,4 +1,4 @@
--- Which lines have the form of an instruction, and which numbers stand in such a form: told by the texts of instructions
+-- Which lines have the form of an instruction, and which numbers such a form has: defined by the texts of instructions
 -- alone, whatever the assembler tries.
 use Rattle.std.specs.Prelude.{◌≡◌, ℕ, ◌<◌, Bool, true, false, List, ◌∷◌, ◌++◌, length}
 use Rattle.m68k_decode.specs.Instructions as main
@@ -34,7 +34,7 @@ IsForm true said long = (bytes : List ℕ) × (at : ℕ) × IsSubForm said bytes
 IsForm false said long =
     (word : ℕ) × (tail : List ℕ) × (at : ℕ) × IsMainForm said word tail at × ((main.instruction_of (word ∷ tail)).length ≡ long)
 
--- a token stands at a place among others
+-- a token is at a place among others
 abbrev pub StandsIn : List Piece → ℕ → Piece → Type 0
 StandsIn all place piece = (front : List Piece) × (behind : List Piece) × (all ≡ front ++ piece ∷ behind) × (length front ≡ place)
 

@@ -24,7 +24,7 @@ abbrev pub IsWritten : Bool → List ℕ → List Piece → ℕ → Type 0
 IsWritten true bytes said at = AreChosen bytes said at
 IsWritten false bytes said at = (words : List ℕ) × (bytes ≡ in_bytes words) × AreLeast words said at
 
--- whichever instruction of the processor has these tokens in its text at an address, what stands at a place of an image
+-- whichever instruction of the processor has these tokens in its text at an address, what is at a place of an image
 -- decodes to it
 abbrev pub IsKept : Bool → List ℕ → ℕ → List Piece → ℕ → Type 0
 IsKept true image place said at =
@@ -35,7 +35,7 @@ IsKept false image place said at =
     → pieces (main_texts.text_of (main.instruction_of (word ∷ tail)) at) ≡ said → main.instruction_of (words_from image place) ≡ main.instruction_of (word ∷ tail)
 
 -- what is decoded at a line's place has at its address the line's text: the same tokens, with the value of each name;
--- it is the instruction that has this text; and of all bytes that have it, those that are chosen stand there
+-- it is the instruction that has this text; and of all bytes that have it, those that are chosen are there
 pub record IsSaid (image : List ℕ) (names : Names) (slot : Slot) : Type 0 where
   pub text : pieces (text_at slot.sub image slot.place slot.address) ≡ resolved names (pieces slot.text)
   pub kept : IsKept slot.sub image slot.place (resolved names (pieces slot.text)) slot.address

@@ -1,4 +1,4 @@
--- Which numbers may stand at a place of an instruction's text: a table by operand.
+-- Which numbers are allowed at a place of an instruction's text: a table by operand.
 -- M68000 Programmer's Reference Manual, sections 2.2 and 4 (ADDQ, SUBQ, TRAP, shifts); Zilog UM0080, "Z80 Instruction
 -- Description" (RST); displacements as unsigned numbers are this project's profile.
 use Rattle.std.specs.Prelude.{◌≡◌, ℕ, ◌%◌, ◌==◌, Bool, true, false, ◌&&◌, nat_le, nat_lt, if◌then◌else◌, List, ◌∷◌, length}
@@ -46,7 +46,7 @@ abbrev pub digit_allows : Op → ℕ → Bool
 digit_allows (ops.Trap vector) n = nat_lt n 16
 digit_allows op n = nat_le 1 n && nat_le n 8
 
--- the numbers that may stand in an operand of an instruction; a branch goes to any address
+-- the numbers that are allowed in an operand of an instruction; a branch goes to any address
 abbrev pub main_allows : Op → Operand68 → ℕ → Bool
 main_allows op (operands.Place size mode) n = nat_lt n (mode_limit size mode)
 main_allows op (operands.Digit m) n = digit_allows op n
@@ -73,7 +73,7 @@ abbrev pub byte_allows : Op80 → ℕ → Bool
 byte_allows (sub_ops.Restart address) n = nat_le n 0x38 && n % 8 == 0
 byte_allows op n = nat_lt n 0x100
 
--- the numbers that may stand in an operand of an instruction; a relative jump goes to any address
+-- the numbers that are allowed in an operand of an instruction; a relative jump goes to any address
 abbrev pub sub_allows : Op80 → Operand80 → ℕ → Bool
 sub_allows op (sub_operands.Place place) n = nat_lt n (place_limit place)
 sub_allows op (sub_operands.Byte m) n = byte_allows op n
@@ -88,7 +88,7 @@ sub_operand row place = if nat_lt place (length (pieces (sub_texts.row_text (rec
 
 -- ---- a line's number
 
--- an instruction of the 68000 of this form has some number at a place of its text, and there this one may stand too
+-- an instruction of the 68000 of this form has some number at a place of its text, and there this one is allowed too
 pub record IsMainRange (said : List Piece) (place n word : ℕ) (tail : List ℕ) (at : ℕ) : Type 0 where
   pub form : IsMainForm said word tail at
   pub own : ℕ

@@ -1,4 +1,4 @@
--- Sources of one instruction at an address, and that it stands in what they are assembled to.
+-- Sources of one instruction at an address, and that it is in their image.
 use Rattle.std.specs.Prelude.{◌≡◌, ℕ, ◌+◌, ◌%◌, ◌<◌, ◌≤◌, false, List, [], ◌∷◌, ◌++◌, codes}
 use Rattle.m68k_decode.specs.Instructions as main
 use Rattle.z80_decode.specs.Instructions as sub
@@ -35,7 +35,7 @@ pub record IsSubSource (source bytes : List ℕ) (at : ℕ) : Type 0 where
   pub instruction : is_db (sub.instruction_of bytes).op ≡ false
   pub text : source ≡ sub_source at (sub_texts.text_of (sub.instruction_of bytes) at)
 
--- there is an image, and what stands in it at the address, or for the Z80 at place 0, decodes to the instruction
+-- there is an image, and what is in it at the address, or for the Z80 at place 0, decodes to the instruction
 abbrev pub KeepsMain : AssemblyOutcome → ℕ → List ℕ → ℕ → Type 0
 KeepsMain (Done image lines) word tail at = main.instruction_of (words_from image at) ≡ main.instruction_of (word ∷ tail)
 KeepsMain (Failed line kind) word tail at = ⊥

@@ -34,7 +34,7 @@ pub fn sources_are_assembled()
         × (sub.instruction_of (bytes_from image 0) ≡ sub.instruction_of bytes) }
 {}
 
-/// So in what a source of one instruction is assembled to stands that instruction; and a source that is refused is none.
+/// So the image of a source of one instruction holds that instruction; and a source that is refused is none.
 pub fn instructions_are_kept()
     ensures { (source : List ℕ) (outcome : AssemblyOutcome) → assembly source ≡ outcome → KeepsInstruction source outcome }
 {}
@@ -62,9 +62,9 @@ pub fn numbers_are_in_range(image: &[u8])
     image_says_its_lines(image);
 }
 
-/// What a source's fault says: a line of kind 1 has the form of no instruction, and of kinds 2 and 8 a number that no
-/// instruction of the line's form has at its place, as it is out of the range there, or one that does not fit a directive; of
-/// kind 9 it is an instruction's that no instruction has as its text at the address.
+/// What a source's fault says. A line of kind 1 has the form of no instruction. A line of kind 2 or 8 has a number that does
+/// not fit a directive, or that is out of the range of its place, where no instruction of the line's form has it. A line of
+/// kind 9 has the form of an instruction, but is no instruction's text at its address.
 pub fn faults_are_right()
     ensures { (source : List ℕ) (line kind : ℕ) → assembly source ≡ Failed line kind → IsFaulty source line kind }
 {}

@@ -58,7 +58,7 @@ pub brief-bit : (index : ℕ) (long : Bool) (by : ℕ) → by < 256 → bit_of (
 brief-bit index true by h = grind (arith, nat_tests)
 brief-bit index false by h = grind (arith, nat_tests)
 
--- a word that is the brief extension word of what a word told
+-- a word that is the brief extension word of another one's fields
 record IsBrief (x word : ℕ) : Type 0 where
   index : x / 4096 ≡ word / 4096
   long : bit_of x 2048 ≡ bit_of word 2048

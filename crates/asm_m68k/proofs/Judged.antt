@@ -1,5 +1,5 @@
--- What words decode to is made again of the tokens of its text; so what is judged to say the tokens
--- is that instruction, whatever follows its words.
+-- What words decode to is made again of the tokens of its text. So words that pass the round-trip check are of that
+-- instruction, whatever follows them.
 use Rattle.std.proofs.Common.{◌≡◌, ℕ, ◌+◌, ◌<◌, List, [], ◌∷◌, ◌++◌, Option, Some, None, refl, ap, ◌∙◌, sym, arith}
 use Rattle.std.specs.Prelude.{slice_index}
 use Rattle.m68k_decode.specs.Instructions.{instruction_of, made, picked}

@@ -1,5 +1,5 @@
--- What bytes decode to is made again of the tokens of its text; so what is judged to say the tokens is
--- that instruction, whatever follows its bytes.
+-- What bytes decode to is made again of the tokens of its text. So bytes that pass the round-trip check are of that
+-- instruction, whatever follows them.
 use Rattle.std.proofs.Common.{◌≡◌, ℕ, ◌<◌, Bool, true, false, List, [], ◌∷◌, ◌++◌, refl, ap, ◌∙◌, sym, arith, codes}
 use Rattle.std.specs.Prelude.{IsTrue}
 use Rattle.std.proofs.lemmas.Slice.Eq.{bytes_eq-Decides}

@@ -1,4 +1,4 @@
--- What round two puts into a memory stands there at the end.
+-- What round two writes to a memory is there at the end.
 use Rattle.std.proofs.Common.{◌≡◌, ℕ, ◌+◌, ◌<◌, ◌≤◌, ◌⊎◌, inl, inr, List, [], ◌∷◌, length, get_or, refl, sym, ap, ◌∙◌, arith}
 use Rattle.std.proofs.lemmas.Bool.{cases_lt}
 use Rattle.md_asm_text.specs.Pieces.{pieces}
@@ -11,7 +11,7 @@ use Rattle.md_asm.proofs.Slots.{settled_long}
 use Rattle.md_asm.proofs.Memory.{put_leaves, put_long, put_stands}
 use Rattle.md_asm.proofs.Apart.{AllApart, AreApart, AllSlots, IsWithin}
 
--- a line comes to bytes, which stand at its place
+-- a line has bytes, which are at its place
 pub record IsFilled (memory : List ℕ) (names : Names) (slot : Slot) : Type 0 where
   pub bytes : List ℕ
   pub settled : settled_slot names slot ≡ Good bytes

@@ -29,7 +29,7 @@ pub settles_without_names : (sub : Bool) (body : Body) (long : ℕ) (said : List
 settles_without_names sub body long said at bytes none is names =
     ap (λ (l : List Piece). settled_line sub body long l at) (resolved_plain names said none) ∙ is
 
--- bytes that a line comes to have its length
+-- the bytes of a line have its length
 sized_by : (long : ℕ) (own bytes : List ℕ) (b : Bool) → (length own == long) ≡ b → (if b then Good own else Far) ≡ Good bytes → length bytes ≡ long
 sized_by long own bytes true same is =
     let e : own ≡ bytes = cc in rw (← e) (eqb-true (length own) long same)

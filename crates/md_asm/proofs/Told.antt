@@ -1,4 +1,4 @@
--- What the readers judge, as a test.
+-- The round-trip check of both processors, as a test.
 use Rattle.std.proofs.Common.{◌≡◌, ℕ, Bool, true, false, List, Some, None, refl}
 use Rattle.m68k_decode.specs.Instructions as main
 use Rattle.z80_decode.specs.Instructions as sub

@@ -21,7 +21,7 @@ number_of kinds.UnknownName = 7
 number_of kinds.DoesNotFit = 8
 number_of kinds.Far = 9
 
--- where a line stands
+-- where a line is
 abbrev pub placed_slot : Slot → Placed
 placed_slot slot = record { place = slot.place; address = slot.address; z80 = slot.sub }
 
@@ -54,6 +54,6 @@ second (Read round) = assembly_of round (round_two round.names blank round.slots
 second (Refused line kind) = Failed line (number_of kind)
 
 -- A source's lines are read in their order, each with its place, its address and its length; then each that has
--- bytes is put at its place, with all names known. The image ends after the last byte that is written.
+-- bytes is written at its place, with all names known. The image ends after the last byte that is written.
 unfoldable pub assembly : List ℕ → AssemblyOutcome
 assembly source = second (round_one start 1 (lines source))

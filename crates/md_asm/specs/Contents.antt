@@ -7,7 +7,7 @@ use Rattle.md_asm_text.specs.declared.body.Body.TheVariants as bodies
 use Rattle.md_asm.specs.Codes.{code}
 use Rattle.md_asm.specs.Numbers.{alone, any_over, bytes_of, count, filled, has_name, words_of}
 
--- The length of a line, or none where it is no line: its numbers do not matter, so 8 stands for each, at an
+-- The length of a line, or none where it is no line: its numbers do not matter, so each is 8, at an
 -- address from which 8 is in reach of every branch.
 abbrev pub size : Bool → Body → List Piece → Option ℕ
 size z80 bodies.Bad said = None

@@ -1,4 +1,4 @@
--- Places, addresses, and the memory that an image is the front of.
+-- Places, addresses, and the memory that an image is a prefix of.
 use Rattle.std.specs.Prelude.{ℕ, zero, suc, ◌+◌, ◌-◌, ◌%◌, Bool, true, false, ◌&&◌, ◌||◌, nat_le, nat_lt, List, ◌++◌, length, take, drop, replicate}
 use Rattle.md_asm.specs.declared.processor.Processor.{Processor}
 use Rattle.md_asm.specs.declared.processor.Processor.TheVariants as processors

@@ -14,7 +14,7 @@ use Rattle.md_asm.specs.declared.kind.Kind.TheVariants as kinds
 use Rattle.md_asm.specs.declared.processor.Processor.{Processor}
 use Rattle.md_asm.specs.declared.processor.Processor.TheVariants as processors
 
--- a line that has bytes: its number, where it stands, how long it is, and what it says
+-- a line that has bytes: its number, where it is, how long it is, and its text
 pub record Slot : Type 0 where
   pub line : ℕ
   pub place : ℕ

@@ -42,7 +42,7 @@ abbrev pub step_seen : Option Kind → Pass → Step
 step_seen None pass = On (round_seen pass)
 step_seen (Some kind) pass = Stop kind
 
--- a line's bytes were put into a memory, or why not
+-- a line's bytes were written to a memory, or why not
 abbrev pub patched_seen : Option Kind → List ℕ → Patched
 patched_seen None memory = Onto memory
 patched_seen (Some kind) memory = Hit kind

@@ -1,4 +1,4 @@
--- How texts fall into tokens: words, the numbers of md_disasm, and what stands between them.
+-- How texts fall into tokens: words, the numbers of md_disasm, and what is between them.
 use Rattle.std.proofs.Common.{◌≡◌, ℕ, ◌+◌, ◌-◌, ◌*◌, ◌/◌, ◌%◌, ◌<◌, ◌==◌, Bool, true, false, not, List, [], ◌∷◌, ◌++◌, nat_lt, length, append_assoc, append-nil, refl, ap, ◌∙◌, sym, arith, if◌then◌else◌}
 use Rattle.std.specs.Fmt.{digit_glyph}
 use Rattle.std.proofs.lemmas.Bool.Decides.{nat_tests}
@@ -11,7 +11,7 @@ abbrev pub is_end : List ℕ → Bool
 is_end [] = true
 is_end (c ∷ cs) = not (is_worded c)
 
--- a token before others, and what stands between three texts and a fourth
+-- a token before others, and three texts before a fourth
 pub behind : (p : Piece) (xs ys : List Piece) → xs ≡ ys → p ∷ xs ≡ p ∷ ys
 behind p xs ys e = ap (λ (l : List Piece). p ∷ l) e
 
