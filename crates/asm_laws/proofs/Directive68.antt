@@ -22,7 +22,7 @@ use Rattle.md_asm.specs.Codes.{in_bytes}
 use Rattle.md_asm.specs.Contents.{Good, settled_line}
 use Rattle.md_asm.specs.Numbers.{Names, any_over, count, has_name, resolved, words_of}
 use Rattle.md_asm.specs.Assembly.{Done, assembly, places_of, second}
-use Rattle.md_asm.specs.Places.{blank, put}
+use Rattle.md_asm.specs.Places.{blank, image_limit, put}
 use Rattle.md_asm.specs.Rounds.{On, behind, line_step, round_one, round_two, start}
 use Rattle.md_asm.specs.declared.placed.Placed.{Placed}
 use Rattle.asm_laws.specs.Places.{words_from}
@@ -75,7 +75,7 @@ fits w h = cases (nat_le 65536 w) refl
     cases true is = absurd (grind (arith, nat_tests))
     cases false is = refl
 
-word_step : (first text : List ℕ) (at w : ℕ) → pieces.pieces text ≡ said w → w < 65536 → at % 2 ≡ 0 → at + 2 ≤ 4194304
+word_step : (first text : List ℕ) (at w : ℕ) → pieces.pieces text ≡ said w → w < 65536 → at % 2 ≡ 0 → at + 2 ≤ image_limit
     → line_step (behind start 1 (plain_line first (bodies.Org at)) 0) 2 (plain_line text bodies.Words) ≡ On (behind (behind start 1 (plain_line first (bodies.Org at)) 0) 2 (plain_line text bodies.Words) 2)
 unfolding count any_over
 word_step first text at w is h e room = rw (is, fits w h, even at e, small at 2 room) refl
@@ -85,7 +85,7 @@ settled : (names : Names) (text : List ℕ) (at w : ℕ) → pieces.pieces text 
 unfolding has_name any_over words_of
 settled names text at w is h = rw (is, fits w h) refl
 
-word_done : (at w : ℕ) → w < 65536 → at % 2 ≡ 0 → at + 2 ≤ 4194304
+word_done : (at w : ℕ) → w < 65536 → at % 2 ≡ 0 → at + 2 ≤ image_limit
     → assembly (main_source at (word_text w)) ≡ Done (take (at + 2) (put blank at (w / 256 % 256 ∷ w % 256 ∷ []))) []
 unfolding assembly round_one round_two places_of
 word_done at w h e room =
@@ -127,10 +127,10 @@ IsRoundTrip w tail at =
     × (instruction_of (words_from image at) ≡ instruction_of (w ∷ tail))
 
 word_round_trip : (w : ℕ) (tail : List ℕ) (at : ℕ) → w < 65536 → IsWord (instruction_of (w ∷ tail)) w → ((rest : List ℕ) → instruction_of (w ∷ rest) ≡ instruction_of (w ∷ tail))
-    → at % 2 ≡ 0 → at + (instruction_of (w ∷ tail)).length ≤ 4194304 → IsRoundTrip w tail at
+    → at % 2 ≡ 0 → at + (instruction_of (w ∷ tail)).length ≤ image_limit → IsRoundTrip w tail at
 word_round_trip w tail at h is same e room =
     let whole = is.whole in
-    let within : at + 2 ≤ 4194304 = omega (arith, whole, room) in
+    let within : at + 2 ≤ image_limit = omega (arith, whole, room) in
     let image : take (at + 2) (put blank at (w / 256 % 256 ∷ w % 256 ∷ [])) ≡ take at blank ++ in_bytes (w ∷ [])
     = ap (λ (l : List ℕ). take (at + 2) (put blank at l)) (bytes_are w h)
     ∙ ap (λ (n : ℕ). take (at + n) (put blank at (in_bytes (w ∷ [])))) (sym (two_long w))
@@ -142,7 +142,7 @@ word_round_trip w tail at h is same e room =
     )
 
 round_trip_by : (found : Option Row) (w : ℕ) (tail : List ℕ) (at : ℕ) → w < 65536 → nested w ≡ found → AreWords (w ∷ tail) → at % 2 ≡ 0
-    → at + (instruction_of (w ∷ tail)).length ≤ 4194304 → IsRoundTrip w tail at
+    → at + (instruction_of (w ∷ tail)).length ≤ image_limit → IsRoundTrip w tail at
 round_trip_by None w tail at h is all e room =
     let picks : (rest : List ℕ) → instruction_of (w ∷ rest) ≡ unmatched (w ∷ rest) = λ rest. decoded_is_picked (w ∷ rest) h ∙ ap (λ (r : Option Row). picked r (w ∷ rest)) is in
     word_round_trip w tail at h (subst (λ (d : Decoded). IsWord d w) (sym (picks tail)) (unmatched_by _ _ w tail refl refl))
@@ -153,7 +153,7 @@ round_trip_by (Some rows.Illegal) w tail at h is all e room =
     (λ rest. picks rest ∙ illegal_same w tail rest ∙ sym (picks tail)) e room
 round_trip_by (Some _) w tail at h is all e room = main_round_trip w tail at h (subst (λ (r : Option Row). IsInstruction r) (sym is) tt) all e room
 
-pub every_round_trip : (w : ℕ) (tail : List ℕ) (at : ℕ) → w < 65536 → AreWords (w ∷ tail) → at % 2 ≡ 0 → at + (instruction_of (w ∷ tail)).length ≤ 4194304
+pub every_round_trip : (w : ℕ) (tail : List ℕ) (at : ℕ) → w < 65536 → AreWords (w ∷ tail) → at % 2 ≡ 0 → at + (instruction_of (w ∷ tail)).length ≤ image_limit
     → (image : List ℕ) × (lines : List Placed) × (assembly (main_source at (text_of (instruction_of (w ∷ tail)) at)) ≡ Done image lines)
     × (instruction_of (words_from image at) ≡ instruction_of (w ∷ tail))
 every_round_trip w tail at h all e room = round_trip_by (nested w) w tail at h refl all e room

@@ -30,7 +30,7 @@ use Rattle.asm_laws.proofs.Lengths.{filled_up}
 use Rattle.asm_laws.proofs.MainCodes.{encoded_long}
 use Rattle.asm_laws.proofs.Texts.{assembled_again, few, found}
 use Rattle.md_asm.specs.Assembly.{Done, assembly}
-use Rattle.md_asm.specs.Places.{blank, put}
+use Rattle.md_asm.specs.Places.{blank, image_limit, put}
 use Rattle.md_asm.proofs.Memory.{zeros_long}
 use Rattle.md_asm.specs.declared.placed.Placed.{Placed}
 use Rattle.asm_laws.specs.Places.{word_at, words_from}
@@ -262,17 +262,17 @@ main_coded w tail at main a =
 
 -- ---- the image
 
-blank_long : length blank ≡ 4194304
-blank_long = zeros_long 4194304
+blank_long : length blank ≡ image_limit
+blank_long = zeros_long image_limit
 
-pub front_long : (at : ℕ) → at ≤ 4194304 → length (take at blank) ≡ at
+pub front_long : (at : ℕ) → at ≤ image_limit → length (take at blank) ≡ at
 front_long at h = let e = blank_long in length-take-le at blank (omega (arith, e))
 
 image_by : (place bytes rest : List ℕ) (at : ℕ) → length place ≡ at → take (at + length bytes) ((place ++ bytes) ++ rest) ≡ place ++ bytes
 image_by place bytes rest at e =
     ap (λ (n : ℕ). take n ((place ++ bytes) ++ rest)) (let l = length-append place bytes in omega (arith, e, l)) ∙ take-append_seam (place ++ bytes) rest
 
-pub image_is : (at : ℕ) (bytes : List ℕ) → at ≤ 4194304 → take (at + length bytes) (put blank at bytes) ≡ take at blank ++ bytes
+pub image_is : (at : ℕ) (bytes : List ℕ) → at ≤ image_limit → take (at + length bytes) (put blank at bytes) ≡ take at blank ++ bytes
 unfolding put
 image_is at bytes h = image_by (take at blank) bytes (drop (at + length bytes) blank) at (front_long at h)
 
@@ -304,7 +304,7 @@ words_back (a ∷ b ∷ c ∷ d ∷ e ∷ []) h = rw (back a, back b, back c, ba
 words_back (a ∷ b ∷ c ∷ d ∷ e ∷ f ∷ more) h = absurd (omega arith)
 
 -- a source of its text has an image whose words decode to it
-pub main_round_trip : (w : ℕ) (tail : List ℕ) (at : ℕ) → w < 65536 → IsInstruction (nested w) → AreWords (w ∷ tail) → at % 2 ≡ 0 → at + (instruction_of (w ∷ tail)).length ≤ 4194304
+pub main_round_trip : (w : ℕ) (tail : List ℕ) (at : ℕ) → w < 65536 → IsInstruction (nested w) → AreWords (w ∷ tail) → at % 2 ≡ 0 → at + (instruction_of (w ∷ tail)).length ≤ image_limit
     → (image : List ℕ) × (lines : List Placed) × (assembly (main_source at (text_of (instruction_of (w ∷ tail)) at)) ≡ Done image lines)
     × (instruction_of (words_from image at) ≡ instruction_of (w ∷ tail))
 main_round_trip w tail at below entered all even room =
@@ -313,7 +313,7 @@ main_round_trip w tail at below entered all even room =
     let k = known w tail at main in
     let line = op_line (instruction_of (w ∷ tail)).op at k.name in
     let long = own.long in
-    let within : at + length (in_bytes own.words) ≤ 4194304 = omega (arith, long, room) in
+    let within : at + length (in_bytes own.words) ≤ image_limit = omega (arith, long, room) in
     let up = filled_up own.words own.short in (
       take at blank ++ in_bytes own.words,
       record { place = at; address = at; z80 = false } ∷ [],

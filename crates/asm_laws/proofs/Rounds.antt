@@ -14,7 +14,7 @@ use Rattle.md_asm.specs.Codes.{code}
 use Rattle.md_asm.specs.Contents.{Good, misfits, settled_line}
 use Rattle.md_asm.specs.Numbers.{Names, filled, has_name, resolved}
 use Rattle.md_asm.specs.Assembly.{Done, assembly, places_of, second}
-use Rattle.md_asm.specs.Places.{any_written, blank, put}
+use Rattle.md_asm.specs.Places.{any_written, blank, image_limit, put}
 use Rattle.md_asm.proofs.Slots.{resolved_plain}
 use Rattle.md_asm.specs.Rounds.{On, behind, line_step, round_one, round_two, start}
 use Rattle.asm_laws.specs.Sources.{main_source, sub_source}
@@ -119,17 +119,17 @@ max_zero n = omega arith
 max_both : (n : ℕ) → max 0 (0 + n) ≡ n
 max_both n = omega arith
 
-pub small : (at long : ℕ) → at + long ≤ 4194304 → nat_lt 4194304 (at + long) ≡ false
-small at long h = cases (nat_lt 4194304 (at + long)) refl
+pub small : (at long : ℕ) → at + long ≤ image_limit → nat_lt image_limit (at + long) ≡ false
+small at long h = cases (nat_lt image_limit (at + long)) refl
   where
-    cases : (b : Bool) → nat_lt 4194304 (at + long) ≡ b → b ≡ false
+    cases : (b : Bool) → nat_lt image_limit (at + long) ≡ b → b ≡ false
     cases true is = absurd (grind (arith, nat_tests))
     cases false is = refl
 
 pub even : (at : ℕ) → at % 2 ≡ 0 → (at % 2 == 1) ≡ false
 even at h = rw h refl
 
-main_step : (first text : List ℕ) (at : ℕ) (bytes : List ℕ) → IsCoded false (pieces.pieces text) at bytes → at % 2 ≡ 0 → at + length bytes ≤ 4194304
+main_step : (first text : List ℕ) (at : ℕ) (bytes : List ℕ) → IsCoded false (pieces.pieces text) at bytes → at % 2 ≡ 0 → at + length bytes ≤ image_limit
     → line_step (behind start 1 (plain_line first (bodies.Org at)) 0) 2 (instruction_line text) ≡ On (behind (behind start 1 (plain_line first (bodies.Org at)) 0) 2 (instruction_line text) (length bytes))
 main_step first text at bytes coded e h =
     rw (coded.sized, coded.long, coded.fits, even at e, none_written (length bytes) at, small at (length bytes) h) refl
@@ -156,7 +156,7 @@ settled sub names said at bytes coded =
 -- ---- the source
 
 pub main_done : (text : List ℕ) (at : ℕ) (bytes : List ℕ) → IsText text → line_of text ≡ instruction_line text → IsCoded false (pieces.pieces text) at bytes
-    → at % 2 ≡ 0 → at + length bytes ≤ 4194304
+    → at % 2 ≡ 0 → at + length bytes ≤ image_limit
     → assembly (main_source at text) ≡ Done (take (at + length bytes) (put blank at bytes)) (record { place = at; address = at; z80 = false } ∷ [])
 unfolding assembly round_one round_two places_of
 main_done text at bytes is line coded e h =

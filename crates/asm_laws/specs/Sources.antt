@@ -9,6 +9,7 @@ use Rattle.asm_m68k.specs.Table.{AreWords}
 use Rattle.asm_z80.specs.Coded80.{AreBytes}
 use Rattle.asm_z80.specs.Instruction.{is_db}
 use Rattle.md_asm.specs.Assembly.{AssemblyOutcome, Done, Failed}
+use Rattle.md_asm.specs.Places.{image_limit}
 use Rattle.asm_laws.specs.Places.{bytes_from, words_from}
 
 -- for the 68000: `org` with the address, and the text on a line of its own
@@ -25,7 +26,7 @@ pub record IsMainSource (source : List ℕ) (word : ℕ) (tail : List ℕ) (at :
   pub first : word < 65536
   pub words : AreWords (word ∷ tail)
   pub even : at % 2 ≡ 0
-  pub room : at + (main.instruction_of (word ∷ tail)).length ≤ 4194304
+  pub room : at + (main.instruction_of (word ∷ tail)).length ≤ image_limit
   pub text : source ≡ main_source at (main_texts.text_of (main.instruction_of (word ∷ tail)) at)
 
 -- or of what bytes of the Z80 decode to that is no directive, at an address

@@ -11,6 +11,7 @@ ghost use Rattle.asm_z80.specs.Coded80.{AreBytes};
 ghost use Rattle.asm_z80.specs.Instruction.{is_db};
 ghost use Rattle.md_asm_text.specs.declared.body.Body.TheVariants.{Instruction};
 ghost use Rattle.md_asm.specs.Contents.{misfit, size};
+ghost use Rattle.md_asm.specs.Places.{image_limit};
 ghost use Rattle.md_asm.specs.Assembly.{AssemblyOutcome, Done, Failed, assembly};
 ghost use Rattle.md_asm.specs.declared.placed.Placed.{Placed};
 ghost use Rattle.asm_laws.specs.Places.{bytes_from, words_from};
@@ -26,7 +27,7 @@ use crate::assemblies::{image_says_its_lines, known_bytes};
 /// has an image, and what is there decodes to it. For the 68000 the address is even, and its bytes stay below 400000h.
 pub fn sources_are_assembled()
     ensures main { (word : ℕ) (tail : List ℕ) (at : ℕ) → word < 65536 → AreWords (word ∷ tail) → at % 2 ≡ 0
-        → at + (main.instruction_of (word ∷ tail)).length ≤ 4194304
+        → at + (main.instruction_of (word ∷ tail)).length ≤ image_limit
         → (image : List ℕ) × (lines : List Placed) × (assembly (main_source at (main_texts.text_of (main.instruction_of (word ∷ tail)) at)) ≡ Done image lines)
         × (main.instruction_of (words_from image at) ≡ main.instruction_of (word ∷ tail)) }
     ensures sub { (bytes : List ℕ) (at : ℕ) → AreBytes bytes → at < 65536 → is_db (sub.instruction_of bytes).op ≡ false

@@ -11,7 +11,7 @@ use Rattle.md_asm.specs.declared.placed.Placed.{Placed}
 use Rattle.asm_laws.specs.Lines.{SaysLines}
 use Rattle.asm_laws.specs.Fitting.{FitsLines}
 use Rattle.asm_laws.specs.Sources.{KeepsInstruction}
-use Rattle.file_commands.specs.Assemblies.{HoldsParts, IsFound, KeepsSource, LeavesEmpty, LeavesFiles, LeavesParts, SaysSource, WriteCause, WritesFiles, with_both, with_list}
+use Rattle.file_commands.specs.Assemblies.{HoldsParts, IsFound, KeepsSource, LeavesEmpty, LeavesFiles, LeavesParts, SaysSource, WriteCause, WritesFiles, limit, with_both, with_list}
 use Rattle.file_commands.specs.Begun.{IsBegun, with_more}
 use Rattle.file_commands.specs.Lists.{list_of}
 use Rattle.file_commands.specs.declared.comes.Comes.{Comes}
@@ -129,7 +129,7 @@ line_more old place text behind first second new is is' is'' =
 
 -- the source that was fetched is assembled so
 pub found_in : (files : Files) (words : Assembling) (items bytes image : List ℕ) (lines : List Placed) → files words.source ≡ Some items
-    → length items ≤ 1048576 → bytes ≡ items → assembly bytes ≡ Done image lines → IsFound (files words.source) (Done image lines)
+    → length items ≤ limit → bytes ≡ items → assembly bytes ≡ Done image lines → IsFound (files words.source) (Done image lines)
 found_in files words items bytes image lines held within is done =
     subst (λ (source : Option (List ℕ)). IsFound source (Done image lines)) (sym held) (within, ap assembly (sym is) ∙ done)
 

@@ -15,7 +15,7 @@ use Rattle.file_commands.specs.declared.comes.Comes.TheVariants.{Made, Unread, T
 
 -- the greatest length of a source
 abbrev pub limit : ℕ
-limit = 1048576
+limit = assembly.source_limit
 
 -- a source that is held, within its limit, is assembled to this
 abbrev pub IsFound : Option (List ℕ) → AssemblyOutcome → Type 0

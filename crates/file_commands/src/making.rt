@@ -1,7 +1,7 @@
 ghost use Rattle.std.specs.Prelude.{◌≡◌, ◌≤◌, ◌⊎◌, ℕ, List, IfErr, IfOk, length};
 ghost use Rattle.md_vgm.specs.Outcomes.{Failed as NotMade, Made as Bytes};
 ghost use Rattle.md_args.specs.Shown.{shown_conversion};
-ghost use Rattle.file_commands.specs.Conversions.{IsOutcome, IsPlayableIn};
+ghost use Rattle.file_commands.specs.Conversions.{IsOutcome, IsPlayableIn, limit};
 
 use md_args::{ConvertWords, Product};
 use md_vgm::{VgmFault, from_journal, play};
@@ -14,7 +14,7 @@ pub(crate) fn make(
     words: &ConvertWords<'_>,
     bytes: &[u8],
 ) -> Result<Vec<u8>, VgmFault>
-    requires { length bytes.now ≤ 67108864 }
+    requires { length bytes.now ≤ limit }
     ensures made { IfOk result (λ made. IsOutcome (shown_conversion words.now) bytes.now (Bytes made.items)) }
     ensures fault { IfErr result (λ fault. IsOutcome (shown_conversion words.now) bytes.now (NotMade fault)
         ⊎ ((fault ≡ VgmFault.NoMemory) × ((made : List ℕ) × IsOutcome (shown_conversion words.now) bytes.now (Bytes made)))) }

@@ -40,6 +40,10 @@ unfoldable pub places_of : List Slot → List Placed
 places_of [] = []
 places_of (slot ∷ more) = if is_instruction slot.body then placed_slot slot ∷ places_of more else places_of more
 
+-- the greatest length of a source that is assembled, in bytes
+abbrev pub source_limit : ℕ
+source_limit = 1048576
+
 -- an image and where its instructions are, or the first line that is at fault and its least kind
 pub data AssemblyOutcome : Type 0 where
   Done : List ℕ → List Placed → AssemblyOutcome

@@ -41,7 +41,7 @@ fn start<'a>(alloc: Global) -> Result<Pass<'a>, NoMemory>
 #[tactic(auto, unfolding(crate::specs::Rounds::round_one))]
 fn read_lines<'a>(alloc: Global, pass: &mut Pass<'a>, source: &'a [u8]) -> Result<(), AsmFault>
     requires pass { IsPass pass.old }
-    requires short { length source.now ≤ 1048576 }
+    requires short { length source.now ≤ meaning.source_limit }
     ensures read { OnOk result (rounds.round_one (round_seen pass.old) 1 (lines_of source.now) ≡ rounds.Read (round_seen pass.new)) }
     ensures refused { IfErr result (λ fault. IsRefused fault (rounds.round_one (round_seen pass.old) 1 (lines_of source.now))) }
     ensures pass { OnOk result (IsPass pass.new) }
@@ -131,7 +131,7 @@ fn places_of(alloc: Global, entries: &[Entry<'_>]) -> Result<Vec<Placed>, NoMemo
 /// it. It fails at the first line that is at fault, with the least kind of its faults, or where memory runs out.
 #[tactic(auto, unfolding(crate::specs::Assembly::assembly))]
 pub fn assemble(alloc: Global, source: &[u8]) -> Result<Assembled, AsmFault>
-    requires { length source.now ≤ 1048576 }
+    requires { length source.now ≤ meaning.source_limit }
     ensures done { IfOk result (λ done. meaning.assembly source.now ≡ meaning.Done (image_seen done) (lines_seen done)) }
     ensures fault { IfErr result (λ fault. IsFault fault (meaning.assembly source.now)) }
 {

@@ -27,7 +27,7 @@ impl Cells {
     /// No place is written. It fails where memory runs out.
     pub(crate) fn new(alloc: Global) -> Result<Self, NoMemory>
         ensures seen { IfOk result (λ cells. cells_seen cells ≡ (λ _. false)) }
-        ensures long { IfOk result (λ cells. vec_len cells.marks ≡ 4194304) }
+        ensures long { IfOk result (λ cells. vec_len cells.marks ≡ places.image_limit) }
     {
         let marks = unwritten(alloc, PLACES)?;
         Ok(Cells { marks })
@@ -35,7 +35,7 @@ impl Cells {
 
     /// Whether one of so many places was written.
     pub(crate) fn any(&self, place: u32, long: usize) -> bool
-        requires { vec_len self.now.marks ≡ 4194304 }
+        requires { vec_len self.now.marks ≡ places.image_limit }
         ensures { result ≡ places.any_written (cells_seen self.now) place long }
     {
         let mut at = place as usize;
@@ -52,10 +52,10 @@ impl Cells {
 
     /// Marks so many places as written.
     pub(crate) fn mark(&mut self, place: u32, long: usize)
-        requires whole { vec_len self.old.marks ≡ 4194304 }
-        requires within { place + long ≤ 4194304 }
+        requires whole { vec_len self.old.marks ≡ places.image_limit }
+        requires within { place + long ≤ places.image_limit }
         ensures seen { cells_seen self.new ≡ places.with_written (cells_seen self.old) place long }
-        ensures whole { vec_len self.new.marks ≡ 4194304 }
+        ensures whole { vec_len self.new.marks ≡ places.image_limit }
     {
         let start = place as usize;
         for k in start..start + long {

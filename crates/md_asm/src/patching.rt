@@ -67,7 +67,7 @@ pub(crate) fn patch<'a>(
     memory: &mut [u8],
 ) -> Result<Option<Kind>, NoMemory>
     requires kept { IsKept entry.now }
-    requires whole { length memory.old ≡ 4194304 }
+    requires whole { length memory.old ≡ places.image_limit }
     ensures { IfOk result (λ fault. patched_seen fault memory.new ≡ rounds.with_slot (names_seen names.now) memory.old (slot_seen entry.now)) }
 {
     if let Some(bytes) = &entry.bytes {

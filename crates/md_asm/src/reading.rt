@@ -59,7 +59,7 @@ fn is_too_large(place: u32, long: usize) -> bool
 
 /// The place after a line.
 fn place_behind(place: u32, body: Body, long: usize) -> u32
-    requires { rounds.has_bytes body ≡ true → place + long ≤ 4194304 }
+    requires { rounds.has_bytes body ≡ true → place + long ≤ places.image_limit }
     ensures { result ≡ rounds.place_behind place body long }
 {
     match body {
@@ -111,7 +111,7 @@ impl<'a> Pass<'a> {
         line: &Line<'a>,
         long: usize,
     ) -> Result<Option<Kind>, NoMemory>
-        requires whole { vec_len self.now.cells.marks ≡ 4194304 }
+        requires whole { vec_len self.now.cells.marks ≡ places.image_limit }
         requires pieces { map shown line.now.pieces.items ≡ texts.pieces line.now.text.now }
         ensures { IfOk result (λ fault. fault ≡ rounds.fault_of (round_seen self.now) (line_seen line.now) long) }
     {
@@ -144,7 +144,7 @@ impl<'a> Pass<'a> {
     ) -> Result<(), NoMemory>
         requires pass { IsPass self.old }
         requires pieces { map shown line.now.pieces.items ≡ texts.pieces line.now.text.now }
-        requires within { self.old.place + long ≤ 4194304 }
+        requires within { self.old.place + long ≤ places.image_limit }
         ensures seen { OnOk result (round_seen self.new ≡ rounds.kept (round_seen self.old) number (line_seen line.now) long) }
         ensures pass { OnOk result (IsPass self.new) }
     {
@@ -189,7 +189,7 @@ impl<'a> Pass<'a> {
     ) -> Result<(), NoMemory>
         requires pass { IsPass self.old }
         requires pieces { map shown line.now.pieces.items ≡ texts.pieces line.now.text.now }
-        requires within { rounds.has_bytes line.now.body ≡ true → self.old.place + long ≤ 4194304 }
+        requires within { rounds.has_bytes line.now.body ≡ true → self.old.place + long ≤ places.image_limit }
         ensures seen { OnOk result (round_seen self.new ≡ rounds.behind (round_seen self.old) number (line_seen line.now) long) }
         ensures pass { OnOk result (IsPass self.new) }
     {
