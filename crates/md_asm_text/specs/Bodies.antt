@@ -1,6 +1,7 @@
 -- What the tokens of a line are: a directive, or else what has to be an instruction.
 use Rattle.std.specs.Prelude.{ℕ, Bool, true, false, ◌&&◌, ◌==◌, if◌then◌else◌, List, [], ◌∷◌, codes}
 use Rattle.std.specs.Str.{bytes_eq}
+use Rattle.md_asm_text.specs.Operands.{is_comma}
 use Rattle.md_asm_text.specs.Pieces as pieces
 use Rattle.md_asm_text.specs.Pieces.{Piece}
 use Rattle.md_asm_text.specs.declared.body.Body.{Body}
@@ -31,10 +32,6 @@ abbrev pub is_value : Piece → Bool
 is_value (pieces.Number n) = true
 is_value (pieces.Name name) = true
 is_value piece = false
-
-abbrev pub is_comma : Piece → Bool
-is_comma (pieces.Mark c) = c == 44
-is_comma piece = false
 
 -- numbers and names with commas between, one at least
 unfoldable pub are_values : List Piece → Bool

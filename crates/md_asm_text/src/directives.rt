@@ -4,6 +4,7 @@ ghost use Rattle.md_asm_text.specs.Bodies as bodies;
 
 use crate::Piece;
 use crate::body::Body;
+use crate::operands::is_comma;
 
 /// The tokens after a space, or none where there is no space.
 fn spaced<'a, 'b>(pieces: &'b [Piece<'a>]) -> &'b [Piece<'a>]
@@ -51,15 +52,6 @@ fn is_value(piece: &Piece<'_>) -> bool
 {
     match piece {
         Piece::Number(_) | Piece::Name(_) => true,
-        _ => false,
-    }
-}
-
-fn is_comma(piece: &Piece<'_>) -> bool
-    ensures { result ≡ bodies.is_comma (shown piece.now) }
-{
-    match piece {
-        Piece::Mark(c) => *c == 44,
         _ => false,
     }
 }

@@ -15,7 +15,8 @@ fn opens(inside: bool, piece: &Piece<'_>) -> bool
     }
 }
 
-fn is_comma(piece: &Piece<'_>) -> bool
+/// Whether a token is a comma.
+pub(crate) fn is_comma(piece: &Piece<'_>) -> bool
     ensures { result ≡ meaning.is_comma (shown piece.now) }
 {
     match piece {
