@@ -56,6 +56,12 @@ fits place long room Unknown h own = tt
 fits place long room Unfit h own = tt
 fits place long room Far h own = tt
 
+-- so they have room where the line has
+pub settled_fits : (sub : Bool) (body : Body) (long : ℕ) (said : List Piece) (at place room : ℕ) → place + long ≤ room
+    → FitsAt (settled_line sub body long said at) place room
+settled_fits sub body long said at place room h =
+    fits place long room (settled_line sub body long said at) h (λ bytes is. settled_long sub body long said at bytes is)
+
 pub settles_long : (sub : Bool) (body : Body) (long : ℕ) (said : List Piece) (at : ℕ) (bytes : List ℕ) → SettlesOn sub body long said at bytes
     → length bytes ≡ long
 settles_long sub body long said at bytes settles = settled_long sub body long (resolved (λ name. None) said) at bytes (settles (λ name. None))

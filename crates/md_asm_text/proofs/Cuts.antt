@@ -1,6 +1,8 @@
--- The first line of a text, and what follows it.
-use Rattle.std.proofs.Common.{◌≡◌, ℕ, ◌<◌, ◌≤◌, Bool, true, false, List, [], ◌∷◌, ◌==◌, length, refl, ap, arith, if◌then◌else◌}
-use Rattle.md_asm_text.specs.Texts.{before, behind, lines, with_character}
+-- The first line of a text, and the blank at its end.
+use Rattle.std.proofs.Common.{◌≡◌, ℕ, ◌-◌, ◌<◌, ◌≤◌, Bool, true, false, List, [], ◌∷◌, ◌++◌, ◌==◌, length, take, get_or, reverse, refl, ap, ◌∙◌, sym, arith, if◌then◌else◌}
+use Rattle.std.proofs.lemmas.Grind.{common_steps}
+use Rattle.std.proofs.lemmas.List.{reverse-append, reverse-reverse}
+use Rattle.md_asm_text.specs.Texts.{before, behind, cut_back, is_blank, lines, unblanked, with_character}
 
 -- a text that is not empty is its first line, and the lines after it
 pub first_line : (c : ℕ) (cs : List ℕ) → lines (c ∷ cs) ≡ before 10 (c ∷ cs) ∷ lines (behind 10 (c ∷ cs))
@@ -17,6 +19,31 @@ first_line c (d ∷ ds) = told (c == 10) (first_line d ds)
         ≡ (if b then [] else c ∷ before 10 (d ∷ ds)) ∷ lines (if b then d ∷ ds else behind 10 (d ∷ ds))
     told true more = refl
     told false more = ap (with_character c) more
+
+-- ---- blanks at the end
+
+-- a text that is not empty, and its last character
+pub last_split : (xs : List ℕ) → 0 < length xs → xs ≡ take (length xs - 1) xs ++ get_or xs (length xs - 1) 0 ∷ []
+last_split xs some = grind (arith, common_steps)
+
+turned : (front : List ℕ) (c : ℕ) → reverse (front ++ c ∷ []) ≡ c ∷ reverse front
+turned front c = reverse-append front (c ∷ [])
+
+back_blank : (front : List ℕ) (c : ℕ) → is_blank c ≡ true → cut_back (front ++ c ∷ []) ≡ cut_back front
+unfolding unblanked
+back_blank front c is = rw (turned front c, is) refl
+
+back_other : (front : List ℕ) (c : ℕ) → is_blank c ≡ false → cut_back (front ++ c ∷ []) ≡ front ++ c ∷ []
+unfolding unblanked
+back_other front c is = rw (turned front c, is, sym (turned front c)) (reverse-reverse (front ++ c ∷ []))
+
+pub cut_blank : (xs : List ℕ) → 0 < length xs → is_blank (get_or xs (length xs - 1) 0) ≡ true → cut_back (take (length xs - 1) xs) ≡ cut_back xs
+cut_blank xs some is =
+    sym (ap cut_back (last_split xs some) ∙ back_blank (take (length xs - 1) xs) (get_or xs (length xs - 1) 0) is)
+
+pub cut_other : (xs : List ℕ) → 0 < length xs → is_blank (get_or xs (length xs - 1) 0) ≡ false → xs ≡ cut_back xs
+cut_other xs some is =
+    last_split xs some ∙ sym (ap cut_back (last_split xs some) ∙ back_other (take (length xs - 1) xs) (get_or xs (length xs - 1) 0) is)
 
 behind_within : (text : List ℕ) → length (behind 10 text) ≤ length text
 unfolding behind
