@@ -190,20 +190,21 @@ impl Coded {
     }
 }
 
-/// `disassemble PROCESSOR ADDRESS VALUES`
+/// `disassemble PROCESSOR ADDRESS VALUES`. It fails where the question has another form, or where memory runs out.
 pub fn disassembled(alloc: Global, rest: &str) -> Result<String, RowError> {
     let (mut coded, values) = begun(rest)?;
     coded.take(values)?;
     Ok(coded.text_told(alloc)?)
 }
 
-/// `assemble PROCESSOR ADDRESS TEXT`
+/// `assemble PROCESSOR ADDRESS TEXT`. It fails where the question has another form, or where memory runs out.
 pub fn encoded(alloc: Global, rest: &str) -> Result<String, RowError> {
     let (coded, text) = begun(rest)?;
     Ok(coded.read_told(alloc, text)?)
 }
 
-/// `PROCESSOR ADDRESS VALUES`: their text, where the text that is wanted is read as these.
+/// `PROCESSOR ADDRESS VALUES`: their text, where the text that is wanted is read as these. It fails where the question has
+/// another form, or where memory runs out.
 pub fn both(alloc: Global, asked: &str, wanted: &str) -> Result<String, RowError> {
     let (mut coded, values) = begun(asked)?;
     let read = coded.read_told(alloc, wanted)?;

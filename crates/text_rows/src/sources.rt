@@ -49,7 +49,7 @@ pub fn assembled_bytes(
     }
 }
 
-/// The same of a source of one line.
+/// The same of a source of one line: `None`, or the line at fault and the kind. It fails likewise.
 pub fn assembled(
     alloc: Global,
     text: &str,
