@@ -17,9 +17,9 @@ use Rattle.md_asm.specs.Codes.{code}
 use Rattle.md_asm.specs.Contents.{misfit, misfits, size, under}
 use Rattle.md_asm.specs.Numbers.{filled}
 use Rattle.asm_laws.specs.Forms.{HasNumber, IsForm}
-use Rattle.asm_laws.proofs.Rounds.{IsCoded}
-use Rattle.asm_laws.proofs.RoundTrip68.{main_coded}
-use Rattle.asm_laws.proofs.RoundTrip80.{sub_coded}
+use Rattle.asm_laws.proofs.Coded68.{main_coded}
+use Rattle.asm_laws.proofs.Coded80.{sub_coded}
+use Rattle.asm_laws.proofs.Coded.{IsCoded}
 
 or_left : (a b : Bool) → (a || b) ≡ false → a ≡ false
 or_left true b h = cc

@@ -21,10 +21,10 @@ use Rattle.asm_laws.specs.Forms.{HasNumber, IsForm, IsMainForm, IsSubForm, Stand
 use Rattle.asm_laws.proofs.Among.{not_false}
 use Rattle.asm_laws.proofs.Fits.{alone_is, filled_both, filled_long}
 use Rattle.asm_laws.proofs.Places80.{none_byte}
-use Rattle.asm_laws.proofs.RoundTrip68.{in_bytes_long}
 use Rattle.asm_laws.proofs.Sound68.{AreLongs}
 use Rattle.asm_laws.proofs.Tried68.{tried_words}
 use Rattle.asm_laws.proofs.Tried80.{tried_bytes}
+use Rattle.asm_laws.proofs.Coded68.{in_bytes_long}
 
 -- ---- tokens with 8 for their numbers
 

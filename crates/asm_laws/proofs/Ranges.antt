@@ -24,13 +24,13 @@ use Rattle.asm_laws.proofs.Fill80 as fill
 use Rattle.asm_laws.proofs.Fits.{filled_both}
 use Rattle.asm_laws.proofs.Operands68.{led_with}
 use Rattle.asm_laws.proofs.Operands80.{first_allows, row_put, second_allows}
-use Rattle.asm_laws.proofs.RoundTrip68 as main_trip
-use Rattle.asm_laws.proofs.RoundTrip68.{AreMain}
-use Rattle.asm_laws.proofs.RoundTrip80 as sub_trip
+use Rattle.asm_laws.proofs.Coded68 as main_trip
+use Rattle.asm_laws.proofs.Coded80 as sub_trip
 use Rattle.asm_laws.proofs.Rows68 as main_kept
 use Rattle.asm_laws.proofs.Rows80 as sub_kept
 use Rattle.asm_laws.proofs.With68 as main_with
 use Rattle.asm_laws.proofs.With80 as sub_with
+use Rattle.asm_laws.proofs.Coded68.{AreMain}
 
 -- ---- the Z80
 

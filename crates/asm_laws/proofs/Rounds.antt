@@ -1,18 +1,17 @@
 -- The two rounds on a source of one instruction.
-use Rattle.std.proofs.Common.{◌≡◌, ℕ, zero, suc, ◌+◌, ◌-◌, ◌%◌, ◌<◌, ◌≤◌, Bool, true, false, ◌==◌, List, [], ◌∷◌, ◌++◌, nat_lt, nat_le, length, take, max, append-nil, refl, ap, ◌∙◌, sym, arith, codes, Some, None}
+use Rattle.std.proofs.Common.{◌≡◌, ℕ, zero, suc, ◌+◌, ◌-◌, ◌%◌, ◌<◌, ◌≤◌, Bool, true, false, ◌==◌, List, [], ◌∷◌, ◌++◌, nat_lt, nat_le, length, take, max, append-nil, refl, ap, ◌∙◌, sym, arith, codes, None}
 use Rattle.std.proofs.lemmas.Bool.Decides.{nat_tests}
 use Rattle.md_disasm.specs.Digits.{eight_digits, four_digits, marked_long, marked_word}
 use Rattle.md_asm_text.specs.Pieces as pieces
-use Rattle.md_asm_text.specs.Pieces.{Piece, every, is_name, is_worded, opened, split}
+use Rattle.md_asm_text.specs.Pieces.{Piece, is_name, is_worded, opened, split}
 use Rattle.md_asm_text.proofs.Splits.{mark_split, name_opens, number_4, number_8, word_split}
 use Rattle.md_asm_text.specs.Bodies.{told}
 use Rattle.md_asm_text.specs.Lines.{Line, line_of}
 use Rattle.md_asm_text.specs.Texts.{has, lines}
 use Rattle.md_asm_text.specs.declared.body.Body.{Body}
 use Rattle.md_asm_text.specs.declared.body.Body.TheVariants as bodies
-use Rattle.md_asm.specs.Codes.{code}
-use Rattle.md_asm.specs.Contents.{Good, misfits, settled_line}
-use Rattle.md_asm.specs.Numbers.{Names, filled, has_name, resolved}
+use Rattle.md_asm.specs.Contents.{Good, settled_line}
+use Rattle.md_asm.specs.Numbers.{Names, resolved}
 use Rattle.md_asm.specs.Assembly.{Done, assembly, places_of, second}
 use Rattle.md_asm.specs.Places.{any_written, blank, image_limit, put}
 use Rattle.md_asm.proofs.Slots.{resolved_plain}
@@ -20,6 +19,7 @@ use Rattle.md_asm.specs.Rounds.{On, behind, line_step, round_one, round_two, sta
 use Rattle.asm_laws.specs.Sources.{main_source, sub_source}
 use Rattle.asm_laws.proofs.Line.{instruction_line, line_is}
 use Rattle.asm_laws.proofs.Solid.{IsText, eight_solid, four_solid, has_none, text_more, text_solid}
+use Rattle.asm_laws.proofs.Coded.{IsCoded}
 
 -- ---- the lines of a source
 
@@ -103,15 +103,6 @@ cpu_step text at h =
 pub none_written : (long place : ℕ) → any_written (λ other. false) place long ≡ false
 none_written zero place = refl
 none_written (suc long) place = none_written long (place + 1)
-
--- what the tokens of an instruction result in at an address
-pub record IsCoded (sub : Bool) (said : List Piece) (at : ℕ) (bytes : List ℕ) : Type 0 where
-  pub other : List ℕ
-  pub sized : code sub (filled said) 4 ≡ Some other
-  pub long : length other ≡ length bytes
-  pub fits : misfits sub said 0 said ≡ false
-  pub plain : has_name said ≡ false
-  pub own : code sub said at ≡ Some bytes
 
 pub max_zero : (n : ℕ) → max 0 n ≡ n
 max_zero n = omega arith
