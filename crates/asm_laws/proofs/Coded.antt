@@ -6,10 +6,10 @@ use Rattle.md_asm.specs.Contents.{misfits}
 use Rattle.md_asm.specs.Numbers.{filled, has_name}
 
 -- what the tokens of an instruction result in at an address
-pub record IsCoded (sub : Bool) (said : List Piece) (at : ℕ) (bytes : List ℕ) : Type 0 where
+pub record IsCoded (sub : Bool) (line_tokens : List Piece) (at : ℕ) (bytes : List ℕ) : Type 0 where
   pub other : List ℕ
-  pub sized : code sub (filled said) 4 ≡ Some other
+  pub sized : code sub (filled line_tokens) 4 ≡ Some other
   pub long : length other ≡ length bytes
-  pub fits : misfits sub said 0 said ≡ false
-  pub plain : has_name said ≡ false
-  pub own : code sub said at ≡ Some bytes
+  pub fits : misfits sub line_tokens 0 line_tokens ≡ false
+  pub plain : has_name line_tokens ≡ false
+  pub own : code sub line_tokens at ≡ Some bytes

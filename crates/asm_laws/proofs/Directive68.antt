@@ -14,7 +14,7 @@ use Rattle.md_disasm.specs.declared.operand68.Operand68.TheVariants as operands
 use Rattle.md_asm_text.specs.Pieces as pieces
 use Rattle.md_asm_text.specs.Pieces.{Piece, is_name, is_worded, opened, split}
 use Rattle.md_asm_text.proofs.Splits.{mark_split, name_opens, number_4, word_split}
-use Rattle.md_asm_text.specs.Bodies.{are_values, told}
+use Rattle.md_asm_text.specs.Bodies.{are_values, directive_of}
 use Rattle.md_asm_text.specs.Lines.{line_of}
 use Rattle.md_asm_text.specs.declared.body.Body.TheVariants as bodies
 use Rattle.asm_m68k.specs.Table.{AreWords, IsInstruction}
@@ -40,8 +40,8 @@ word_row w = one (codes "dc.w") (operands.Opcode w)
 abbrev word_text : ℕ → List ℕ
 word_text w = row_text (word_row w)
 
-abbrev said : ℕ → List Piece
-said w = pieces.Word (codes "dc") ∷ pieces.Mark 46 ∷ pieces.Word (codes "w") ∷ pieces.Mark 32 ∷ pieces.Number w ∷ []
+abbrev line_tokens : ℕ → List Piece
+line_tokens w = pieces.Word (codes "dc") ∷ pieces.Mark 46 ∷ pieces.Word (codes "w") ∷ pieces.Mark 32 ∷ pieces.Number w ∷ []
 
 -- ---- the line
 
@@ -52,8 +52,8 @@ text_shape : (w : ℕ) → word_text w ≡ codes "dc" ++ (46 ∷ 119 ∷ 32 ∷ 
 unfolding marked_word
 text_shape w = append-nil _
 
-word_pieces : (w : ℕ) → w < 65536 → pieces.pieces (word_text w) ≡ said w
-unfolding is_worded pieces.told is_name split
+word_pieces : (w : ℕ) → w < 65536 → pieces.pieces (word_text w) ≡ line_tokens w
+unfolding is_worded pieces.token_of is_name split
 word_pieces w h =
     ap (opened []) (text_shape w)
     ∙ name_opens (codes "dc") (46 ∷ 119 ∷ 32 ∷ 36 ∷ (four_digits w ++ [])) refl refl
@@ -63,8 +63,8 @@ word_pieces w h =
     ∙ ap (λ (l : List Piece). pieces.Mark 32 ∷ l) (number_4 w [] h refl))))
 
 word_line : (w : ℕ) → w < 65536 → line_of (word_text w) ≡ plain_line (word_text w) bodies.Words
-unfolding told are_values
-word_line w h = line_is (word_text w) bodies.Words (word_is_text w) (ap told (word_pieces w h))
+unfolding directive_of are_values
+word_line w h = line_is (word_text w) bodies.Words (word_is_text w) (ap directive_of (word_pieces w h))
 
 -- ---- the rounds
 
@@ -75,12 +75,12 @@ fits w h = cases (nat_le 65536 w) refl
     cases true is = absurd (grind (arith, nat_tests))
     cases false is = refl
 
-word_step : (first text : List ℕ) (at w : ℕ) → pieces.pieces text ≡ said w → w < 65536 → at % 2 ≡ 0 → at + 2 ≤ image_limit
+word_step : (first text : List ℕ) (at w : ℕ) → pieces.pieces text ≡ line_tokens w → w < 65536 → at % 2 ≡ 0 → at + 2 ≤ image_limit
     → line_step (behind start 1 (plain_line first (bodies.Org at)) 0) 2 (plain_line text bodies.Words) ≡ On (behind (behind start 1 (plain_line first (bodies.Org at)) 0) 2 (plain_line text bodies.Words) 2)
 unfolding count any_over
 word_step first text at w is h e room = rw (is, fits w h, even at e, small at 2 room) refl
 
-settled : (names : Names) (text : List ℕ) (at w : ℕ) → pieces.pieces text ≡ said w → w < 65536
+settled : (names : Names) (text : List ℕ) (at w : ℕ) → pieces.pieces text ≡ line_tokens w → w < 65536
     → settled_line false bodies.Words 2 (resolved names (pieces.pieces text)) at ≡ Good (w / 256 % 256 ∷ w % 256 ∷ [])
 unfolding has_name any_over words_of
 settled names text at w is h = rw (is, fits w h) refl

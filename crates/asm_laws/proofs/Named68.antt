@@ -21,7 +21,7 @@ use Rattle.md_disasm.specs.declared.operand68.Operand68.TheVariants as operands
 use Rattle.md_asm_text.specs.Pieces.{every, is_worded, opened, split}
 use Rattle.md_asm_text.specs.Pieces as pieces
 use Rattle.md_asm_text.proofs.Splits.{every_both, is_end, name_opens}
-use Rattle.md_asm_text.specs.Bodies.{told}
+use Rattle.md_asm_text.specs.Bodies.{directive_of}
 use Rattle.md_asm_text.specs.Lines.{line_of}
 use Rattle.md_asm_text.specs.declared.body.Body.TheVariants as bodies
 use Rattle.asm_laws.proofs.Line.{free, instruction_line, is_free, line_is}
@@ -172,11 +172,11 @@ row_opens row worded =
 
 -- a row is a line of an instruction
 pub row_line : (row : Row68) → is_free row.name ≡ true → is_shaped row.first row.second ≡ true → IsText (row_text row) × (line_of (row_text row) ≡ instruction_line (row_text row))
-unfolding told
+unfolding directive_of
 row_line row h s =
     let own = free row.name h in
     let text = row_is_text row own.solid_too s in
-    (text, line_is (row_text row) bodies.Instruction text (ap told (row_opens row own.worded) ∙ own.body (split [] (size_text row.size ++ (led (codes " ") row.first ++ (led (codes ",") row.second ++ []))))))
+    (text, line_is (row_text row) bodies.Instruction text (ap directive_of (row_opens row own.worded) ∙ own.body (split [] (size_text row.size ++ (led (codes " ") row.first ++ (led (codes ",") row.second ++ []))))))
 
 -- ---- the names of instructions
 

@@ -5,7 +5,7 @@ use Rattle.md_disasm.specs.Digits.{eight_digits, four_digits, marked_long, marke
 use Rattle.md_asm_text.specs.Pieces as pieces
 use Rattle.md_asm_text.specs.Pieces.{Piece, is_name, is_worded, opened, split}
 use Rattle.md_asm_text.proofs.Splits.{mark_split, name_opens, number_4, number_8, word_split}
-use Rattle.md_asm_text.specs.Bodies.{told}
+use Rattle.md_asm_text.specs.Bodies.{directive_of}
 use Rattle.md_asm_text.specs.Lines.{Line, line_of}
 use Rattle.md_asm_text.specs.Texts.{has, lines}
 use Rattle.md_asm_text.specs.declared.body.Body.{Body}
@@ -68,7 +68,7 @@ org_pieces at h =
 
 cpu_pieces : (at : ℕ) → at < 65536
     → pieces.pieces (cpu_line at) ≡ pieces.Word (codes "cpu") ∷ pieces.Mark 32 ∷ pieces.Name (codes "z80") ∷ pieces.Mark 32 ∷ pieces.Number at ∷ []
-unfolding marked_word is_worded is_name pieces.told split
+unfolding marked_word is_worded is_name pieces.token_of split
 cpu_pieces at h =
     ap (opened []) (append-nil (codes "cpu z80 $" ++ four_digits at))
     ∙ name_opens (codes "cpu") (32 ∷ 122 ∷ 56 ∷ 48 ∷ 32 ∷ 36 ∷ four_digits at) refl refl
@@ -81,12 +81,12 @@ abbrev pub plain_line : List ℕ → Body → Line
 plain_line text body = record { label = None; text = text; body = body }
 
 pub org_is : (at : ℕ) → at < 4294967296 → line_of (org_line at) ≡ plain_line (org_line at) (bodies.Org at)
-unfolding told
-org_is at h = line_is (org_line at) (bodies.Org at) (org_text at) (ap told (org_pieces at h))
+unfolding directive_of
+org_is at h = line_is (org_line at) (bodies.Org at) (org_text at) (ap directive_of (org_pieces at h))
 
 cpu_is : (at : ℕ) → at < 65536 → line_of (cpu_line at) ≡ plain_line (cpu_line at) (bodies.Sub at)
-unfolding told
-cpu_is at h = line_is (cpu_line at) (bodies.Sub at) (cpu_text at) (ap told (cpu_pieces at h))
+unfolding directive_of
+cpu_is at h = line_is (cpu_line at) (bodies.Sub at) (cpu_text at) (ap directive_of (cpu_pieces at h))
 
 -- ---- the first line
 
@@ -139,10 +139,10 @@ same_long n = cases (n == n) refl
     cases true is = refl
     cases false is = absurd (grind (arith, nat_tests))
 
-settled : (sub : Bool) (names : Names) (said : List Piece) (at : ℕ) (bytes : List ℕ) → IsCoded sub said at bytes
-    → settled_line sub bodies.Instruction (length bytes) (resolved names said) at ≡ Good bytes
-settled sub names said at bytes coded =
-    rw (resolved_plain names said coded.plain, coded.plain, coded.fits, coded.own, same_long (length bytes)) refl
+settled : (sub : Bool) (names : Names) (line_tokens : List Piece) (at : ℕ) (bytes : List ℕ) → IsCoded sub line_tokens at bytes
+    → settled_line sub bodies.Instruction (length bytes) (resolved names line_tokens) at ≡ Good bytes
+settled sub names line_tokens at bytes coded =
+    rw (resolved_plain names line_tokens coded.plain, coded.plain, coded.fits, coded.own, same_long (length bytes)) refl
 
 -- ---- the source
 

@@ -175,7 +175,7 @@ sized_source stem (pieces.Word word ∷ ps) h = operands_sound stem None (pieces
 sized_source stem (pieces.Number n ∷ ps) h = operands_sound stem None (pieces.Number n ∷ ps) h
 sized_source stem (pieces.Name name ∷ ps) h = operands_sound stem None (pieces.Name name ∷ ps) h
 
-pub read_sound : (said : List Piece) → AreLongs said → IsSource68 (read_source said)
+pub read_sound : (line_tokens : List Piece) → AreLongs line_tokens → IsSource68 (read_source line_tokens)
 unfolding read_source
 read_sound [] h = operands_sound [] None [] tt
 read_sound (pieces.Word stem ∷ ps) h = sized_source stem ps h

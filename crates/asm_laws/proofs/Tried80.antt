@@ -324,8 +324,8 @@ module _ (first second : Form) where
       by false own rest = rest
 
 -- what is tried for tokens
-pub tried_bytes : (said : List Piece) (at : ℕ) → AreBytes (tried said at)
+pub tried_bytes : (line_tokens : List Piece) (at : ℕ) → AreBytes (tried line_tokens at)
 unfolding meant stem_of
-tried_bytes said at =
-    let source = read_source said in
+tried_bytes line_tokens at =
+    let source = read_source line_tokens in
     stem_whole source.first source.second table source.stem at (table_whole source.first source.second at)

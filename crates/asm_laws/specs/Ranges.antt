@@ -89,20 +89,20 @@ sub_operand row place = if nat_lt place (length (pieces (sub_texts.row_text (rec
 -- ---- a line's number
 
 -- an instruction of the 68000 of this form has some number at a place of its text, and there this one is allowed too
-pub record IsMainRange (said : List Piece) (place n word : ℕ) (tail : List ℕ) (at : ℕ) : Type 0 where
-  pub form : IsMainForm said word tail at
+pub record IsMainRange (line_tokens : List Piece) (place n word : ℕ) (tail : List ℕ) (at : ℕ) : Type 0 where
+  pub form : IsMainForm line_tokens word tail at
   pub own : ℕ
   pub stands : StandsIn (pieces (main_texts.text_of (main.instruction_of (word ∷ tail)) at)) place (Number own)
   pub allowed : main_allows (main.instruction_of (word ∷ tail)).op (main_operand (main_rows.row_of (main.instruction_of (word ∷ tail)).op at) place) n ≡ true
 
 -- one of the Z80 has
-pub record IsSubRange (said : List Piece) (place n : ℕ) (bytes : List ℕ) (at : ℕ) : Type 0 where
-  pub form : IsSubForm said bytes at
+pub record IsSubRange (line_tokens : List Piece) (place n : ℕ) (bytes : List ℕ) (at : ℕ) : Type 0 where
+  pub form : IsSubForm line_tokens bytes at
   pub own : ℕ
   pub stands : StandsIn (pieces (sub_texts.text_of (sub.instruction_of bytes) at)) place (Number own)
   pub allowed : sub_allows (sub.instruction_of bytes).op (sub_operand (sub_rows.row_of (sub.instruction_of bytes).op at) place) n ≡ true
 
 -- a number is in the range of its place in a line of the processor
 abbrev pub IsInRange : Bool → List Piece → ℕ → ℕ → Type 0
-IsInRange true said place n = (bytes : List ℕ) × (at : ℕ) × IsSubRange said place n bytes at
-IsInRange false said place n = (word : ℕ) × (tail : List ℕ) × (at : ℕ) × IsMainRange said place n word tail at
+IsInRange true line_tokens place n = (bytes : List ℕ) × (at : ℕ) × IsSubRange line_tokens place n bytes at
+IsInRange false line_tokens place n = (word : ℕ) × (tail : List ℕ) × (at : ℕ) × IsMainRange line_tokens place n word tail at

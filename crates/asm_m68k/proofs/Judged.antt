@@ -37,9 +37,9 @@ tried_again word tail rest at below is all h =
     rw (meant_again word tail at below is all h) (decoded_again word tail rest below)
 
 -- words that say the tokens, and are those that are tried for them, say them whatever follows
-pub said_again : (word : ℕ) (tail more rest : List ℕ) (said : List Piece) (at : ℕ) → word < 65536 → IsInstruction (nested word) → AreWords (word ∷ tail ++ more) → at < 4294967296
-    → word ∷ tail ≡ tried said at → pieces (text_of (instruction_of (word ∷ tail ++ more)) at) ≡ said → instruction_of (word ∷ tail ++ rest) ≡ instruction_of (word ∷ tail ++ more)
-said_again word tail more rest said at below is all h are text =
-    let again : instruction_of (tried said at ++ rest) ≡ instruction_of (word ∷ tail ++ more)
+pub said_again : (word : ℕ) (tail more rest : List ℕ) (line_tokens : List Piece) (at : ℕ) → word < 65536 → IsInstruction (nested word) → AreWords (word ∷ tail ++ more) → at < 4294967296
+    → word ∷ tail ≡ tried line_tokens at → pieces (text_of (instruction_of (word ∷ tail ++ more)) at) ≡ line_tokens → instruction_of (word ∷ tail ++ rest) ≡ instruction_of (word ∷ tail ++ more)
+said_again word tail more rest line_tokens at below is all h are text =
+    let again : instruction_of (tried line_tokens at ++ rest) ≡ instruction_of (word ∷ tail ++ more)
     = rw (sym text) (tried_again word (tail ++ more) rest at below is all h) in
     ap (λ (l : List ℕ). instruction_of (l ++ rest)) are ∙ again

@@ -5,7 +5,7 @@ use Rattle.std.proofs.lemmas.Bool.Decides.{nat_tests}
 use Rattle.md_disasm.specs.Operands68.{is_listed, list_text, register_name, registers}
 use Rattle.md_asm_text.specs.Operands.{operands_of}
 use Rattle.md_asm_text.specs.Pieces as pieces
-use Rattle.md_asm_text.specs.Pieces.{Piece, is_worded, is_name, split, told}
+use Rattle.md_asm_text.specs.Pieces.{Piece, is_worded, is_name, split, token_of}
 use Rattle.md_asm_text.proofs.Splits.{behind, is_end, mark_split, word_split}
 use Rattle.asm_m68k.specs.Reading.{Masks, operand_form, masks_of, with_register, word_form}
 use Rattle.asm_m68k.specs.declared.form.Form.{Form}
@@ -51,7 +51,7 @@ names_split (n ∷ ns) e ends =
     ∙ name_split n (flat_map slashed ns ++ e) (more_end ns e ends) ∙ behind _ _ _ (more_split ns e ends)
 
 list_split_by : (b : Bool) (turned : Bool) (list : ℕ) (e : List ℕ) → (list == 0) ≡ b → is_end e ≡ true → split [] (list_text turned list ++ e) ≡ list_pieces turned list ++ split [] e
-unfolding list_text is_worded told is_name
+unfolding list_text is_worded token_of is_name
 list_split_by true turned list e is ends = rw is (word_split (codes "none") e refl ends)
 list_split_by false turned list e is ends = rw is (names_split (listed turned list) e ends)
 

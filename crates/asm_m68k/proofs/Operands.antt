@@ -10,7 +10,7 @@ use Rattle.md_word.specs.declared.size.Size.TheVariants.{Byte, Word, Long}
 use Rattle.md_disasm.specs.Digits.{one_digit, two_digits, four_digits, eight_digits, marked_digit, marked_byte, marked_word, marked_long}
 use Rattle.md_disasm.specs.Operands68.{index_text, mode_text, number_text, register_name}
 use Rattle.md_asm_text.specs.Pieces as pieces
-use Rattle.md_asm_text.specs.Pieces.{Piece, is_worded, is_name, split, told}
+use Rattle.md_asm_text.specs.Pieces.{Piece, is_worded, is_name, split, token_of}
 use Rattle.md_asm_text.proofs.Splits.{is_end, register_split, number_2, number_4, number_8, mark_split, word_split, behind, apart}
 use Rattle.asm_m68k.specs.Reading.{operand_form, register_of, low_register_of, word_form}
 use Rattle.asm_m68k.specs.declared.form.Form.{Form}
@@ -78,7 +78,7 @@ name_split n e ends = name_split_by (nat_lt n 8) n e refl ends
 
 -- an index register with its size
 size_letter : (long : Bool) (e : List ℕ) → split [] (46 ∷ ((if long then codes "l" else codes "w") ++ (41 ∷ e))) ≡ pieces.Mark 46 ∷ pieces.Word (if long then codes "l" else codes "w") ∷ pieces.Mark 41 ∷ split [] e
-unfolding split is_worded told is_name
+unfolding split is_worded token_of is_name
 size_letter true e = refl
 size_letter false e = refl
 
@@ -117,11 +117,11 @@ in_index n index long e ends =
 
 -- PC and a bracket after it
 in_pc : (e : List ℕ) → split [] (40 ∷ 112 ∷ 99 ∷ 41 ∷ e) ≡ pieces.Mark 40 ∷ pieces.Word (codes "pc") ∷ pieces.Mark 41 ∷ split [] e
-unfolding split is_worded told is_name
+unfolding split is_worded token_of is_name
 in_pc e = refl
 
 pc_comma : (l : List ℕ) → split [] (40 ∷ 112 ∷ 99 ∷ 44 ∷ l) ≡ pieces.Mark 40 ∷ pieces.Word (codes "pc") ∷ pieces.Mark 44 ∷ split [] l
-unfolding split is_worded told is_name
+unfolding split is_worded token_of is_name
 pc_comma l = refl
 
 in_pc_index : (index : ℕ) (long : Bool) (e : List ℕ)
@@ -130,11 +130,11 @@ in_pc_index index long e = pc_comma (index_text index long ++ e) ∙ behind _ _ 
 
 -- a size after an address
 short_end : (e : List ℕ) → is_end e ≡ true → split [] (46 ∷ 119 ∷ e) ≡ pieces.Mark 46 ∷ pieces.Word (codes "w") ∷ split [] e
-unfolding is_worded told is_name
+unfolding is_worded token_of is_name
 short_end e ends = mark_split 46 (119 ∷ e) refl ∙ behind _ _ _ (word_split (codes "w") e refl ends)
 
 long_end : (e : List ℕ) → is_end e ≡ true → split [] (46 ∷ 108 ∷ e) ≡ pieces.Mark 46 ∷ pieces.Word (codes "l") ∷ split [] e
-unfolding is_worded told is_name
+unfolding is_worded token_of is_name
 long_end e ends = mark_split 46 (108 ∷ e) refl ∙ behind _ _ _ (word_split (codes "l") e refl ends)
 
 pub mode_split : (size : Size) (mode : Mode) (e : List ℕ) → IsWritten mode → is_end e ≡ true → split [] (mode_text size mode ++ e) ≡ mode_pieces size mode ++ split [] e

@@ -13,7 +13,7 @@ use Rattle.md_disasm.specs.declared.operand68.Operand68.{Operand68}
 use Rattle.md_disasm.specs.declared.operand68.Operand68.TheVariants as operands
 use Rattle.md_asm_text.specs.Operands.{operands_of}
 use Rattle.md_asm_text.specs.Pieces as pieces
-use Rattle.md_asm_text.specs.Pieces.{Piece, every, is_worded, is_name, split, told, opened}
+use Rattle.md_asm_text.specs.Pieces.{Piece, every, is_worded, is_name, split, token_of, opened}
 use Rattle.md_asm_text.proofs.Splits.{is_end, name_opens, register_split, number_1, number_4, number_8, mark_split, word_split, behind, apart}
 use Rattle.asm_m68k.specs.Reading.{Source, operand_form, word_form, read_source, with_operands, with_size}
 use Rattle.asm_m68k.specs.declared.form.Form.{Form}
@@ -56,7 +56,7 @@ IsShown (operands.Registers turned list) = list < 65536
 
 -- a word of letters
 pub operand_split : (o : Operand68) (e : List ℕ) → IsShown o → is_end e ≡ true → split [] (operand_text o ++ e) ≡ operand_pieces o ++ split [] e
-unfolding marked_digit marked_word marked_long is_worded told is_name
+unfolding marked_digit marked_word marked_long is_worded token_of is_name
 operand_split operands.Nothing e h ends = refl
 operand_split (operands.Place size mode) e h ends = mode_split size mode e h.1 ends
 operand_split (operands.Data n) e h ends = ap (split []) (apart (codes "d") (one_digit n) [] e) ∙ register_split 100 n e refl refl ends
@@ -229,7 +229,7 @@ size_pieces (Some Word) = pieces.Mark 46 ∷ pieces.Word (codes "w") ∷ []
 size_pieces (Some Long) = pieces.Mark 46 ∷ pieces.Word (codes "l") ∷ []
 
 size_split : (size : Option Size) (e : List ℕ) → is_end e ≡ true → split [] (size_text size ++ e) ≡ size_pieces size ++ split [] e
-unfolding is_worded told is_name
+unfolding is_worded token_of is_name
 size_split None e ends = refl
 size_split (Some Byte) e ends = mark_split 46 (98 ∷ e) refl ∙ behind _ _ _ (word_split (codes "b") e refl ends)
 size_split (Some Word) e ends = mark_split 46 (119 ∷ e) refl ∙ behind _ _ _ (word_split (codes "w") e refl ends)

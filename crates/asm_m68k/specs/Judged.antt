@@ -7,7 +7,7 @@ use Rattle.asm_m68k.specs.Reading.{read_source}
 
 -- the words of the instruction that is read of tokens
 abbrev pub tried : List Piece → ℕ → List ℕ
-tried said at = encoded (meant (read_source said) at)
+tried line_tokens at = encoded (meant (read_source line_tokens) at)
 
 -- one to five words, with words of 0 after them up to five
 abbrev pub padded : List ℕ → List ℕ

@@ -6,6 +6,6 @@ use Rattle.md_asm_text.specs.Pieces.{Piece, pieces}
 
 -- words say these tokens at an address: whatever follows them they decode to an instruction of their
 -- length whose text has these tokens
-pub record Says (words : List ℕ) (said : List Piece) (at : ℕ) : Type 0 where
-  pub text : (rest : List ℕ) → pieces (text_of (instruction_of (words ++ rest)) at) ≡ said
+pub record Says (words : List ℕ) (line_tokens : List Piece) (at : ℕ) : Type 0 where
+  pub text : (rest : List ℕ) → pieces (text_of (instruction_of (words ++ rest)) at) ≡ line_tokens
   pub whole : (rest : List ℕ) → (instruction_of (words ++ rest)).length ≡ 2 * length words

@@ -46,7 +46,7 @@ fn meant(pieces: &[Piece<'_>], at: u32) -> Op
 /// The round-trip check: whether words decode to an instruction whose text at an address has these tokens. It fails where
 /// memory runs out.
 fn is_said(alloc: Global, words: &[u16], pieces: &[Piece<'_>], at: u32) -> Result<bool, NoMemory>
-    ensures { IfOk result (λ said. IsTrue said ↔ (texts.pieces (text_of (instruction_of (judged.padded words.now)) at) ≡ map shown pieces.now)) }
+    ensures { IfOk result (λ line_tokens. IsTrue line_tokens ↔ (texts.pieces (text_of (instruction_of (judged.padded words.now)) at) ≡ map shown pieces.now)) }
 {
     let decoded = decode(&padded(words));
     let text = text68(alloc, &decoded, at)?;
@@ -62,7 +62,7 @@ pub fn words_of(
     at: u32,
 ) -> Result<Option<ArrayVec<u16, 5>>, NoMemory>
     ensures some { IfOk result (λ found. IfSome found (λ words. words.items ≡ judged.tried (map shown pieces.now) at)) }
-    ensures said { IfOk result (λ found. IfSome found (λ words. texts.pieces (text_of (instruction_of (judged.padded words.items)) at) ≡ map shown pieces.now)) }
+    ensures round_trips { IfOk result (λ found. IfSome found (λ words. texts.pieces (text_of (instruction_of (judged.padded words.items)) at) ≡ map shown pieces.now)) }
     ensures none { IfOk result (λ found. IfNone found (texts.pieces (text_of (instruction_of (judged.padded (judged.tried (map shown pieces.now) at))) at) ≡ map shown pieces.now → ⊥)) }
 {
     let words = encode(&meant(pieces, at));

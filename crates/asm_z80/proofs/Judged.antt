@@ -139,27 +139,27 @@ unfolding nested by_opcode low_group relative_jumps
 zero_is more h = rw (decoded_is_nested (0 ∷ more) (h 0) (h 1) (h 3)) refl
 
 -- what is tried for a directive's text is NOP
-pub tried_zero : (d : Decoded80) (said : List Piece) (at : ℕ) → is_db d.op ≡ true → pieces (text_of d at) ≡ said → tried said at ≡ 0 ∷ []
-tried_zero d said at is text =
+pub tried_zero : (d : Decoded80) (line_tokens : List Piece) (at : ℕ) → is_db d.op ≡ true → pieces (text_of d at) ≡ line_tokens → tried line_tokens at ≡ 0 ∷ []
+tried_zero d line_tokens at is text =
     let name = name_stays d.op at ∙ (bytes_eq-Decides (row_of d.op 0).name (codes "db")).0 is in
     let opens = db_opens (row_of d.op at) name in
     ap (λ (s : List Piece). tried s at) (sym text ∙ opens.1) ∙ tried_db opens.0 at
 
 -- so what is tried and says the tokens is no directive
-pub tried_is : (bytes more : List ℕ) (said : List Piece) (at : ℕ) → AreBytes (bytes ++ more) → bytes ≡ tried said at
-    → pieces (text_of (instruction_of (bytes ++ more)) at) ≡ said → (b : Bool) → is_db (instruction_of (bytes ++ more)).op ≡ b → b ≡ false
-tried_is bytes more said at h are text false is = refl
-tried_is bytes more said at h are text true is =
-    let zero : bytes ≡ 0 ∷ [] = are ∙ tried_zero (instruction_of (bytes ++ more)) said at is text in
+pub tried_is : (bytes more : List ℕ) (line_tokens : List Piece) (at : ℕ) → AreBytes (bytes ++ more) → bytes ≡ tried line_tokens at
+    → pieces (text_of (instruction_of (bytes ++ more)) at) ≡ line_tokens → (b : Bool) → is_db (instruction_of (bytes ++ more)).op ≡ b → b ≡ false
+tried_is bytes more line_tokens at h are text false is = refl
+tried_is bytes more line_tokens at h are text true is =
+    let zero : bytes ≡ 0 ∷ [] = are ∙ tried_zero (instruction_of (bytes ++ more)) line_tokens at is text in
     let all : AreBytes (0 ∷ more) = rw zero at h in
     let here : is_db (instruction_of (0 ∷ more)).op ≡ true = rw zero at is in
     sym here ∙ zero_is more all
 
 -- bytes that say the tokens, and are those that are tried for them, say them whatever follows
-pub said_again : (bytes more rest : List ℕ) (said : List Piece) (at : ℕ) → AreBytes (bytes ++ more) → AreBytes rest → at < 65536
-    → bytes ≡ tried said at → pieces (text_of (instruction_of (bytes ++ more)) at) ≡ said → instruction_of (bytes ++ rest) ≡ instruction_of (bytes ++ more)
-said_again bytes more rest said at h k a are text =
-    let none = tried_is bytes more said at h are text (is_db (instruction_of (bytes ++ more)).op) refl in
-    let again : instruction_of (tried said at ++ rest) ≡ instruction_of (bytes ++ more)
+pub said_again : (bytes more rest : List ℕ) (line_tokens : List Piece) (at : ℕ) → AreBytes (bytes ++ more) → AreBytes rest → at < 65536
+    → bytes ≡ tried line_tokens at → pieces (text_of (instruction_of (bytes ++ more)) at) ≡ line_tokens → instruction_of (bytes ++ rest) ≡ instruction_of (bytes ++ more)
+said_again bytes more rest line_tokens at h k a are text =
+    let none = tried_is bytes more line_tokens at h are text (is_db (instruction_of (bytes ++ more)).op) refl in
+    let again : instruction_of (tried line_tokens at ++ rest) ≡ instruction_of (bytes ++ more)
     = rw (sym text) (tried_again (bytes ++ more) rest at h k a none) in
     ap (λ (l : List ℕ). instruction_of (l ++ rest)) are ∙ again

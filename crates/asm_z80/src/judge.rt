@@ -42,7 +42,7 @@ fn meant(pieces: &[Piece<'_>], at: u16) -> Op80
 /// The round-trip check: whether bytes decode to an instruction whose text at an address has these tokens. It fails where
 /// memory runs out.
 fn is_said(alloc: Global, bytes: &[u8], pieces: &[Piece<'_>], at: u16) -> Result<bool, NoMemory>
-    ensures { IfOk result (λ said. IsTrue said ↔ (texts.pieces (text_of (instruction_of (judged.padded bytes.now)) at) ≡ map shown pieces.now)) }
+    ensures { IfOk result (λ line_tokens. IsTrue line_tokens ↔ (texts.pieces (text_of (instruction_of (judged.padded bytes.now)) at) ≡ map shown pieces.now)) }
 {
     let decoded = decode(&padded(bytes));
     let text = text80(alloc, &decoded, at)?;
@@ -54,7 +54,7 @@ fn is_said(alloc: Global, bytes: &[u8], pieces: &[Piece<'_>], at: u16) -> Result
 /// of no instruction's text there. It fails where memory runs out.
 pub fn bytes_of(alloc: Global, pieces: &[Piece<'_>], at: u16) -> Result<Option<Bytes>, NoMemory>
     ensures some { IfOk result (λ found. IfSome found (λ bytes. bytes.items ≡ judged.tried (map shown pieces.now) at)) }
-    ensures said { IfOk result (λ found. IfSome found (λ bytes. texts.pieces (text_of (instruction_of (judged.padded bytes.items)) at) ≡ map shown pieces.now)) }
+    ensures round_trips { IfOk result (λ found. IfSome found (λ bytes. texts.pieces (text_of (instruction_of (judged.padded bytes.items)) at) ≡ map shown pieces.now)) }
     ensures none { IfOk result (λ found. IfNone found (texts.pieces (text_of (instruction_of (judged.padded (judged.tried (map shown pieces.now) at))) at) ≡ map shown pieces.now → ⊥)) }
 {
     let bytes = encode(&meant(pieces, at));

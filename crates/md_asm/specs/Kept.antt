@@ -10,7 +10,7 @@ use Rattle.md_asm.specs.Places.{image_limit}
 
 -- a line results in these bytes whatever values names have
 abbrev pub SettlesOn : Bool → Body → ℕ → List Piece → ℕ → List ℕ → Type 0
-SettlesOn sub body long said at bytes = (names : Names) → settled_line sub body long (resolved names said) at ≡ Good bytes
+SettlesOn sub body long line_tokens at bytes = (names : Names) → settled_line sub body long (resolved names line_tokens) at ≡ Good bytes
 
 -- it ends below 400000h, has an address of its processor, and the bytes that it has are its own
 pub record IsKept (entry : Entry) : Type 0 where

@@ -18,7 +18,7 @@ resolved_piece names (pieces.Name name) = valued name (names name)
 resolved_piece names piece = piece
 
 abbrev pub resolved : Names → List Piece → List Piece
-resolved names said = map (resolved_piece names) said
+resolved names line_tokens = map (resolved_piece names) line_tokens
 
 abbrev pub is_name : Piece → Bool
 is_name (pieces.Name name) = true
@@ -36,11 +36,11 @@ filled_piece (pieces.Number n) = pieces.Number 8
 filled_piece piece = piece
 
 abbrev pub filled : List Piece → List Piece
-filled said = map filled_piece said
+filled line_tokens = map filled_piece line_tokens
 
 -- 8 for all but the number at one place
 abbrev pub alone : List Piece → ℕ → Piece → List Piece
-alone said i number = slice_set (filled said) i number
+alone line_tokens i number = slice_set (filled line_tokens) i number
 
 -- how many numbers and names there are
 unfoldable pub count : List Piece → ℕ

@@ -25,7 +25,7 @@ fn in_bytes(alloc: Global, words: &[u16]) -> Result<Vec<u8>, NoMemory>
 
 /// The bytes of an instruction of the 68000 at an address, or `None` where no instruction has these tokens there. It fails
 /// where memory runs out.
-#[tactic(auto, using(crate::proofs::Told::main_said, crate::proofs::Told::main_none))]
+#[tactic(auto, using(crate::proofs::Checks::main_said, crate::proofs::Checks::main_none))]
 fn main_code(alloc: Global, pieces: &[Piece<'_>], at: u32) -> Result<Option<Vec<u8>>, NoMemory>
     ensures { IfOk result (λ found. option_map (λ bytes. bytes.items) found ≡ codes.code false (map shown pieces.now) at) }
 {
@@ -40,7 +40,7 @@ fn main_code(alloc: Global, pieces: &[Piece<'_>], at: u32) -> Result<Option<Vec<
 
 /// The bytes of an instruction of the Z80 at an address, or `None` where no instruction has these tokens there. It fails
 /// where memory runs out.
-#[tactic(auto, using(crate::proofs::Told::sub_said, crate::proofs::Told::sub_none))]
+#[tactic(auto, using(crate::proofs::Checks::sub_said, crate::proofs::Checks::sub_none))]
 fn sub_code(alloc: Global, pieces: &[Piece<'_>], at: u16) -> Result<Option<Vec<u8>>, NoMemory>
     ensures { IfOk result (λ found. option_map (λ bytes. bytes.items) found ≡ codes.code true (map shown pieces.now) at) }
 {

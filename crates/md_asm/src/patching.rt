@@ -30,8 +30,8 @@ fn settled_entry<'a>(
     requires { entry.now.z80 ≡ true → entry.now.address < 65536 }
     ensures { IfOk result (λ settled. settled_seen settled ≡ rounds.settled_slot (names_seen names.now) (slot_seen entry.now)) }
 {
-    let said = split(alloc, entry.text)?;
-    let resolved = resolve(alloc, names, said.as_slice())?;
+    let line_tokens = split(alloc, entry.text)?;
+    let resolved = resolve(alloc, names, line_tokens.as_slice())?;
     settle(
         alloc,
         entry.z80,

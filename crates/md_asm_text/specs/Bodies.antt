@@ -57,6 +57,6 @@ named word ps =
     else (if bytes_eq word (codes "dc") then dc ps
     else (if bytes_eq word (codes "db") then db ps else Instruction)))
 
-unfoldable pub told : List Piece → Body
-told (pieces.Word word ∷ ps) = named word ps
-told ps = Instruction
+unfoldable pub directive_of : List Piece → Body
+directive_of (pieces.Word word ∷ ps) = named word ps
+directive_of ps = Instruction

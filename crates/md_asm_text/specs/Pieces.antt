@@ -61,14 +61,14 @@ abbrev pub plain : List ℕ → Piece
 plain word = if is_name word then Name word else Word word
 
 -- the token of a word
-unfoldable pub told : List ℕ → Piece
-told [] = Word []
-told (c ∷ cs) = if c == 36 && are_digits cs then Number (value_behind 0 cs) else plain (c ∷ cs)
+unfoldable pub token_of : List ℕ → Piece
+token_of [] = Word []
+token_of (c ∷ cs) = if c == 36 && are_digits cs then Number (value_behind 0 cs) else plain (c ∷ cs)
 
 -- the token of a word, where there is one
 abbrev pub closed : List ℕ → List Piece
 closed [] = []
-closed (c ∷ cs) = told (c ∷ cs) ∷ []
+closed (c ∷ cs) = token_of (c ∷ cs) ∷ []
 
 -- the tokens of a text, after the characters of a word that continues
 unfoldable pub split : List ℕ → List ℕ → List Piece

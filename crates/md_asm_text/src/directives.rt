@@ -114,9 +114,9 @@ fn named(word: &[u8], pieces: &[Piece<'_>]) -> Body
 }
 
 /// What the tokens of a line are: a directive, or else what has to be an instruction.
-#[tactic(auto, unfolding(crate::specs::Bodies::told))]
-pub(crate) fn told(pieces: &[Piece<'_>]) -> Body
-    ensures { result ≡ bodies.told (map shown pieces.now) }
+#[tactic(auto, unfolding(crate::specs::Bodies::directive_of))]
+pub(crate) fn directive_of(pieces: &[Piece<'_>]) -> Body
+    ensures { result ≡ bodies.directive_of (map shown pieces.now) }
 {
     match pieces {
         [Piece::Word(word), rest @ ..] => named(word, rest),

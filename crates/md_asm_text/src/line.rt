@@ -6,7 +6,7 @@ ghost use Rattle.md_asm_text.specs.Seen.{line_seen};
 
 use crate::body::Body;
 use crate::cutting::{before, behind, has};
-use crate::directives::told;
+use crate::directives::directive_of;
 use crate::trimming::{cut_back, unblanked};
 use crate::{Piece, is_name, split};
 use md_word::NoMemory;
@@ -33,7 +33,7 @@ fn body_of(text: &[u8], pieces: &[Piece<'_>]) -> Body
     if text.is_empty() {
         Body::Nothing
     } else {
-        told(pieces)
+        directive_of(pieces)
     }
 }
 
@@ -46,12 +46,12 @@ fn with_body<'a>(
     ensures line { IfOk result (λ line. line_seen line ≡ lines.with_body (option_map (λ name. name.now) label.entry) text.now) }
     ensures pieces { IfOk result (λ line. map shown line.pieces.items ≡ texts.pieces line.text.now) }
 {
-    let said = split(alloc, text)?;
-    let body = body_of(text, said.as_slice());
+    let line_tokens = split(alloc, text)?;
+    let body = body_of(text, line_tokens.as_slice());
     Ok(Line {
         label,
         text,
-        pieces: said,
+        pieces: line_tokens,
         body,
     })
 }
@@ -69,11 +69,11 @@ fn labelled<'a>(alloc: Global, text: &'a [u8]) -> Result<Line<'a>, NoMemory>
         with_body(alloc, Some(name), unblanked(behind(text, 58)))
     } else {
         let nothing: &'a [u8] = &[];
-        let said = split(alloc, nothing)?;
+        let line_tokens = split(alloc, nothing)?;
         Ok(Line {
             label: None,
             text: nothing,
-            pieces: said,
+            pieces: line_tokens,
             body: Body::Bad,
         })
     }

@@ -5,7 +5,7 @@ ghost use Rattle.md_asm_text.specs.Shown.{shown};
 
 use crate::characters::is_worded;
 use crate::piece::Piece;
-use crate::words::told;
+use crate::words::token_of;
 use md_word::NoMemory;
 use std::alloc::Global;
 
@@ -14,7 +14,7 @@ fn put_word<'a>(pieces: &mut Vec<Piece<'a>>, word: &'a [u8]) -> Result<(), NoMem
     ensures { OnOk result (map shown pieces.new.items ≡ map shown pieces.old.items ++ meaning.closed word.now) }
 {
     if !word.is_empty() {
-        pieces.push(told(word))?;
+        pieces.push(token_of(word))?;
     }
     Ok(())
 }

@@ -130,9 +130,9 @@ fn plain<'a>(word: &'a [u8]) -> Piece<'a>
 }
 
 /// The token of a word.
-#[tactic(auto, unfolding(crate::specs::Pieces::told))]
-pub(crate) fn told<'a>(word: &'a [u8]) -> Piece<'a>
-    ensures { shown result ≡ meaning.told word.now }
+#[tactic(auto, unfolding(crate::specs::Pieces::token_of))]
+pub(crate) fn token_of<'a>(word: &'a [u8]) -> Piece<'a>
+    ensures { shown result ≡ meaning.token_of word.now }
 {
     match word {
         [36, digits @ ..] if are_digits(digits) => Piece::Number(value(digits)),

@@ -168,17 +168,17 @@ impl Coded {
     }
 
     /// The words or bytes that a text is read as, or `none`.
-    fn read_told(&self, alloc: Global, text: &str) -> Result<String, AllocError> {
-        let mut told = String::new(alloc);
+    fn read_values(&self, alloc: Global, text: &str) -> Result<String, AllocError> {
+        let mut values = String::new(alloc);
         match self.read(alloc, text)? {
-            Some(found) => found.put_values(&mut told)?,
-            None => told.push_str("none")?,
+            Some(found) => found.put_values(&mut values)?,
+            None => values.push_str("none")?,
         }
-        String::from_str(alloc, told.as_str().trim_start())
+        String::from_str(alloc, values.as_str().trim_start())
     }
 
     /// Its text, and its length where it is not what is given.
-    fn text_told(&self, alloc: Global) -> Result<String, AllocError> {
+    fn text_with_length(&self, alloc: Global) -> Result<String, AllocError> {
         let text = self.text(alloc)?;
         let length = self.length();
         let size = if self.is_z80 { 1 } else { 2 };
@@ -194,23 +194,23 @@ impl Coded {
 pub fn disassembled(alloc: Global, rest: &str) -> Result<String, RowError> {
     let (mut coded, values) = begun(rest)?;
     coded.take(values)?;
-    Ok(coded.text_told(alloc)?)
+    Ok(coded.text_with_length(alloc)?)
 }
 
 /// `assemble PROCESSOR ADDRESS TEXT`. It fails where the question has another form, or where memory runs out.
 pub fn encoded(alloc: Global, rest: &str) -> Result<String, RowError> {
     let (coded, text) = begun(rest)?;
-    Ok(coded.read_told(alloc, text)?)
+    Ok(coded.read_values(alloc, text)?)
 }
 
 /// `PROCESSOR ADDRESS VALUES`: their text, where the text that is wanted is read as these. It fails where the question has
 /// another form, or where memory runs out.
 pub fn both(alloc: Global, asked: &str, wanted: &str) -> Result<String, RowError> {
     let (mut coded, values) = begun(asked)?;
-    let read = coded.read_told(alloc, wanted)?;
+    let read = coded.read_values(alloc, wanted)?;
     if read.as_str() == values {
         coded.take(values)?;
-        Ok(coded.text_told(alloc)?)
+        Ok(coded.text_with_length(alloc)?)
     } else {
         Ok(format!(in alloc; "read as {}", read.as_str())?)
     }
