@@ -68,7 +68,7 @@ if_there conditions.NonCarry n h = (2, reach (by_opcode indexes.Hl 0x30 2 0) (ro
 if_there conditions.Carry n h = (2, reach (by_opcode indexes.Hl 0x38 2 0) (row_of (ops.JumpRelativeIf conditions.Carry 2) (under true n)) (under true n) 2 (plain_decoded 0x38 2 0 (omega arith) two_low zero_low refl) refl refl refl)
 if_there _ n h = cc
 
--- what stands alone in front, and behind
+-- a number alone at the start, and after it
 abbrev pub AreAlone : Op80 → ℕ → Type 0
 AreAlone op at =
     ((n : ℕ) → number_of (led_pieces 32 (row_of op at).first) ≡ Some n → IsThere (row_kept true false (row_of op at)) (under true n))

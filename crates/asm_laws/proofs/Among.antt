@@ -1,4 +1,4 @@
--- Numbers among pieces, and other numbers in their places.
+-- Numbers among tokens, and other numbers in their places.
 use Rattle.std.proofs.Common.{◌≡◌, ℕ, ◌+◌, ◌%◌, ◌<◌, ◌≤◌, Bool, true, false, not, nat_le, nat_lt, List, [], ◌∷◌, ◌++◌, length, append_assoc, length-append, refl, ap, ◌∙◌, sym, arith, Some}
 use Rattle.std.proofs.lemmas.Bool.Decides.{nat_tests}
 use Rattle.md_asm_text.specs.Pieces as pieces
@@ -62,7 +62,7 @@ put_plain n (pieces.Mark c ∷ ps) h = ap (λ (l : List Piece). pieces.Mark c �
 put_plain n (pieces.Number m ∷ ps) h = cc
 put_plain n (pieces.Name w ∷ ps) h = cc
 
--- it stands where the other did
+-- it is where the other was
 pub put_stands : (n m : ℕ) (all : List Piece) (place : ℕ) → StandsIn all place (pieces.Number m) → StandsIn (put_all n all) place (pieces.Number n)
 put_stands n m all place (front, behind, is, long) =
     (put_all n front, put_all n behind, ap (put_all n) is ∙ put_both n front (pieces.Number m ∷ behind), put_long n front ∙ long)
@@ -97,7 +97,7 @@ plain_number (pieces.Mark c ∷ ps) part h = plain_number ps part h
 plain_number (pieces.Number m ∷ ps) part h = cc
 plain_number (pieces.Name w ∷ ps) part h = cc
 
--- ---- in front of a seam, or behind it
+-- ---- before a seam, or after it
 
 record IsLeft (left right front : List Piece) (p : Piece) (behind : List Piece) : Type 0 where
   rest : List Piece
@@ -127,7 +127,7 @@ right_of (x ∷ xs) right (f ∷ fs) p behind e high =
     let there = right_of xs right fs p behind tail (omega arith) in
     record { rest = there.rest; before = ap (λ (q : Piece). q ∷ fs) head ∙ ap (λ (l : List Piece). x ∷ l) there.before; own = there.own }
 
--- ---- a number of two parts behind a plain one: in the first, or in the second
+-- ---- a number of two parts after a plain one: in the first, or in the second
 
 pub first_number : (plain xs ys : List Piece) (place n : ℕ) → is_plain plain ≡ true → is_single xs ≡ true → nat_lt place (length (plain ++ xs)) ≡ true
     → StandsIn ((plain ++ xs) ++ ys) place (pieces.Number n) → number_of xs ≡ Some n

@@ -1,9 +1,9 @@
--- Up to four bytes are filled up with others behind them.
+-- Up to four bytes are filled up with others after them.
 use Rattle.std.proofs.Common.{◌≡◌, ℕ, zero, suc, ◌<◌, ◌≤◌, List, [], ◌∷◌, ◌++◌, length, replicate, refl, arith}
 use Rattle.asm_z80.specs.Coded80.{AreBytes}
 use Rattle.asm_z80.specs.Judged.{padded}
 
-four : (a b c d : ℕ) → a < 256 → b < 256 → c < 256 → d < 256 → AreBytes (a ∷ b ∷ c ∷ d ∷ [])
+pub four : (a b c d : ℕ) → a < 256 → b < 256 → c < 256 → d < 256 → AreBytes (a ∷ b ∷ c ∷ d ∷ [])
 four a b c d ha hb hc hd zero = ha
 four a b c d ha hb hc hd (suc zero) = hb
 four a b c d ha hb hc hd (suc (suc zero)) = hc

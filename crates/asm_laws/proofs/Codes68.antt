@@ -1,4 +1,4 @@
--- The operands and codes of what is made of pieces of the 68000 have their size.
+-- The operands and codes of what is made of tokens of the 68000 have their size.
 use Rattle.std.proofs.Common.{◌≡◌, ℕ, ◌+◌, ◌-◌, ◌*◌, ◌%◌, ◌<◌, ◌≤◌, Bool, true, false, nat_lt, refl, arith, if◌then◌else◌}
 use Rattle.std.proofs.lemmas.Bool.Decides.{nat_tests}
 use Rattle.md_word.specs.Modes.{IsMode}

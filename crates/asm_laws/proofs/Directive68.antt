@@ -14,7 +14,7 @@ use Rattle.md_disasm.specs.declared.operand68.Operand68.TheVariants as operands
 use Rattle.md_asm_text.specs.Pieces as pieces
 use Rattle.md_asm_text.specs.Pieces.{Piece, is_name, is_worded, opened, split}
 use Rattle.md_asm_text.proofs.Splits.{mark_split, name_opens, number_4, word_split}
-use Rattle.md_asm_text.specs.Bodies.{are_values, told}
+use Rattle.md_asm_text.specs.Bodies.{are_values, directive_of}
 use Rattle.md_asm_text.specs.Lines.{line_of}
 use Rattle.md_asm_text.specs.declared.body.Body.TheVariants as bodies
 use Rattle.asm_m68k.specs.Table.{AreWords, IsInstruction}
@@ -22,7 +22,7 @@ use Rattle.md_asm.specs.Codes.{in_bytes}
 use Rattle.md_asm.specs.Contents.{Good, settled_line}
 use Rattle.md_asm.specs.Numbers.{Names, any_over, count, has_name, resolved, words_of}
 use Rattle.md_asm.specs.Assembly.{Done, assembly, places_of, second}
-use Rattle.md_asm.specs.Places.{blank, put}
+use Rattle.md_asm.specs.Places.{blank, image_limit, put}
 use Rattle.md_asm.specs.Rounds.{On, behind, line_step, round_one, round_two, start}
 use Rattle.md_asm.specs.declared.placed.Placed.{Placed}
 use Rattle.asm_laws.specs.Places.{words_from}
@@ -32,6 +32,7 @@ use Rattle.asm_laws.proofs.Named68.{row_is_text}
 use Rattle.asm_laws.proofs.Rounds.{even, max_zero, org_is, org_line, org_text, plain_line, small, two_lines}
 use Rattle.asm_laws.proofs.Solid.{IsText}
 use Rattle.asm_laws.proofs.RoundTrip68.{from_front, front_long, image_is, main_round_trip, words_back}
+use Rattle.asm_m68k.proofs.Again.{none_op}
 
 abbrev word_row : ℕ → Row68
 word_row w = one (codes "dc.w") (operands.Opcode w)
@@ -39,8 +40,8 @@ word_row w = one (codes "dc.w") (operands.Opcode w)
 abbrev word_text : ℕ → List ℕ
 word_text w = row_text (word_row w)
 
-abbrev said : ℕ → List Piece
-said w = pieces.Word (codes "dc") ∷ pieces.Mark 46 ∷ pieces.Word (codes "w") ∷ pieces.Mark 32 ∷ pieces.Number w ∷ []
+abbrev line_tokens : ℕ → List Piece
+line_tokens w = pieces.Word (codes "dc") ∷ pieces.Mark 46 ∷ pieces.Word (codes "w") ∷ pieces.Mark 32 ∷ pieces.Number w ∷ []
 
 -- ---- the line
 
@@ -51,8 +52,8 @@ text_shape : (w : ℕ) → word_text w ≡ codes "dc" ++ (46 ∷ 119 ∷ 32 ∷ 
 unfolding marked_word
 text_shape w = append-nil _
 
-word_pieces : (w : ℕ) → w < 65536 → pieces.pieces (word_text w) ≡ said w
-unfolding is_worded pieces.told is_name split
+word_pieces : (w : ℕ) → w < 65536 → pieces.pieces (word_text w) ≡ line_tokens w
+unfolding is_worded pieces.token_of is_name split
 word_pieces w h =
     ap (opened []) (text_shape w)
     ∙ name_opens (codes "dc") (46 ∷ 119 ∷ 32 ∷ 36 ∷ (four_digits w ++ [])) refl refl
@@ -62,8 +63,8 @@ word_pieces w h =
     ∙ ap (λ (l : List Piece). pieces.Mark 32 ∷ l) (number_4 w [] h refl))))
 
 word_line : (w : ℕ) → w < 65536 → line_of (word_text w) ≡ plain_line (word_text w) bodies.Words
-unfolding told are_values
-word_line w h = line_is (word_text w) bodies.Words (word_is_text w) (ap told (word_pieces w h))
+unfolding directive_of are_values
+word_line w h = line_is (word_text w) bodies.Words (word_is_text w) (ap directive_of (word_pieces w h))
 
 -- ---- the rounds
 
@@ -74,17 +75,17 @@ fits w h = cases (nat_le 65536 w) refl
     cases true is = absurd (grind (arith, nat_tests))
     cases false is = refl
 
-word_step : (first text : List ℕ) (at w : ℕ) → pieces.pieces text ≡ said w → w < 65536 → at % 2 ≡ 0 → at + 2 ≤ 4194304
+word_step : (first text : List ℕ) (at w : ℕ) → pieces.pieces text ≡ line_tokens w → w < 65536 → at % 2 ≡ 0 → at + 2 ≤ image_limit
     → line_step (behind start 1 (plain_line first (bodies.Org at)) 0) 2 (plain_line text bodies.Words) ≡ On (behind (behind start 1 (plain_line first (bodies.Org at)) 0) 2 (plain_line text bodies.Words) 2)
 unfolding count any_over
 word_step first text at w is h e room = rw (is, fits w h, even at e, small at 2 room) refl
 
-settled : (names : Names) (text : List ℕ) (at w : ℕ) → pieces.pieces text ≡ said w → w < 65536
+settled : (names : Names) (text : List ℕ) (at w : ℕ) → pieces.pieces text ≡ line_tokens w → w < 65536
     → settled_line false bodies.Words 2 (resolved names (pieces.pieces text)) at ≡ Good (w / 256 % 256 ∷ w % 256 ∷ [])
 unfolding has_name any_over words_of
 settled names text at w is h = rw (is, fits w h) refl
 
-word_done : (at w : ℕ) → w < 65536 → at % 2 ≡ 0 → at + 2 ≤ 4194304
+word_done : (at w : ℕ) → w < 65536 → at % 2 ≡ 0 → at + 2 ≤ image_limit
     → assembly (main_source at (word_text w)) ≡ Done (take (at + 2) (put blank at (w / 256 % 256 ∷ w % 256 ∷ []))) []
 unfolding assembly round_one round_two places_of
 word_done at w h e room =
@@ -108,10 +109,6 @@ illegal_is : (w : ℕ) (tail : List ℕ) → IsWord (made rows.Illegal (w ∷ ta
 unfolding made
 illegal_is w tail = record { text = λ at. refl; whole = refl }
 
-none_same : (w : ℕ) (tail rest : List ℕ) → unmatched (w ∷ rest) ≡ unmatched (w ∷ tail)
-unfolding unmatched
-none_same w tail rest = refl
-
 illegal_same : (w : ℕ) (tail rest : List ℕ) → made rows.Illegal (w ∷ rest) ≡ made rows.Illegal (w ∷ tail)
 unfolding made
 illegal_same w tail rest = refl
@@ -130,10 +127,10 @@ IsRoundTrip w tail at =
     × (instruction_of (words_from image at) ≡ instruction_of (w ∷ tail))
 
 word_round_trip : (w : ℕ) (tail : List ℕ) (at : ℕ) → w < 65536 → IsWord (instruction_of (w ∷ tail)) w → ((rest : List ℕ) → instruction_of (w ∷ rest) ≡ instruction_of (w ∷ tail))
-    → at % 2 ≡ 0 → at + (instruction_of (w ∷ tail)).length ≤ 4194304 → IsRoundTrip w tail at
+    → at % 2 ≡ 0 → at + (instruction_of (w ∷ tail)).length ≤ image_limit → IsRoundTrip w tail at
 word_round_trip w tail at h is same e room =
     let whole = is.whole in
-    let within : at + 2 ≤ 4194304 = omega (arith, whole, room) in
+    let within : at + 2 ≤ image_limit = omega (arith, whole, room) in
     let image : take (at + 2) (put blank at (w / 256 % 256 ∷ w % 256 ∷ [])) ≡ take at blank ++ in_bytes (w ∷ [])
     = ap (λ (l : List ℕ). take (at + 2) (put blank at l)) (bytes_are w h)
     ∙ ap (λ (n : ℕ). take (at + n) (put blank at (in_bytes (w ∷ [])))) (sym (two_long w))
@@ -145,18 +142,18 @@ word_round_trip w tail at h is same e room =
     )
 
 round_trip_by : (found : Option Row) (w : ℕ) (tail : List ℕ) (at : ℕ) → w < 65536 → nested w ≡ found → AreWords (w ∷ tail) → at % 2 ≡ 0
-    → at + (instruction_of (w ∷ tail)).length ≤ 4194304 → IsRoundTrip w tail at
+    → at + (instruction_of (w ∷ tail)).length ≤ image_limit → IsRoundTrip w tail at
 round_trip_by None w tail at h is all e room =
     let picks : (rest : List ℕ) → instruction_of (w ∷ rest) ≡ unmatched (w ∷ rest) = λ rest. decoded_is_picked (w ∷ rest) h ∙ ap (λ (r : Option Row). picked r (w ∷ rest)) is in
     word_round_trip w tail at h (subst (λ (d : Decoded). IsWord d w) (sym (picks tail)) (unmatched_by _ _ w tail refl refl))
-    (λ rest. picks rest ∙ none_same w tail rest ∙ sym (picks tail)) e room
+    (λ rest. picks rest ∙ none_op w tail rest ∙ sym (picks tail)) e room
 round_trip_by (Some rows.Illegal) w tail at h is all e room =
     let picks : (rest : List ℕ) → instruction_of (w ∷ rest) ≡ made rows.Illegal (w ∷ rest) = λ rest. decoded_is_picked (w ∷ rest) h ∙ ap (λ (r : Option Row). picked r (w ∷ rest)) is in
     word_round_trip w tail at h (subst (λ (d : Decoded). IsWord d w) (sym (picks tail)) (illegal_is w tail))
     (λ rest. picks rest ∙ illegal_same w tail rest ∙ sym (picks tail)) e room
 round_trip_by (Some _) w tail at h is all e room = main_round_trip w tail at h (subst (λ (r : Option Row). IsInstruction r) (sym is) tt) all e room
 
-pub every_round_trip : (w : ℕ) (tail : List ℕ) (at : ℕ) → w < 65536 → AreWords (w ∷ tail) → at % 2 ≡ 0 → at + (instruction_of (w ∷ tail)).length ≤ 4194304
+pub every_round_trip : (w : ℕ) (tail : List ℕ) (at : ℕ) → w < 65536 → AreWords (w ∷ tail) → at % 2 ≡ 0 → at + (instruction_of (w ∷ tail)).length ≤ image_limit
     → (image : List ℕ) × (lines : List Placed) × (assembly (main_source at (text_of (instruction_of (w ∷ tail)) at)) ≡ Done image lines)
     × (instruction_of (words_from image at) ≡ instruction_of (w ∷ tail))
 every_round_trip w tail at h all e room = round_trip_by (nested w) w tail at h refl all e room

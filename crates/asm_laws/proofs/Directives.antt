@@ -1,4 +1,4 @@
--- Words that are tried for pieces and say them are no directive's: for a directive's text NOP is tried.
+-- Words that are tried for tokens and say them are no directive's: for a directive's text NOP is tried.
 use Rattle.std.proofs.Common.{◌≡◌, ℕ, ◌/◌, ◌<◌, Bool, true, false, List, [], ◌∷◌, ◌++◌, Option, Some, None, refl, ap, ◌∙◌, sym, subst, codes, if◌then◌else◌}
 use Rattle.std.specs.Prelude.{◌==◌, slice_index}
 use Rattle.md_word.specs.declared.size.Size.{Size}
@@ -57,8 +57,8 @@ dc_opens rest = (texts.Mark 46 ∷ split [] (119 ∷ rest), refl)
 abbrev IsDirective : Decoded → Type 0
 IsDirective d = (at : ℕ) → (rest : List ℕ) × (text_of d at ≡ codes "dc.w" ++ rest)
 
-tried_nop : (d : Decoded) (said : List Piece) (at : ℕ) → IsDirective d → pieces (text_of d at) ≡ said → tried said at ≡ 0x4e71 ∷ []
-tried_nop d said at is text =
+tried_nop : (d : Decoded) (line_tokens : List Piece) (at : ℕ) → IsDirective d → pieces (text_of d at) ≡ line_tokens → tried line_tokens at ≡ 0x4e71 ∷ []
+tried_nop d line_tokens at is text =
     let own = is at in
     let opens = dc_opens own.0 in
     ap (λ (s : List Piece). tried s at) (sym text ∙ ap pieces own.1 ∙ opens.1) ∙ tried_dc opens.0 at
@@ -82,18 +82,18 @@ nop_is = tt
 entered : (word : ℕ) (found : Option Row) → word ≡ 0x4e71 → nested word ≡ found → IsInstruction found
 entered word found nop is = subst (λ (f : Option Row). IsInstruction f) (ap nested (sym nop) ∙ is) nop_is
 
--- the row of a first word that is tried and says the pieces
-by_row : (found : Option Row) (word : ℕ) (tail : List ℕ) (said : List Piece) (at : ℕ) → word < 65536 → nested word ≡ found
-    → (front : List ℕ) → (slice_index front 0 ≡ word) → front ≡ tried said at → pieces (text_of (picked found (word ∷ tail)) at) ≡ said → IsInstruction found
-by_row None word tail said at below is front first own text =
-    let nop : word ≡ 0x4e71 = sym first ∙ ap (λ (l : List ℕ). slice_index l 0) (own ∙ tried_nop (unmatched (word ∷ tail)) said at (unmatched_by _ _ (word ∷ tail) refl refl) text) in
+-- the row of a first word that is tried and says the tokens
+by_row : (found : Option Row) (word : ℕ) (tail : List ℕ) (line_tokens : List Piece) (at : ℕ) → word < 65536 → nested word ≡ found
+    → (front : List ℕ) → (slice_index front 0 ≡ word) → front ≡ tried line_tokens at → pieces (text_of (picked found (word ∷ tail)) at) ≡ line_tokens → IsInstruction found
+by_row None word tail line_tokens at below is front first own text =
+    let nop : word ≡ 0x4e71 = sym first ∙ ap (λ (l : List ℕ). slice_index l 0) (own ∙ tried_nop (unmatched (word ∷ tail)) line_tokens at (unmatched_by _ _ (word ∷ tail) refl refl) text) in
     entered word None nop is
-by_row (Some rows.Illegal) word tail said at below is front first own text =
-    let nop : word ≡ 0x4e71 = sym first ∙ ap (λ (l : List ℕ). slice_index l 0) (own ∙ tried_nop (made rows.Illegal (word ∷ tail)) said at (illegal_is (word ∷ tail)) text) in
+by_row (Some rows.Illegal) word tail line_tokens at below is front first own text =
+    let nop : word ≡ 0x4e71 = sym first ∙ ap (λ (l : List ℕ). slice_index l 0) (own ∙ tried_nop (made rows.Illegal (word ∷ tail)) line_tokens at (illegal_is (word ∷ tail)) text) in
     entered word (Some rows.Illegal) nop is
-by_row (Some _) word tail said at below is front first own text = tt
+by_row (Some _) word tail line_tokens at below is front first own text = tt
 
-pub tried_instruction : (word : ℕ) (tail : List ℕ) (said : List Piece) (at : ℕ) → word < 65536 → (front : List ℕ) → slice_index front 0 ≡ word → front ≡ tried said at
-    → pieces (text_of (instruction_of (word ∷ tail)) at) ≡ said → IsInstruction (nested word)
-tried_instruction word tail said at below front first own text =
-    by_row (nested word) word tail said at below refl front first own (rw (decoded_is_picked (word ∷ tail) below) at text)
+pub tried_instruction : (word : ℕ) (tail : List ℕ) (line_tokens : List Piece) (at : ℕ) → word < 65536 → (front : List ℕ) → slice_index front 0 ≡ word → front ≡ tried line_tokens at
+    → pieces (text_of (instruction_of (word ∷ tail)) at) ≡ line_tokens → IsInstruction (nested word)
+tried_instruction word tail line_tokens at below front first own text =
+    by_row (nested word) word tail line_tokens at below refl front first own (rw (decoded_is_picked (word ∷ tail) below) at text)

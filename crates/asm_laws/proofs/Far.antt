@@ -18,8 +18,8 @@ use Rattle.md_asm.specs.Rounds.{On, Read, Refused, Round, Slot, Step, Stop, behi
 use Rattle.md_asm.proofs.Apart.{AllSlots, all_slots_more}
 use Rattle.asm_laws.specs.Faults.{HasNoText}
 use Rattle.asm_laws.proofs.Forms.{form_size}
-use Rattle.asm_laws.proofs.RoundTrip68.{main_coded}
-use Rattle.asm_laws.proofs.RoundTrip80.{sub_coded}
+use Rattle.asm_laws.proofs.Coded68.{main_coded}
+use Rattle.asm_laws.proofs.Coded80.{sub_coded}
 
 -- ---- each line that has bytes has its length
 
@@ -93,7 +93,7 @@ filled_by : (name : List ℕ) (found : Option ℕ) (xs ys : List Piece) → fill
 filled_by name None xs ys e = ap (λ (l : List Piece). pieces.Number 8 ∷ l) e
 filled_by name (Some n) xs ys e = ap (λ (l : List Piece). pieces.Number 8 ∷ l) e
 
-filled_resolved : (names : Names) (said : List Piece) → filled (resolved names said) ≡ filled said
+filled_resolved : (names : Names) (line_tokens : List Piece) → filled (resolved names line_tokens) ≡ filled line_tokens
 filled_resolved names [] = refl
 filled_resolved names (pieces.Word w ∷ ps) = ap (λ (l : List Piece). pieces.Word w ∷ l) (filled_resolved names ps)
 filled_resolved names (pieces.Number n ∷ ps) = ap (λ (l : List Piece). pieces.Number 8 ∷ l) (filled_resolved names ps)
@@ -105,7 +105,7 @@ unfolding count
 count_by name None xs ys e = ap (λ (k : ℕ). 1 + k) e
 count_by name (Some n) xs ys e = ap (λ (k : ℕ). 1 + k) e
 
-count_resolved : (names : Names) (said : List Piece) → count (resolved names said) ≡ count said
+count_resolved : (names : Names) (line_tokens : List Piece) → count (resolved names line_tokens) ≡ count line_tokens
 unfolding count
 count_resolved names [] = refl
 count_resolved names (pieces.Word w ∷ ps) = count_resolved names ps
@@ -113,19 +113,19 @@ count_resolved names (pieces.Number n ∷ ps) = ap (λ (k : ℕ). 1 + k) (count_
 count_resolved names (pieces.Name w ∷ ps) = count_by w (names w) (resolved names ps) ps (count_resolved names ps)
 count_resolved names (pieces.Mark c ∷ ps) = count_resolved names ps
 
-size_resolved : (z80 : Bool) (names : Names) (body : Body) (said : List Piece) → size z80 body (resolved names said) ≡ size z80 body said
-size_resolved z80 names bodies.Words said = ap (λ (k : ℕ). Some (2 * k)) (count_resolved names said)
-size_resolved z80 names bodies.Bytes said = ap (λ (k : ℕ). Some k) (count_resolved names said)
-size_resolved z80 names bodies.Instruction said = ap (λ (l : List Piece). option_map length (code z80 l 4)) (filled_resolved names said)
-size_resolved z80 names bodies.Bad said = refl
-size_resolved z80 names bodies.Nothing said = refl
-size_resolved z80 names (bodies.Org place) said = refl
-size_resolved z80 names bodies.Main said = refl
-size_resolved z80 names (bodies.Sub at) said = refl
+size_resolved : (z80 : Bool) (names : Names) (body : Body) (line_tokens : List Piece) → size z80 body (resolved names line_tokens) ≡ size z80 body line_tokens
+size_resolved z80 names bodies.Words line_tokens = ap (λ (k : ℕ). Some (2 * k)) (count_resolved names line_tokens)
+size_resolved z80 names bodies.Bytes line_tokens = ap (λ (k : ℕ). Some k) (count_resolved names line_tokens)
+size_resolved z80 names bodies.Instruction line_tokens = ap (λ (l : List Piece). option_map length (code z80 l 4)) (filled_resolved names line_tokens)
+size_resolved z80 names bodies.Bad line_tokens = refl
+size_resolved z80 names bodies.Nothing line_tokens = refl
+size_resolved z80 names (bodies.Org place) line_tokens = refl
+size_resolved z80 names bodies.Main line_tokens = refl
+size_resolved z80 names (bodies.Sub at) line_tokens = refl
 
 -- ---- the bytes of a directive are never out of reach
 
-words_long : (said : List Piece) → has_name said ≡ false → length (words_of said) ≡ 2 * count said
+words_long : (line_tokens : List Piece) → has_name line_tokens ≡ false → length (words_of line_tokens) ≡ 2 * count line_tokens
 unfolding has_name words_of count
 words_long [] none = refl
 words_long (pieces.Word w ∷ ps) none = words_long ps none
@@ -133,7 +133,7 @@ words_long (pieces.Number n ∷ ps) none = let e = words_long ps none in omega (
 words_long (pieces.Name w ∷ ps) none = cc
 words_long (pieces.Mark c ∷ ps) none = words_long ps none
 
-bytes_long : (said : List Piece) → has_name said ≡ false → length (bytes_of said) ≡ count said
+bytes_long : (line_tokens : List Piece) → has_name line_tokens ≡ false → length (bytes_of line_tokens) ≡ count line_tokens
 unfolding has_name bytes_of count
 bytes_long [] none = refl
 bytes_long (pieces.Word w ∷ ps) none = bytes_long ps none
@@ -164,38 +164,38 @@ not_long long (Some own) bytes far is same = by (length own == long) refl far
 some_long : (a b : ℕ) (found : Option ℕ) → found ≡ Some a → found ≡ Some b → a ≡ b
 some_long a b found is too = cc
 
-no_text : (z80 : Bool) (said : List Piece) (long at : ℕ) → IsAddress z80 at → size z80 bodies.Instruction said ≡ Some long → sized long (code z80 said at) ≡ Far → HasNoText z80 said at
-no_text true said long at below is far = λ bytes all instruction text.
-    let form = form_size true said (sub.instruction_of bytes).length (bytes, at, record { all = all; instruction = instruction; address = below; alike = ap filled (sym text) }, refl) in
+no_text : (z80 : Bool) (line_tokens : List Piece) (long at : ℕ) → IsAddress z80 at → size z80 bodies.Instruction line_tokens ≡ Some long → sized long (code z80 line_tokens at) ≡ Far → HasNoText z80 line_tokens at
+no_text true line_tokens long at below is far = λ bytes all instruction text.
+    let form = form_size true line_tokens (sub.instruction_of bytes).length (bytes, at, record { all = all; instruction = instruction; address = below; alike = ap filled (sym text) }, refl) in
     let own = sub_coded bytes at all below instruction in
-    let coded : code true said at ≡ Some own.0 = ap (λ (l : List Piece). code true l at) (sym text) ∙ own.1.own in
-    not_long long (code true said at) own.0 far coded (own.2 ∙ some_long (sub.instruction_of bytes).length long (size true bodies.Instruction said) form is)
-no_text false said long at below is far = λ word tail low entered words text.
-    let form = form_size false said (main.instruction_of (word ∷ tail)).length
+    let coded : code true line_tokens at ≡ Some own.0 = ap (λ (l : List Piece). code true l at) (sym text) ∙ own.1.own in
+    not_long long (code true line_tokens at) own.0 far coded (own.2 ∙ some_long (sub.instruction_of bytes).length long (size true bodies.Instruction line_tokens) form is)
+no_text false line_tokens long at below is far = λ word tail low entered words text.
+    let form = form_size false line_tokens (main.instruction_of (word ∷ tail)).length
     (word, tail, at, record { first = low; instruction = entered; words = words; address = below; alike = ap filled (sym text) }, refl) in
     let own = main_coded word tail at (record { low = low; entered = entered; all = words }) below in
-    let coded : code false said at ≡ Some (in_bytes own.words) = ap (λ (l : List Piece). code false l at) (sym text) ∙ own.coded.own in
-    not_long long (code false said at) (in_bytes own.words) far coded (own.long ∙ some_long (main.instruction_of (word ∷ tail)).length long (size false bodies.Instruction said) form is)
+    let coded : code false line_tokens at ≡ Some (in_bytes own.words) = ap (λ (l : List Piece). code false l at) (sym text) ∙ own.coded.own in
+    not_long long (code false line_tokens at) (in_bytes own.words) far coded (own.long ∙ some_long (main.instruction_of (word ∷ tail)).length long (size false bodies.Instruction line_tokens) form is)
 
 -- a directive is never out of reach
-never_far : (z80 : Bool) (body : Body) (said : List Piece) (long at : ℕ) (bytes : List ℕ) → content z80 body said at ≡ Some bytes → size z80 body said ≡ Some (length bytes)
-    → size z80 body said ≡ Some long → sized long (content z80 body said at) ≡ Far → ⊥
-never_far z80 body said long at bytes is own too far = not_long long (content z80 body said at) bytes far is (some_long (length bytes) long (size z80 body said) own too)
+never_far : (z80 : Bool) (body : Body) (line_tokens : List Piece) (long at : ℕ) (bytes : List ℕ) → content z80 body line_tokens at ≡ Some bytes → size z80 body line_tokens ≡ Some (length bytes)
+    → size z80 body line_tokens ≡ Some long → sized long (content z80 body line_tokens at) ≡ Far → ⊥
+never_far z80 body line_tokens long at bytes is own too far = not_long long (content z80 body line_tokens at) bytes far is (some_long (length bytes) long (size z80 body line_tokens) own too)
 
-by_body : (z80 : Bool) (body : Body) (said : List Piece) (long at : ℕ) → has_name said ≡ false → IsAddress z80 at → size z80 body said ≡ Some long
-    → sized long (content z80 body said at) ≡ Far → (body ≡ bodies.Instruction) × HasNoText z80 said at
-by_body z80 bodies.Instruction said long at named below is far = (refl, no_text z80 said long at below is far)
-by_body z80 bodies.Words said long at named below is far = absurd (never_far z80 bodies.Words said long at (words_of said) refl (ap (λ (k : ℕ). Some k) (sym (words_long said named))) is far)
-by_body z80 bodies.Bytes said long at named below is far = absurd (never_far z80 bodies.Bytes said long at (bytes_of said) refl (ap (λ (k : ℕ). Some k) (sym (bytes_long said named))) is far)
-by_body z80 bodies.Bad said long at named below is far = cc
-by_body z80 bodies.Nothing said long at named below is far = absurd (never_far z80 bodies.Nothing said long at [] refl refl is far)
-by_body z80 (bodies.Org place) said long at named below is far = absurd (never_far z80 (bodies.Org place) said long at [] refl refl is far)
-by_body z80 bodies.Main said long at named below is far = absurd (never_far z80 bodies.Main said long at [] refl refl is far)
-by_body z80 (bodies.Sub n) said long at named below is far = absurd (never_far z80 (bodies.Sub n) said long at [] refl refl is far)
+by_body : (z80 : Bool) (body : Body) (line_tokens : List Piece) (long at : ℕ) → has_name line_tokens ≡ false → IsAddress z80 at → size z80 body line_tokens ≡ Some long
+    → sized long (content z80 body line_tokens at) ≡ Far → (body ≡ bodies.Instruction) × HasNoText z80 line_tokens at
+by_body z80 bodies.Instruction line_tokens long at named below is far = (refl, no_text z80 line_tokens long at below is far)
+by_body z80 bodies.Words line_tokens long at named below is far = absurd (never_far z80 bodies.Words line_tokens long at (words_of line_tokens) refl (ap (λ (k : ℕ). Some k) (sym (words_long line_tokens named))) is far)
+by_body z80 bodies.Bytes line_tokens long at named below is far = absurd (never_far z80 bodies.Bytes line_tokens long at (bytes_of line_tokens) refl (ap (λ (k : ℕ). Some k) (sym (bytes_long line_tokens named))) is far)
+by_body z80 bodies.Bad line_tokens long at named below is far = cc
+by_body z80 bodies.Nothing line_tokens long at named below is far = absurd (never_far z80 bodies.Nothing line_tokens long at [] refl refl is far)
+by_body z80 (bodies.Org place) line_tokens long at named below is far = absurd (never_far z80 (bodies.Org place) line_tokens long at [] refl refl is far)
+by_body z80 bodies.Main line_tokens long at named below is far = absurd (never_far z80 bodies.Main line_tokens long at [] refl refl is far)
+by_body z80 (bodies.Sub n) line_tokens long at named below is far = absurd (never_far z80 (bodies.Sub n) line_tokens long at [] refl refl is far)
 
 pub far_means : (names : Names) (slot : Slot) → IsSized slot → IsAddress slot.sub slot.address → settled_slot names slot ≡ Far
     → (slot.body ≡ bodies.Instruction) × HasNoText slot.sub (resolved names (pieces.pieces slot.text)) slot.address
 far_means names slot is below far =
-    let said = resolved names (pieces.pieces slot.text) in
-    let parts = far_parts (has_name said) (is_unfit slot.sub slot.body said) slot.long (content slot.sub slot.body said slot.address) far in
-    by_body slot.sub slot.body said slot.long slot.address parts.0 below (size_resolved slot.sub names slot.body (pieces.pieces slot.text) ∙ is) parts.1
+    let line_tokens = resolved names (pieces.pieces slot.text) in
+    let parts = far_parts (has_name line_tokens) (is_unfit slot.sub slot.body line_tokens) slot.long (content slot.sub slot.body line_tokens slot.address) far in
+    by_body slot.sub slot.body line_tokens slot.long slot.address parts.0 below (size_resolved slot.sub names slot.body (pieces.pieces slot.text) ∙ is) parts.1

@@ -1,5 +1,5 @@
 -- What bytes of the Z80 decode to is also there with 8 for its numbers, and with 8 for all but one.
-use Rattle.std.proofs.Common.{◌≡◌, ℕ, zero, suc, ◌<◌, ◌==◌, Bool, true, false, not, ◌&&◌, ◌||◌, List, [], ◌∷◌, refl, ap, ◌∙◌, sym, arith, codes, if◌then◌else◌}
+use Rattle.std.proofs.Common.{◌≡◌, ℕ, ◌<◌, ◌==◌, Bool, true, false, not, ◌&&◌, ◌||◌, List, [], ◌∷◌, refl, ap, ◌∙◌, sym, arith, codes, if◌then◌else◌}
 use Rattle.std.specs.Str.{bytes_eq}
 use Rattle.std.proofs.lemmas.Bool.{true≢false}
 use Rattle.std.proofs.lemmas.Bool.Decides.{nat_tests}
@@ -20,19 +20,14 @@ use Rattle.asm_z80.specs.Instruction.{is_db}
 use Rattle.asm_z80.proofs.Pages.{by_index, by_page}
 use Rattle.asm_z80.proofs.Read.{read, read_behind, read_bits, read_extended, read_ix, read_ix_bits, read_iy, read_iy_bits, read_plain}
 use Rattle.asm_z80.proofs.Sources.{is_read}
+use Rattle.asm_z80.proofs.Judged.{name_stays}
 use Rattle.asm_laws.proofs.Line.{is_free}
 use Rattle.asm_laws.proofs.Named80.{op_free}
 use Rattle.asm_laws.proofs.Pages80.{Shape, both_numbered, code8, filled_bits, filled_extended, filled_ix, filled_ix_bits, filled_iy, filled_iy_bits, filled_plain, filled_shape, first8, is_far, is_odd, is_relative, is_restart, is_two, is_uneven, named, named_odd, odd_bits, odd_extended, odd_ix, odd_ix_bits, odd_iy, odd_iy_bits, odd_plain, own_shape, second8}
 use Rattle.asm_laws.proofs.Rows80.{row_kept}
+use Rattle.asm_laws.proofs.Bytes.{four}
 
 -- ---- four bytes
-
-four : (a b c d : ℕ) → a < 256 → b < 256 → c < 256 → d < 256 → AreBytes (a ∷ b ∷ c ∷ d ∷ [])
-four a b c d ha hb hc hd zero = ha
-four a b c d ha hb hc hd (suc zero) = hb
-four a b c d ha hb hc hd (suc (suc zero)) = hc
-four a b c d ha hb hc hd (suc (suc (suc zero))) = hd
-four a b c d ha hb hc hd (suc (suc (suc (suc i)))) = omega arith
 
 -- bytes that decode to this
 pub record IsDecoded (d : Decoded80) : Type 0 where
@@ -108,10 +103,6 @@ pub record IsReached (row : Row80) (at long : ℕ) : Type 0 where
   pub none : is_db (instruction_of bytes).op ≡ false
   pub is : row_of (instruction_of bytes).op at ≡ row
   pub whole : (instruction_of bytes).length ≡ long
-
-name_stays : (op : Op80) (at : ℕ) → (row_of op at).name ≡ (row_of op 0).name
-name_stays (ops.JumpRelative distance) at = refl
-name_stays _ at = refl
 
 -- a row that is that of a decoded instruction
 pub reach : (d : Decoded80) (row : Row80) (at long : ℕ) → IsDecoded d → bytes_eq row.name (codes "db") ≡ false → row_of d.op at ≡ row → d.length ≡ long → IsReached row at long

@@ -111,10 +111,10 @@ high_with n w = high_cleared w + n % 8 * 512
 abbrev pub low_with : ℕ → ℕ → ℕ
 low_with n w = low_cleared w + n
 
-high_low : (n w : ℕ) → w < 65536 → high_with n w < 65536
+pub high_low : (n w : ℕ) → w < 65536 → high_with n w < 65536
 high_low n w h = omega arith
 
-low_low : (n w : ℕ) → w < 65536 → n < 256 → low_with n w < 65536
+pub low_low : (n w : ℕ) → w < 65536 → n < 256 → low_with n w < 65536
 low_low n w h k = omega arith
 
 high_same : (n w : ℕ) → w < 65536 → high_cleared (high_with n w) ≡ high_cleared w

@@ -1,4 +1,4 @@
--- Which numbers of an instruction's pieces fit: each stands alone, with 8 for the others.
+-- Which numbers of an instruction's tokens fit: each is tried alone, with 8 for the others.
 use Rattle.std.proofs.Common.{◌≡◌, ℕ, ◌+◌, Bool, true, false, ◌||◌, List, [], ◌∷◌, ◌++◌, length, append_assoc, length-append, refl, ap, ◌∙◌, sym, arith, Option, Some, None}
 use Rattle.std.specs.Prelude.{is_some, slice_set}
 use Rattle.md_asm_text.specs.Pieces as pieces
@@ -36,7 +36,7 @@ pub filled_long : (xs : List Piece) → length (filled xs) ≡ length xs
 filled_long [] = refl
 filled_long (x ∷ xs) = let e = filled_long xs in omega (arith, e)
 
--- a piece is put behind others
+-- a token after others
 set_behind : (xs ys : List Piece) (y p : Piece) → slice_set (xs ++ y ∷ ys) (length xs) p ≡ xs ++ p ∷ ys
 set_behind [] ys y p = refl
 set_behind (x ∷ xs) ys y p = ap (λ (l : List Piece). x ∷ l) (set_behind xs ys y p)
@@ -47,24 +47,24 @@ alone_is pre post n =
     ∙ ap (λ (k : ℕ). slice_set (filled pre ++ pieces.Number 8 ∷ filled post) k (pieces.Number n)) (sym (filled_long pre))
     ∙ set_behind (filled pre) (filled post) (pieces.Number 8) (pieces.Number n)
 
-pub none_misfit : (sub : Bool) (said : List Piece) (i : ℕ) (part : List Piece) → is_plain part ≡ true → misfits sub said i part ≡ false
+pub none_misfit : (sub : Bool) (line_tokens : List Piece) (i : ℕ) (part : List Piece) → is_plain part ≡ true → misfits sub line_tokens i part ≡ false
 unfolding misfits
-none_misfit sub said i [] h = refl
-none_misfit sub said i (pieces.Word w ∷ ps) h = none_misfit sub said (i + 1) ps h
-none_misfit sub said i (pieces.Mark c ∷ ps) h = none_misfit sub said (i + 1) ps h
-none_misfit sub said i (pieces.Number n ∷ ps) h = cc
-none_misfit sub said i (pieces.Name w ∷ ps) h = cc
+none_misfit sub line_tokens i [] h = refl
+none_misfit sub line_tokens i (pieces.Word w ∷ ps) h = none_misfit sub line_tokens (i + 1) ps h
+none_misfit sub line_tokens i (pieces.Mark c ∷ ps) h = none_misfit sub line_tokens (i + 1) ps h
+none_misfit sub line_tokens i (pieces.Number n ∷ ps) h = cc
+none_misfit sub line_tokens i (pieces.Name w ∷ ps) h = cc
 
-pub misfits_both : (sub : Bool) (said : List Piece) (i : ℕ) (xs ys : List Piece) → misfits sub said i xs ≡ false → misfits sub said (i + length xs) ys ≡ false → misfits sub said i (xs ++ ys) ≡ false
+pub misfits_both : (sub : Bool) (line_tokens : List Piece) (i : ℕ) (xs ys : List Piece) → misfits sub line_tokens i xs ≡ false → misfits sub line_tokens (i + length xs) ys ≡ false → misfits sub line_tokens i (xs ++ ys) ≡ false
 unfolding misfits
-misfits_both sub said i [] ys h k = let e : i + 0 ≡ i = omega arith in rw e at k
-misfits_both sub said i (x ∷ xs) ys h k = cases (misfit sub said i x) refl (λ more. misfits_both sub said (i + 1) xs ys more (let e : i + length (x ∷ xs) ≡ i + 1 + length xs = omega arith in rw e at k))
+misfits_both sub line_tokens i [] ys h k = let e : i + 0 ≡ i = omega arith in rw e at k
+misfits_both sub line_tokens i (x ∷ xs) ys h k = cases (misfit sub line_tokens i x) refl (λ more. misfits_both sub line_tokens (i + 1) xs ys more (let e : i + length (x ∷ xs) ≡ i + 1 + length xs = omega arith in rw e at k))
   where
-    cases : (b : Bool) → misfit sub said i x ≡ b → (misfits sub said (i + 1) xs ≡ false → misfits sub said (i + 1) (xs ++ ys) ≡ false) → misfit sub said i x || misfits sub said (i + 1) (xs ++ ys) ≡ false
+    cases : (b : Bool) → misfit sub line_tokens i x ≡ b → (misfits sub line_tokens (i + 1) xs ≡ false → misfits sub line_tokens (i + 1) (xs ++ ys) ≡ false) → misfit sub line_tokens i x || misfits sub line_tokens (i + 1) (xs ++ ys) ≡ false
     cases true is more = let no : true ≡ false = rw is at h in cc
-    cases false is more = let left : misfits sub said (i + 1) xs ≡ false = rw is at h in rw (is, more left) refl
+    cases false is more = let left : misfits sub line_tokens (i + 1) xs ≡ false = rw is at h in rw (is, more left) refl
 
--- what the numbers of a part come to alone, with 8 for all that stand around it
+-- what the numbers of a part result in alone, with 8 for all around it
 abbrev pub IsAlone : Bool → List Piece → List Piece → List Piece → Type 0
 IsAlone sub pre part post = (n : ℕ) → number_of part ≡ Some n → is_some (code sub (filled pre ++ (part ++ filled post)) (under sub n)) ≡ true
 

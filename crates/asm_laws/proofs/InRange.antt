@@ -1,4 +1,4 @@
--- In a source that is assembled each number of an instruction is in the range of its place: what stands there has it.
+-- In a source that is assembled each number of an instruction is in the range of its place: what is there has it.
 use Rattle.std.proofs.Common.{◌≡◌, ℕ, ◌<◌, Bool, true, false, List, [], ◌∷◌, append-nil, ap, ◌∙◌, sym, subst, arith}
 use Rattle.m68k_decode.specs.Instructions as main
 use Rattle.z80_decode.specs.Instructions as sub
@@ -24,14 +24,14 @@ use Rattle.asm_laws.proofs.Low68.{cons_low, none_low}
 use Rattle.asm_laws.proofs.Places80.{none_byte}
 use Rattle.asm_laws.proofs.Ranges.{has_in}
 
--- words of an instruction that say the pieces have their numbers
-least_has : (words : List ℕ) (said : List Piece) (at : ℕ) → AreWords words → at < 4294967296 → AreLeast words said at → (place n : ℕ) → StandsIn said place (pieces.Number n) → HasNumber false said place n
-least_has [] said at all below least place n stands =
+-- words of an instruction that say the tokens have their numbers
+least_has : (words : List ℕ) (line_tokens : List Piece) (at : ℕ) → AreWords words → at < 4294967296 → AreLeast words line_tokens at → (place n : ℕ) → StandsIn line_tokens place (pieces.Number n) → HasNumber false line_tokens place n
+least_has [] line_tokens at all below least place n stands =
     let none = least.text.whole (0 ∷ []) in
     let some = encoded_long 0 [] (cons_low 0 [] (omega arith) none_low) in
     absurd (omega (arith, none, some))
-least_has (w ∷ tail) said at all below least place n stands =
-    let text : pieces.pieces (main_texts.text_of (main.instruction_of (w ∷ tail)) at) ≡ said
+least_has (w ∷ tail) line_tokens at all below least place n stands =
+    let text : pieces.pieces (main_texts.text_of (main.instruction_of (w ∷ tail)) at) ≡ line_tokens
     = ap (λ (l : List ℕ). pieces.pieces (main_texts.text_of (main.instruction_of l) at)) (sym (append-nil (w ∷ tail))) ∙ least.text.text [] in (
       w,
       tail,
@@ -40,30 +40,30 @@ least_has (w ∷ tail) said at all below least place n stands =
       subst (λ (l : List Piece). StandsIn l place (pieces.Number n)) (sym text) stands,
     )
 
-written_has : (z80 : Bool) (bytes : List ℕ) (said : List Piece) (at : ℕ) → AreBytes bytes → IsAddress z80 at → IsWritten z80 bytes said at → (place n : ℕ) → StandsIn said place (pieces.Number n)
-    → HasNumber z80 said place n
-written_has true bytes said at all below chosen place n stands =
-    let text : pieces.pieces (sub_texts.text_of (sub.instruction_of bytes) at) ≡ said
+written_has : (z80 : Bool) (bytes : List ℕ) (line_tokens : List Piece) (at : ℕ) → AreBytes bytes → IsAddress z80 at → IsWritten z80 bytes line_tokens at → (place n : ℕ) → StandsIn line_tokens place (pieces.Number n)
+    → HasNumber z80 line_tokens place n
+written_has true bytes line_tokens at all below chosen place n stands =
+    let text : pieces.pieces (sub_texts.text_of (sub.instruction_of bytes) at) ≡ line_tokens
     = ap (λ (l : List ℕ). pieces.pieces (sub_texts.text_of (sub.instruction_of l) at)) (sym (append-nil bytes)) ∙ chosen.text.text [] none_byte in (
       bytes,
       at,
       record { all = all; instruction = chosen.text.instruction; address = below; alike = ap filled (sym text) },
       subst (λ (l : List Piece). StandsIn l place (pieces.Number n)) (sym text) stands,
     )
-written_has false bytes said at all below (words, is, least) place n stands =
-    least_has words said at (words_are words (subst (λ (l : List ℕ). AreBytes l) is all)) below least place n stands
+written_has false bytes line_tokens at all below (words, is, least) place n stands =
+    least_has words line_tokens at (words_are words (subst (λ (l : List ℕ). AreBytes l) is all)) below least place n stands
 
 slot_fits : (image : List ℕ) (names : Names) (slot : Slot) → AreBytes image → IsAddress slot.sub slot.address → IsSaid image names slot → (place n : ℕ)
     → StandsIn (resolved names (pieces.pieces slot.text)) place (pieces.Number n) → HasNumber slot.sub (resolved names (pieces.pieces slot.text)) place n
-slot_fits image names slot all below said place n stands =
-    written_has slot.sub said.bytes (resolved names (pieces.pieces slot.text)) slot.address (stand_bytes image slot.place said.bytes all said.stands) below said.chosen place n stands
+slot_fits image names slot all below line_tokens place n stands =
+    written_has slot.sub line_tokens.bytes (resolved names (pieces.pieces slot.text)) slot.address (stand_bytes image slot.place line_tokens.bytes all line_tokens.stands) below line_tokens.chosen place n stands
 
 slots_fit : (image : List ℕ) (names : Names) (slots : List Slot) → AreBytes image → AllSlots (λ s. IsAddress s.sub s.address) slots → AreSaid image names slots → AreFitting names slots
-slots_fit image names [] all below said = tt
-slots_fit image names (slot ∷ more) all below said = (
+slots_fit image names [] all below line_tokens = tt
+slots_fit image names (slot ∷ more) all below line_tokens = (
   λ instruction place n stands.
-      has_in slot.sub (resolved names (pieces.pieces slot.text)) place n (slot_fits image names slot all below.0 (said.0 instruction) place n stands),
-  slots_fit image names more all below.1 said.1,
+      has_in slot.sub (resolved names (pieces.pieces slot.text)) place n (slot_fits image names slot all below.0 (line_tokens.0 instruction) place n stands),
+  slots_fit image names more all below.1 line_tokens.1,
 )
 
 pub lines_fit : (source image : List ℕ) (lines : List Placed) → SaysLines source image lines → AreBytes image → FitsLines source
@@ -71,5 +71,5 @@ lines_fit source image lines says all = record {
   round = says.round;
   read = says.read;
   fitting = slots_fit image says.round.names says.round.slots all
-      (all_slots_by (IsPut says.round.written says.round.end) (λ s. IsAddress s.sub s.address) (λ s is. is.addressed) says.round.slots ((read_round says.round (lines_of source) says.read).put)) says.said;
+      (all_slots_by (IsPut says.round.written says.round.end) (λ s. IsAddress s.sub s.address) (λ s is. is.addressed) says.round.slots ((read_round says.round (lines_of source) says.read).put)) says.round_trips;
 }

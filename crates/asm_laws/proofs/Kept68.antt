@@ -16,6 +16,7 @@ use Rattle.asm_m68k.specs.Encoding.{extension, mode_words, number_words}
 use Rattle.asm_m68k.specs.Table.{AreWords}
 use Rattle.asm_laws.proofs.Rows68.{mode_kept, number_kept}
 use Rattle.asm_laws.proofs.Words68.{high_kept, kept_counted, kept_long, low_kept, numbers_kept}
+use Rattle.asm_m68k.proofs.Again.{second_word as same_word}
 
 -- the instruction with 8 for the numbers of the operands that are not kept, where extension words hold them; the
 -- displacement of a branch is left
@@ -66,7 +67,7 @@ op_kept a b op = op
 abbrev pub decoded_kept : Bool → Bool → Decoded → Decoded
 decoded_kept a b d = record { op = op_kept a b d.op; length = d.length }
 
--- a branch has its displacement in the first word or behind it
+-- a branch has its displacement in the first word or after it
 abbrev pub is_branch : Row → Bool
 is_branch rows.Dbcc = true
 is_branch rows.Bra = true
@@ -106,10 +107,6 @@ with_number a b Long w tail rest all = record {
 second_word : (a : Bool) (w : ℕ) (tail rest : List ℕ) → number_at Word 1 (w ∷ number_kept a (number_at Word 1 (w ∷ tail)) ∷ rest) ≡ number_kept a (number_at Word 1 (w ∷ tail))
 unfolding number_at
 second_word a w tail rest = refl
-
-same_word : (w : ℕ) (tail rest : List ℕ) → number_at Word 1 (w ∷ number_at Word 1 (w ∷ tail) ∷ rest) ≡ number_at Word 1 (w ∷ tail)
-unfolding number_at
-same_word w tail rest = refl
 
 second_byte : (a : Bool) (w : ℕ) (tail rest : List ℕ) → number_at Byte 1 (w ∷ number_kept a (number_at Byte 1 (w ∷ tail)) ∷ rest) ≡ number_kept a (number_at Byte 1 (w ∷ tail))
 unfolding number_at

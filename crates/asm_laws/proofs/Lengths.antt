@@ -89,7 +89,7 @@ extension_few _ = omega arith
 pub encoded_few : (op : Op) → length (encoded op) ≤ 5
 encoded_few op = let h = extension_few op in omega (arith, h)
 
--- up to five words are filled up with others behind them
+-- up to five words are filled up with others after them
 pub filled_up : (words : List ℕ) → length words ≤ 5 → (rest : List ℕ) × (padded words ≡ words ++ rest)
 filled_up [] few = (0 ∷ 0 ∷ 0 ∷ 0 ∷ 0 ∷ [], refl)
 filled_up (a ∷ []) few = (0 ∷ 0 ∷ 0 ∷ 0 ∷ [], refl)

@@ -2,6 +2,9 @@ pub mod Alone68
 pub mod Alone80
 pub mod Among
 pub mod Bytes
+pub mod Coded
+pub mod Coded68
+pub mod Coded80
 pub mod Codes68
 pub mod Directive68
 pub mod Directives

@@ -4,7 +4,7 @@ use Rattle.std.specs.Str.{bytes_eq}
 use Rattle.std.proofs.lemmas.Bool.{and_parts, not-true}
 use Rattle.md_asm_text.specs.Pieces as pieces
 use Rattle.md_asm_text.specs.Pieces.{Piece, every, is_worded}
-use Rattle.md_asm_text.specs.Bodies.{named, told}
+use Rattle.md_asm_text.specs.Bodies.{named, directive_of}
 use Rattle.md_asm_text.specs.Lines.{Line, body_of, line_of}
 use Rattle.md_asm_text.specs.Texts.{before, has}
 use Rattle.md_asm_text.specs.declared.body.Body.{Body}
@@ -15,12 +15,12 @@ use Rattle.asm_laws.proofs.Solid.{IsText, before_all, cut_same, has_none, opens,
 abbrev pub instruction_line : List ℕ → Line
 instruction_line text = record { label = None; text = text; body = bodies.Instruction }
 
-body_is : (text : List ℕ) (body : Body) → opens text ≡ true → told (pieces.pieces text) ≡ body → body_of text ≡ body
+body_is : (text : List ℕ) (body : Body) → opens text ≡ true → directive_of (pieces.pieces text) ≡ body → body_of text ≡ body
 body_is [] body h is = cc
 body_is (c ∷ cs) body h is = is
 
 -- a line of a text is the text
-pub line_is : (text : List ℕ) (body : Body) → IsText text → told (pieces.pieces text) ≡ body → line_of text ≡ record { label = None; text = text; body = body }
+pub line_is : (text : List ℕ) (body : Body) → IsText text → directive_of (pieces.pieces text) ≡ body → line_of text ≡ record { label = None; text = text; body = body }
 unfolding line_of
 line_is text body is tells =
     let front : before 59 text ≡ text = before_all 59 text is.clean refl in

@@ -12,9 +12,9 @@ use Rattle.m68k_decode.specs.Rows.{Row}
 use Rattle.asm_m68k.specs.Encoding.{brief, extension, mode_words, number_words}
 use Rattle.asm_m68k.specs.Table.{AreWords}
 use Rattle.asm_m68k.proofs.Instructions.{IsRead}
+use Rattle.asm_m68k.proofs.Decoded.{high_is_read, low_is_read, number_below}
 use Rattle.asm_laws.proofs.Kept68.{is_branch, op_kept}
 use Rattle.asm_laws.proofs.Rows68.{mode_filled, mode_kept, number_kept}
-use Rattle.asm_laws.proofs.Shown68.{high_is_read, low_is_read, number_below}
 
 pub none_low : AreWords []
 none_low i = omega arith

@@ -1,4 +1,4 @@
--- What is assembled of pieces for the 68000 is the least of all words that say them, and is found where some do.
+-- What is assembled of tokens for the 68000 is the least of all words that say them, and is found where some do.
 use Rattle.std.proofs.Common.{◌≡◌, ◌⊎◌, inl, inr, ℕ, zero, suc, ◌*◌, ◌<◌, List, [], ◌∷◌, ◌++◌, length, Option, Some, None, append-nil, ap, ◌∙◌, sym, subst, arith}
 use Rattle.std.specs.Prelude.{slice_index}
 use Rattle.m68k_decode.specs.Instructions.{instruction_of}
@@ -17,25 +17,25 @@ use Rattle.asm_laws.specs.Chosen.{AreLeast, IsBefore}
 use Rattle.asm_laws.proofs.MainCodes.{encoded_long, own_or_later}
 use Rattle.asm_laws.proofs.Texts.{assembled_again, found, going_on, keeps_text}
 
--- ---- other words that say the pieces
+-- ---- other words that say the tokens
 
-text_alone : (other : List ℕ) (said : List Piece) (at : ℕ) → Says other said at → pieces (text_of (instruction_of other) at) ≡ said
-text_alone other said at say = ap (λ (l : List ℕ). pieces (text_of (instruction_of l) at)) (sym (append-nil other)) ∙ say.text []
+text_alone : (other : List ℕ) (line_tokens : List Piece) (at : ℕ) → Says other line_tokens at → pieces (text_of (instruction_of other) at) ≡ line_tokens
+text_alone other line_tokens at say = ap (λ (l : List ℕ). pieces (text_of (instruction_of l) at)) (sym (append-nil other)) ∙ say.text []
 
 zero_word : AreWords (0 ∷ [])
 zero_word zero = omega arith
 zero_word (suc i) = omega arith
 
-best_of : (said : List Piece) (words other : List ℕ) (at : ℕ) → AreWords other → at < 4294967296 → words ≡ tried said at → IsInstruction (nested (slice_index other 0))
-    → Says other said at → (other ≡ words) ⊎ ((length words ≡ length other) × IsBefore words other)
-best_of said words [] at k a own entered say =
+best_of : (line_tokens : List Piece) (words other : List ℕ) (at : ℕ) → AreWords other → at < 4294967296 → words ≡ tried line_tokens at → IsInstruction (nested (slice_index other 0))
+    → Says other line_tokens at → (other ≡ words) ⊎ ((length words ≡ length other) × IsBefore words other)
+best_of line_tokens words [] at k a own entered say =
     let none = say.whole (0 ∷ []) in
     let some = encoded_long 0 [] zero_word in
     absurd (omega (arith, none, some))
-best_of said words (w ∷ tail) at k a own entered say =
-    let text = text_alone (w ∷ tail) said at say in
+best_of line_tokens words (w ∷ tail) at k a own entered say =
+    let text = text_alone (w ∷ tail) line_tokens at say in
     let whole : (instruction_of (w ∷ tail)).length ≡ 2 * length (w ∷ tail) = ap (λ (l : List ℕ). (instruction_of l).length) (sym (append-nil (w ∷ tail))) ∙ say.whole [] in
-    let made : meant (read_source said) at ≡ (instruction_of (w ∷ tail)).op
+    let made : meant (read_source line_tokens) at ≡ (instruction_of (w ∷ tail)).op
     = ap (λ (s : List Piece). meant (read_source s) at) (sym text) ∙ meant_again w tail at (k 0) entered k a in
     let code : words ≡ encoded (instruction_of (w ∷ tail)).op = own ∙ ap encoded made in
     let long = encoded_long w tail k in
@@ -50,36 +50,36 @@ best_of said words (w ∷ tail) at k a own entered say =
 -- ---- what is found
 
 -- it takes all its words, whatever follows them
-whole_of : (said : List Piece) (word : ℕ) (tail rest : List ℕ) (at : ℕ) → AreWords (word ∷ tail) → at < 4294967296 → main_code said at ≡ Some (word ∷ tail)
+whole_of : (line_tokens : List Piece) (word : ℕ) (tail rest : List ℕ) (at : ℕ) → AreWords (word ∷ tail) → at < 4294967296 → main_code line_tokens at ≡ Some (word ∷ tail)
     → (instruction_of (word ∷ (tail ++ rest))).length ≡ 2 * length (word ∷ tail)
-whole_of said word tail rest at h a is =
-    let there = going_on said word tail at h a is in
-    let made : meant (read_source said) at ≡ (instruction_of (word ∷ (tail ++ there.more))).op
+whole_of line_tokens word tail rest at h a is =
+    let there = going_on line_tokens word tail at h a is in
+    let made : meant (read_source line_tokens) at ≡ (instruction_of (word ∷ (tail ++ there.more))).op
     = ap (λ (s : List Piece). meant (read_source s) at) (sym there.text) ∙ meant_again word (tail ++ there.more) at (h 0) there.instruction there.all a in
     let code : word ∷ tail ≡ encoded (instruction_of (word ∷ (tail ++ there.more))).op = there.own ∙ ap encoded made in
     ap (λ d. d.length) (there.same rest) ∙ encoded_long word (tail ++ there.more) there.all ∙ ap (λ (l : List ℕ). 2 * length l) (sym code)
 
-pub least : (said : List Piece) (words : List ℕ) (at : ℕ) → AreWords words → at < 4294967296 → main_code said at ≡ Some words → AreLeast words said at
-least said [] at h a is = let own = (found said [] at is).own in cc
-least said (word ∷ tail) at h a is = record {
-  instruction = (going_on said word tail at h a is).instruction;
+pub least : (line_tokens : List Piece) (words : List ℕ) (at : ℕ) → AreWords words → at < 4294967296 → main_code line_tokens at ≡ Some words → AreLeast words line_tokens at
+least line_tokens [] at h a is = let own = (found line_tokens [] at is).own in cc
+least line_tokens (word ∷ tail) at h a is = record {
+  instruction = (going_on line_tokens word tail at h a is).instruction;
   text = record {
-    text = λ rest. keeps_text said (word ∷ tail) rest at h a is;
-    whole = λ rest. whole_of said word tail rest at h a is;
+    text = λ rest. keeps_text line_tokens (word ∷ tail) rest at h a is;
+    whole = λ rest. whole_of line_tokens word tail rest at h a is;
   };
-  best = λ other k entered say. best_of said (word ∷ tail) other at k a (found said (word ∷ tail) at is).own entered say;
+  best = λ other k entered say. best_of line_tokens (word ∷ tail) other at k a (found line_tokens (word ∷ tail) at is).own entered say;
 }
 
-none_by : (code : Option (List ℕ)) (found : List ℕ) → code ≡ None → code ≡ Some found → ⊥
+pub none_by : (code : Option (List ℕ)) (found : List ℕ) → code ≡ None → code ≡ Some found → ⊥
 none_by code found none some = cc
 
--- where nothing is found, no words say the pieces
-pub none : (said : List Piece) (at : ℕ) → at < 4294967296 → main_code said at ≡ None
-    → (words : List ℕ) → AreWords words → IsInstruction (nested (slice_index words 0)) → Says words said at → ⊥
-none said at a is [] h entered say =
+-- where nothing is found, no words say the tokens
+pub none : (line_tokens : List Piece) (at : ℕ) → at < 4294967296 → main_code line_tokens at ≡ None
+    → (words : List ℕ) → AreWords words → IsInstruction (nested (slice_index words 0)) → Says words line_tokens at → ⊥
+none line_tokens at a is [] h entered say =
     let empty = say.whole (0 ∷ []) in
     let some = encoded_long 0 [] zero_word in
     absurd (omega (arith, empty, some))
-none said at a is (word ∷ tail) h entered say =
+none line_tokens at a is (word ∷ tail) h entered say =
     let again = assembled_again word tail at (h 0) entered h a in
-    none_by (main_code said at) again.0 is (ap (λ (s : List Piece). main_code s at) (sym (text_alone (word ∷ tail) said at say)) ∙ again.1)
+    none_by (main_code line_tokens at) again.0 is (ap (λ (s : List Piece). main_code s at) (sym (text_alone (word ∷ tail) line_tokens at say)) ∙ again.1)

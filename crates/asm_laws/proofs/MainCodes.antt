@@ -1,5 +1,5 @@
 -- The words of what words of the 68000 decode to are as many as it takes, and none is greater than the word that
--- stands in its place: bits that the processor does not look at are 0.
+-- is in its place: bits that the processor does not look at are 0.
 use Rattle.std.proofs.Common.{◌≡◌, ◌⊎◌, inl, inr, ℕ, zero, suc, ◌+◌, ◌*◌, ◌/◌, ◌%◌, ◌<◌, ◌≤◌, ◌==◌, Bool, true, false, List, [], ◌∷◌, ◌++◌, length, Option, Some, None, length-append, refl, ap, sym, subst, arith, add-one}
 use Rattle.std.specs.Prelude.{slice_index}
 use Rattle.std.proofs.Math.Nat.{eq-or-lt_of_le}

@@ -1,4 +1,4 @@
--- The other direction: a line that has a length has the form of some instruction, and a number that fits stands in one.
+-- The other direction: a line that has a length has the form of some instruction, and a number that fits is in one.
 use Rattle.std.proofs.Common.{◌≡◌, ℕ, ◌<◌, Bool, true, false, List, [], ◌∷◌, ◌++◌, length, append-nil, refl, ap, ◌∙◌, sym, arith, Option, Some, None}
 use Rattle.std.specs.Prelude.{is_some, option_map}
 use Rattle.m68k_decode.specs.Instructions as main
@@ -21,21 +21,21 @@ use Rattle.asm_laws.specs.Forms.{HasNumber, IsForm, IsMainForm, IsSubForm, Stand
 use Rattle.asm_laws.proofs.Among.{not_false}
 use Rattle.asm_laws.proofs.Fits.{alone_is, filled_both, filled_long}
 use Rattle.asm_laws.proofs.Places80.{none_byte}
-use Rattle.asm_laws.proofs.RoundTrip68.{in_bytes_long}
 use Rattle.asm_laws.proofs.Sound68.{AreLongs}
 use Rattle.asm_laws.proofs.Tried68.{tried_words}
 use Rattle.asm_laws.proofs.Tried80.{tried_bytes}
+use Rattle.asm_laws.proofs.Coded68.{in_bytes_long}
 
--- ---- pieces with 8 for their numbers
+-- ---- tokens with 8 for their numbers
 
-filled_again : (said : List Piece) → filled (filled said) ≡ filled said
+filled_again : (line_tokens : List Piece) → filled (filled line_tokens) ≡ filled line_tokens
 filled_again [] = refl
 filled_again (pieces.Word word ∷ ps) = ap (λ (l : List Piece). pieces.Word word ∷ l) (filled_again ps)
 filled_again (pieces.Number n ∷ ps) = ap (λ (l : List Piece). pieces.Number 8 ∷ l) (filled_again ps)
 filled_again (pieces.Name name ∷ ps) = ap (λ (l : List Piece). pieces.Number 8 ∷ l) (filled_again ps)
 filled_again (pieces.Mark c ∷ ps) = ap (λ (l : List Piece). pieces.Mark c ∷ l) (filled_again ps)
 
-filled_longs : (said : List Piece) → AreLongs (filled said)
+filled_longs : (line_tokens : List Piece) → AreLongs (filled line_tokens)
 filled_longs [] = tt
 filled_longs (pieces.Word word ∷ ps) = filled_longs ps
 filled_longs (pieces.Number n ∷ ps) = (omega arith, filled_longs ps)
@@ -59,18 +59,18 @@ single_filled front behind n =
 
 -- ---- what is assembled has a text
 
--- bytes of the Z80 that are found for pieces
-record IsSubText (said : List Piece) (at : ℕ) (bytes : List ℕ) : Type 0 where
-  form : (other : List Piece) → filled other ≡ filled said → IsSubForm other bytes at
-  text : pieces.pieces (sub_texts.text_of (sub.instruction_of bytes) at) ≡ said
+-- bytes of the Z80 that are found for tokens
+record IsSubText (line_tokens : List Piece) (at : ℕ) (bytes : List ℕ) : Type 0 where
+  form : (other : List Piece) → filled other ≡ filled line_tokens → IsSubForm other bytes at
+  text : pieces.pieces (sub_texts.text_of (sub.instruction_of bytes) at) ≡ line_tokens
   long : (sub.instruction_of bytes).length ≡ length bytes
 
-sub_text : (said : List Piece) (at : ℕ) (bytes : List ℕ) → at < 65536 → sub_code said at ≡ Some bytes → IsSubText said at bytes
-sub_text said at bytes a is =
-    let own = sub_found.found said bytes at is in
-    let all : AreBytes bytes = rw own.own (tried_bytes said at) in
-    let best = chosen said bytes at all a is in
-    let text : pieces.pieces (sub_texts.text_of (sub.instruction_of bytes) at) ≡ said
+sub_text : (line_tokens : List Piece) (at : ℕ) (bytes : List ℕ) → at < 65536 → sub_code line_tokens at ≡ Some bytes → IsSubText line_tokens at bytes
+sub_text line_tokens at bytes a is =
+    let own = sub_found.found line_tokens bytes at is in
+    let all : AreBytes bytes = rw own.own (tried_bytes line_tokens at) in
+    let best = chosen line_tokens bytes at all a is in
+    let text : pieces.pieces (sub_texts.text_of (sub.instruction_of bytes) at) ≡ line_tokens
     = ap (λ (l : List ℕ). pieces.pieces (sub_texts.text_of (sub.instruction_of l) at)) (sym (append-nil bytes)) ∙ best.text.text [] none_byte in record {
       form = λ other same. record { all = all; instruction = best.text.instruction; address = a; alike = same ∙ ap filled (sym text) };
       text = text;
@@ -78,21 +78,21 @@ sub_text said at bytes a is =
     }
 
 -- words of the 68000
-record IsMainText (said : List Piece) (at : ℕ) (words : List ℕ) : Type 0 where
+record IsMainText (line_tokens : List Piece) (at : ℕ) (words : List ℕ) : Type 0 where
   word : ℕ
   tail : List ℕ
   are : words ≡ word ∷ tail
-  form : (other : List Piece) → filled other ≡ filled said → IsMainForm other word tail at
-  text : pieces.pieces (main_texts.text_of (main.instruction_of (word ∷ tail)) at) ≡ said
+  form : (other : List Piece) → filled other ≡ filled line_tokens → IsMainForm other word tail at
+  text : pieces.pieces (main_texts.text_of (main.instruction_of (word ∷ tail)) at) ≡ line_tokens
   long : (main.instruction_of (word ∷ tail)).length ≡ length (in_bytes words)
 
-main_text : (said : List Piece) (at : ℕ) (words : List ℕ) → AreLongs said → at < 4294967296 → main_code said at ≡ Some words → IsMainText said at words
-main_text said at [] longs a is = let own = (main_found.found said [] at is).own in cc
-main_text said at (word ∷ tail) longs a is =
-    let own = main_found.found said (word ∷ tail) at is in
-    let all : AreWords (word ∷ tail) = rw own.own (tried_words said at longs) in
-    let best = least said (word ∷ tail) at all a is in
-    let text : pieces.pieces (main_texts.text_of (main.instruction_of (word ∷ tail)) at) ≡ said
+main_text : (line_tokens : List Piece) (at : ℕ) (words : List ℕ) → AreLongs line_tokens → at < 4294967296 → main_code line_tokens at ≡ Some words → IsMainText line_tokens at words
+main_text line_tokens at [] longs a is = let own = (main_found.found line_tokens [] at is).own in cc
+main_text line_tokens at (word ∷ tail) longs a is =
+    let own = main_found.found line_tokens (word ∷ tail) at is in
+    let all : AreWords (word ∷ tail) = rw own.own (tried_words line_tokens at longs) in
+    let best = least line_tokens (word ∷ tail) at all a is in
+    let text : pieces.pieces (main_texts.text_of (main.instruction_of (word ∷ tail)) at) ≡ line_tokens
     = ap (λ (l : List ℕ). pieces.pieces (main_texts.text_of (main.instruction_of l) at)) (sym (append-nil (word ∷ tail))) ∙ best.text.text [] in record {
       word = word;
       tail = tail;
@@ -118,16 +118,16 @@ main_mapped (Some words) bytes h = (words, refl, cc)
 
 -- ---- the other direction
 
-pub size_form : (z80 : Bool) (said : List Piece) (long : ℕ) → size z80 Instruction said ≡ Some long → IsForm z80 said long
-size_form true said long h =
-    let there = mapped (sub_code (filled said) 4) long h in
-    let own = sub_text (filled said) 4 there.0 (omega arith) there.1 in
-    (there.0, 4, own.form said (sym (filled_again said)), own.long ∙ there.2)
-size_form false said long h =
-    let there = mapped (option_map in_bytes (main_code (filled said) 4)) long h in
-    let words = main_mapped (main_code (filled said) 4) there.0 there.1 in
-    let own = main_text (filled said) 4 words.0 (filled_longs said) (omega arith) words.1 in
-    (own.word, own.tail, 4, own.form said (sym (filled_again said)), own.long ∙ ap length words.2 ∙ there.2)
+pub size_form : (z80 : Bool) (line_tokens : List Piece) (long : ℕ) → size z80 Instruction line_tokens ≡ Some long → IsForm z80 line_tokens long
+size_form true line_tokens long h =
+    let there = mapped (sub_code (filled line_tokens) 4) long h in
+    let own = sub_text (filled line_tokens) 4 there.0 (omega arith) there.1 in
+    (there.0, 4, own.form line_tokens (sym (filled_again line_tokens)), own.long ∙ there.2)
+size_form false line_tokens long h =
+    let there = mapped (option_map in_bytes (main_code (filled line_tokens) 4)) long h in
+    let words = main_mapped (main_code (filled line_tokens) 4) there.0 there.1 in
+    let own = main_text (filled line_tokens) 4 words.0 (filled_longs line_tokens) (omega arith) words.1 in
+    (own.word, own.tail, 4, own.form line_tokens (sym (filled_again line_tokens)), own.long ∙ ap length words.2 ∙ there.2)
 
 under_sub : (n : ℕ) → under true n < 65536
 under_sub n = omega arith
@@ -136,26 +136,26 @@ under_main : (n : ℕ) → under false n < 4294967296
 under_main n = omega arith
 
 -- with 8 for all numbers but one
-alone_stands : (said front behind : List Piece) (place n : ℕ) → said ≡ front ++ pieces.Number n ∷ behind → length front ≡ place
-    → alone said place (pieces.Number n) ≡ filled front ++ pieces.Number n ∷ filled behind
-alone_stands said front behind place n is long =
+alone_stands : (line_tokens front behind : List Piece) (place n : ℕ) → line_tokens ≡ front ++ pieces.Number n ∷ behind → length front ≡ place
+    → alone line_tokens place (pieces.Number n) ≡ filled front ++ pieces.Number n ∷ filled behind
+alone_stands line_tokens front behind place n is long =
     ap (λ (l : List Piece). alone l place (pieces.Number n)) is ∙ ap (λ (k : ℕ). alone (front ++ pieces.Number n ∷ behind) k (pieces.Number n)) (sym long) ∙ alone_is front behind n
 
-pub fits_has : (z80 : Bool) (said : List Piece) (place n : ℕ) → n < 4294967296 → StandsIn said place (pieces.Number n) → misfit z80 said place (pieces.Number n) ≡ false
-    → HasNumber z80 said place n
-fits_has true said place n low (front, behind, is, long) h =
-    let tried = alone said place (pieces.Number n) in
+pub fits_has : (z80 : Bool) (line_tokens : List Piece) (place n : ℕ) → n < 4294967296 → StandsIn line_tokens place (pieces.Number n) → misfit z80 line_tokens place (pieces.Number n) ≡ false
+    → HasNumber z80 line_tokens place n
+fits_has true line_tokens place n low (front, behind, is, long) h =
+    let tried = alone line_tokens place (pieces.Number n) in
     let there = found_of (sub_code tried (under true n)) (not_false _ h) in
     let own = sub_text tried (under true n) there.0 (under_sub n) there.1 in
-    let same = alone_stands said front behind place n is long in (
+    let same = alone_stands line_tokens front behind place n is long in (
       there.0,
       under true n,
-      own.form said (ap filled is ∙ sym (single_filled front behind n) ∙ ap filled (sym same)),
+      own.form line_tokens (ap filled is ∙ sym (single_filled front behind n) ∙ ap filled (sym same)),
       (filled front, filled behind, own.text ∙ same, filled_long front ∙ long),
     )
-fits_has false said place n low (front, behind, is, long) h =
-    let tried = alone said place (pieces.Number n) in
-    let same = alone_stands said front behind place n is long in
+fits_has false line_tokens place n low (front, behind, is, long) h =
+    let tried = alone line_tokens place (pieces.Number n) in
+    let same = alone_stands line_tokens front behind place n is long in
     let longs : AreLongs tried = rw same (longs_both (filled front) (pieces.Number n ∷ filled behind) (filled_longs front) (low, filled_longs behind)) in
     let found = found_of (code false tried (under false n)) (not_false _ h) in
     let words = main_mapped (main_code tried (under false n)) found.0 found.1 in
@@ -163,6 +163,6 @@ fits_has false said place n low (front, behind, is, long) h =
       own.word,
       own.tail,
       under false n,
-      own.form said (ap filled is ∙ sym (single_filled front behind n) ∙ ap filled (sym same)),
+      own.form line_tokens (ap filled is ∙ sym (single_filled front behind n) ∙ ap filled (sym same)),
       (filled front, filled behind, own.text ∙ same, filled_long front ∙ long),
     )

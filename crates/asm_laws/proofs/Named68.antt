@@ -1,5 +1,5 @@
 -- The texts of the 68000's instructions are texts of a source's line, and begin with no directive's name.
-use Rattle.std.proofs.Common.{◌≡◌, ℕ, Bool, true, false, ◌||◌, ◌==◌, ◌%◌, List, [], ◌∷◌, ◌++◌, nat_lt, append_assoc, append-nil, refl, ap, ◌∙◌, sym, if◌then◌else◌, codes, Option, Some, None}
+use Rattle.std.proofs.Common.{◌≡◌, ℕ, Bool, true, false, ◌||◌, ◌==◌, ◌%◌, List, [], ◌∷◌, ◌++◌, nat_lt, append_assoc, append-nil, refl, ap, ◌∙◌, if◌then◌else◌, codes, Option, Some, None}
 use Rattle.std.specs.List.{filter, flat_map, join_by}
 use Rattle.md_word.specs.declared.mode.Mode.{Mode}
 use Rattle.md_word.specs.declared.mode.Mode.TheVariants as modes
@@ -20,12 +20,13 @@ use Rattle.md_disasm.specs.declared.operand68.Operand68.{Operand68}
 use Rattle.md_disasm.specs.declared.operand68.Operand68.TheVariants as operands
 use Rattle.md_asm_text.specs.Pieces.{every, is_worded, opened, split}
 use Rattle.md_asm_text.specs.Pieces as pieces
-use Rattle.md_asm_text.proofs.Splits.{is_end, name_opens}
-use Rattle.md_asm_text.specs.Bodies.{told}
+use Rattle.md_asm_text.proofs.Splits.{every_both, is_end, name_opens}
+use Rattle.md_asm_text.specs.Bodies.{directive_of}
 use Rattle.md_asm_text.specs.Lines.{line_of}
 use Rattle.md_asm_text.specs.declared.body.Body.TheVariants as bodies
 use Rattle.asm_laws.proofs.Line.{free, instruction_line, is_free, line_is}
-use Rattle.asm_laws.proofs.Solid.{IsText, all_clean, eight_solid, every_both, four_solid, is_solid, is_clean, marked, one_solid, solid, solid_all, solid_more, text_more, text_solid, two_solid}
+use Rattle.asm_laws.proofs.Solid.{IsText, all_clean, eight_solid, four_solid, is_solid, is_clean, marked, one_solid, solid, solid_all, solid_more, text_more, text_solid, two_solid}
+use Rattle.asm_m68k.proofs.Sources.{size_end, row_shape}
 
 -- ---- operands
 
@@ -121,7 +122,7 @@ led_by : (mark : List ℕ) (o : Operand68) → led mark o ≡ (if is_none o then
 led_by mark operands.Nothing = refl
 led_by mark o = refl
 
--- a list stands in front of another operand
+-- a list is before another operand
 abbrev pub is_shaped : Operand68 → Operand68 → Bool
 is_shaped first second = if is_none second then is_none first || is_some first else true
 
@@ -159,17 +160,6 @@ led_end : (b : Bool) (c : ℕ) (o : Operand68) (e : List ℕ) → is_none o ≡ 
 led_end true c o e none is ends = rw (led_by (c ∷ []) o, none) ends
 led_end false c o e none is ends = rw (led_by (c ∷ []) o, none, is) refl
 
-size_end : (size : Option Size) (e : List ℕ) → is_end e ≡ true → is_end (size_text size ++ e) ≡ true
-unfolding is_worded
-size_end None e ends = ends
-size_end (Some Byte) e ends = refl
-size_end (Some Word) e ends = refl
-size_end (Some Long) e ends = refl
-
-row_shape : (name size first second : List ℕ) → ((name ++ size) ++ first) ++ second ≡ name ++ (size ++ (first ++ (second ++ [])))
-row_shape name size first second =
-    append_assoc (name ++ size) first second ∙ append_assoc name size (first ++ second) ∙ ap (λ (l : List ℕ). name ++ (size ++ (first ++ l))) (sym (append-nil second))
-
 row_opens : (row : Row68) → every is_worded row.name ≡ true
     → pieces.pieces (row_text row) ≡ pieces.Word row.name ∷ split [] (size_text row.size ++ (led (codes " ") row.first ++ (led (codes ",") row.second ++ [])))
 unfolding is_worded
@@ -182,11 +172,11 @@ row_opens row worded =
 
 -- a row is a line of an instruction
 pub row_line : (row : Row68) → is_free row.name ≡ true → is_shaped row.first row.second ≡ true → IsText (row_text row) × (line_of (row_text row) ≡ instruction_line (row_text row))
-unfolding told
+unfolding directive_of
 row_line row h s =
     let own = free row.name h in
     let text = row_is_text row own.solid_too s in
-    (text, line_is (row_text row) bodies.Instruction text (ap told (row_opens row own.worded) ∙ own.body (split [] (size_text row.size ++ (led (codes " ") row.first ++ (led (codes ",") row.second ++ []))))))
+    (text, line_is (row_text row) bodies.Instruction text (ap directive_of (row_opens row own.worded) ∙ own.body (split [] (size_text row.size ++ (led (codes " ") row.first ++ (led (codes ",") row.second ++ []))))))
 
 -- ---- the names of instructions
 

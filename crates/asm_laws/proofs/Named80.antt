@@ -27,13 +27,12 @@ use Rattle.md_disasm.specs.Texts80.{led, row_text}
 use Rattle.md_disasm.specs.declared.operand80.Operand80.{Operand80}
 use Rattle.md_disasm.specs.declared.operand80.Operand80.TheVariants as operands
 use Rattle.md_asm_text.specs.Pieces.{every, is_worded, split}
-use Rattle.md_asm_text.specs.Bodies.{told}
+use Rattle.md_asm_text.specs.Bodies.{directive_of}
 use Rattle.md_asm_text.specs.Lines.{line_of}
 use Rattle.md_asm_text.specs.declared.body.Body.TheVariants as bodies
 use Rattle.asm_z80.specs.Instruction.{is_db}
-use Rattle.asm_z80.proofs.Sources.{is_none, row_opens}
+use Rattle.asm_z80.proofs.Sources.{is_none, led_by, row_opens}
 use Rattle.asm_laws.proofs.Line.{free, instruction_line, is_free, line_is}
-use Rattle.asm_laws.proofs.Rows80.{led_by}
 use Rattle.asm_laws.proofs.Solid.{IsText, four_solid, is_clean, marked, solid, solid_all, solid_more, text_more, text_solid, two_solid}
 
 -- ---- operands
@@ -108,11 +107,11 @@ row_is_text row h =
     (led_text (is_none row.first) row.name (codes " ") row.first refl (text_solid row.name h) refl) refl
 
 pub row_line : (row : Row80) → is_free row.name ≡ true → IsText (row_text row) × (line_of (row_text row) ≡ instruction_line (row_text row))
-unfolding told
+unfolding directive_of
 row_line row h =
     let own = free row.name h in
     let text = row_is_text row own.solid_too in
-    (text, line_is (row_text row) bodies.Instruction text (ap told (row_opens row own.worded) ∙ own.body (split [] (led (codes " ") row.first ++ (led (codes ",") row.second ++ [])))))
+    (text, line_is (row_text row) bodies.Instruction text (ap directive_of (row_opens row own.worded) ∙ own.body (split [] (led (codes " ") row.first ++ (led (codes ",") row.second ++ [])))))
 
 -- ---- the names of instructions
 

@@ -21,12 +21,12 @@ use Rattle.md_asm_text.specs.Pieces.{Piece}
 use Rattle.asm_m68k.proofs.Lists.{list_pieces, listed, more_pieces, names_pieces}
 use Rattle.asm_m68k.proofs.Operands.{IsWritten, mode_pieces, number_pieces}
 use Rattle.asm_m68k.proofs.Sources.{IsShown, led_pieces}
+use Rattle.asm_m68k.proofs.Decoded.{quick_in}
 use Rattle.asm_m68k.specs.Table.{IsEntered}
 use Rattle.asm_laws.specs.Ranges.{digit_allows, main_allows, mode_limit}
 use Rattle.asm_laws.proofs.Among.{below, byte_stays, no_number, put_all}
 use Rattle.asm_laws.proofs.Fits.{number_of}
 use Rattle.asm_laws.proofs.Rows68.{mode_with, operand_with}
-use Rattle.asm_laws.proofs.Shown68.{quick_in}
 
 -- ---- an instruction's own number
 

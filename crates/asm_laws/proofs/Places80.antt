@@ -1,7 +1,5 @@
--- The operands and codes of what is made of pieces of the Z80 are bytes.
-use Rattle.std.proofs.Common.{◌≡◌, ℕ, zero, suc, ◌/◌, ◌%◌, ◌<◌, ◌≤◌, ◌==◌, Bool, true, false, List, [], ◌∷◌, ◌++◌, nat_lt, arith, if◌then◌else◌}
-use Rattle.std.proofs.lemmas.Bool.{and_parts}
-use Rattle.std.proofs.lemmas.Bool.Decides.{nat_tests}
+-- The operands and codes of what is made of tokens of the Z80 are bytes.
+use Rattle.std.proofs.Common.{ℕ, zero, suc, ◌/◌, ◌%◌, ◌<◌, ◌≤◌, ◌==◌, Bool, true, false, List, [], ◌∷◌, ◌++◌, arith, if◌then◌else◌}
 use Rattle.md_word.specs.declared.bit.Bit.{Bit}
 use Rattle.md_word.specs.declared.bit.Bit.TheVariants.{Bit0}
 use Rattle.md_word.specs.declared.task80.Task80.{Task80}
@@ -20,7 +18,6 @@ use Rattle.z80_decode.specs.declared.special.Special.{Special}
 use Rattle.z80_decode.specs.declared.special.Special.TheVariants as specials
 use Rattle.asm_z80.specs.Coded80.{AreBytes}
 use Rattle.asm_z80.specs.Encoding80.{arithmetic_code, bit_code, bits_prefix, change_code, changed_code, computed_code, condition_code, displaced_code, index_prefix, load_code, mode_code, operand_bytes, pair_code, place_code, source_code, special_code, step_code, word_bytes}
-use Rattle.asm_z80.proofs.Bytes80.{all_bytes}
 use Rattle.asm_z80.specs.Building as building
 use Rattle.asm_z80.specs.Forms.{Form, Nothing, Worded, AtWord, Displaced, Bare, AtNumber}
 use Rattle.asm_z80.specs.Words.{at_pair, displaced, register8}
@@ -44,12 +41,6 @@ byte_alone n h = cons_byte n [] h none_byte
 
 pub two_bytes : (n : ℕ) → n < 65536 → AreBytes (word_bytes n)
 two_bytes n h = cons_byte (n % 256) (n / 256 ∷ []) (omega arith) (byte_alone (n / 256) (omega arith))
-
-pub all_are : (bytes : List ℕ) → all_bytes bytes ≡ true → AreBytes bytes
-all_are [] e = none_byte
-all_are (b ∷ bs) e =
-    let parts = and_parts (nat_lt b 256) (all_bytes bs) e in
-    cons_byte b bs (grind (arith, nat_tests)) (all_are bs parts.1)
 
 -- ---- places
 

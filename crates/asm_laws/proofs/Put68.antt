@@ -13,8 +13,9 @@ use Rattle.asm_laws.specs.Ranges.{mode_limit}
 use Rattle.asm_laws.proofs.Among.{below, byte_stays, no_number}
 use Rattle.asm_laws.proofs.Low68.{cons_low, none_low}
 use Rattle.asm_laws.proofs.Rows68.{mode_with}
+use Rattle.asm_m68k.proofs.Again.{halves}
 
--- ---- four words behind the first
+-- ---- four words after the first
 
 abbrev behind : (ℕ → ℕ) → List ℕ
 behind f = f 1 ∷ f 2 ∷ f 3 ∷ f 4 ∷ []
@@ -98,9 +99,6 @@ pub record IsNumber (size : Size) (k n w : ℕ) (tail : List ℕ) : Type 0 where
   pub put : IsPut k (words_of_number size) w tail rest
   pub is : number_at size k (w ∷ rest) ≡ n
 
-joined : (n : ℕ) → n / 65536 * 65536 + n % 65536 ≡ n
-joined n = omega arith
-
 pub number_put : (size : Size) (k n w : ℕ) (tail : List ℕ) → 1 ≤ k → k < 4 → n < modulus_of size → AreWords (w ∷ tail) → IsNumber size k n w tail
 unfolding number_at
 number_put Byte k n w tail low high fits all =
@@ -109,7 +107,7 @@ number_put Word k n w tail low high fits all =
     let o = one_word k n w tail low (omega arith) fits all in record { rest = behind (one k n (w ∷ tail)); put = o.put; is = o.at }
 number_put Long k n w tail low high fits all =
     let o = two_words k (n / 65536) (n % 65536) w tail low (omega arith) (omega (arith, fits)) (omega arith) all in
-    record { rest = behind (two k (n / 65536) (n % 65536) (w ∷ tail)); put = o.put; is = rw (o.at, o.next) (joined n) }
+    record { rest = behind (two k (n / 65536) (n % 65536) (w ∷ tail)); put = o.put; is = rw (o.at, o.next) (halves n) }
 
 -- two lists have the same words from one on, so many
 abbrev pub AreSame : ℕ → ℕ → List ℕ → List ℕ → Type 0
@@ -243,7 +241,7 @@ pub with_counted : (n : ℕ) (size : Size) (mode : Mode) → words_of_mode size 
 with_counted n size (modes.Data r) = refl
 with_counted n size _ = refl
 
--- what stands behind, and in front
+-- what follows, and at the start
 pub same_behind : (k count from more w : ℕ) (tail rest : List ℕ) → IsPut k count w tail rest → k + count ≤ from → from + more ≤ 5 → AreSame from more (w ∷ rest) (w ∷ tail)
 same_behind k count from more w tail rest put high few = λ j a b. put.after j (omega (arith, a, high)) (omega (arith, b, few))
 

@@ -24,13 +24,13 @@ use Rattle.asm_laws.proofs.Fill80 as fill
 use Rattle.asm_laws.proofs.Fits.{filled_both}
 use Rattle.asm_laws.proofs.Operands68.{led_with}
 use Rattle.asm_laws.proofs.Operands80.{first_allows, row_put, second_allows}
-use Rattle.asm_laws.proofs.RoundTrip68 as main_trip
-use Rattle.asm_laws.proofs.RoundTrip68.{AreMain}
-use Rattle.asm_laws.proofs.RoundTrip80 as sub_trip
+use Rattle.asm_laws.proofs.Coded68 as main_trip
+use Rattle.asm_laws.proofs.Coded80 as sub_trip
 use Rattle.asm_laws.proofs.Rows68 as main_kept
 use Rattle.asm_laws.proofs.Rows80 as sub_kept
 use Rattle.asm_laws.proofs.With68 as main_with
 use Rattle.asm_laws.proofs.With80 as sub_with
+use Rattle.asm_laws.proofs.Coded68.{AreMain}
 
 -- ---- the Z80
 
@@ -68,12 +68,12 @@ module _ (bytes : List ℕ) (at : ℕ) (all : AreBytes bytes) (instruction : is_
       by true h = sub_with.first_there n bytes at a all instruction h
       by false h = sub_with.second_there n bytes at a all instruction h
 
-sub_in : (said : List Piece) (place n : ℕ) → HasNumber true said place n → IsInRange true said place n
-sub_in said place n (bytes, at, form, stands) =
+sub_in : (line_tokens : List Piece) (place n : ℕ) → HasNumber true line_tokens place n → IsInRange true line_tokens place n
+sub_in line_tokens place n (bytes, at, form, stands) =
     (bytes, at, record { form = form; own = n; stands = stands; allowed = sub_own bytes at form.all form.instruction place n stands })
 
-sub_has : (said : List Piece) (place n : ℕ) → IsInRange true said place n → HasNumber true said place n
-sub_has said place n (bytes, at, range) =
+sub_has : (line_tokens : List Piece) (place n : ℕ) → IsInRange true line_tokens place n → HasNumber true line_tokens place n
+sub_has line_tokens place n (bytes, at, range) =
     let form = range.form in
     let row = sub_rows.row_of (sub.instruction_of bytes).op at in
     let there = sub_there bytes at form.all form.instruction form.address place n range.allowed in
@@ -98,7 +98,7 @@ sub_has said place n (bytes, at, range) =
 abbrev main_left : Row68 → List Piece
 main_left row = main_trip.front row ++ main_pieces.led_pieces 32 row.first
 
--- the pieces of a row, with the seam behind its first operand
+-- the tokens of a row, with the seam after its first operand
 seam : (row : Row68) → main_pieces.row_pieces row ≡ main_left row ++ main_pieces.led_pieces 44 row.second
 seam row = sym (append_assoc (main_trip.front row) (main_pieces.led_pieces 32 row.first) (main_pieces.led_pieces 44 row.second))
 
@@ -125,15 +125,15 @@ module _ (word : ℕ) (tail : List ℕ) (at : ℕ) (main_words : AreMain word ta
           known.second_allows n
           (second_number (main_left main_row) (main_pieces.led_pieces 44 main_row.second) place n (main_kept.led_single 44 main_row.second) high here)
 
-main_in : (said : List Piece) (place n : ℕ) → HasNumber false said place n → IsInRange false said place n
-main_in said place n (word, tail, at, form, stands) =
+main_in : (line_tokens : List Piece) (place n : ℕ) → HasNumber false line_tokens place n → IsInRange false line_tokens place n
+main_in line_tokens place n (word, tail, at, form, stands) =
     let own : AreMain word tail = record { low = form.first; entered = form.instruction; all = form.words } in
     (word, tail, at, record { form = form; own = n; stands = stands; allowed = main_own word tail at own place n stands })
 
 -- a row that is that of an instruction at some address has the number
-main_other : (said : List Piece) (place n m : ℕ) (row wanted : Row68) → main_with.IsSomewhere wanted → filled said ≡ filled (main_pieces.row_pieces wanted) → StandsIn (main_pieces.row_pieces wanted) place (pieces.Number n)
-    → HasNumber false said place n
-main_other said place n m row wanted there same stands =
+main_other : (line_tokens : List Piece) (place n m : ℕ) (row wanted : Row68) → main_with.IsSomewhere wanted → filled line_tokens ≡ filled (main_pieces.row_pieces wanted) → StandsIn (main_pieces.row_pieces wanted) place (pieces.Number n)
+    → HasNumber false line_tokens place n
+main_other line_tokens place n m row wanted there same stands =
     let other = there.reached in
     let text : pieces.pieces (main_texts.text_of (main.instruction_of (other.word ∷ other.tail)) there.at) ≡ main_pieces.row_pieces wanted
     = main_trip.own_pieces other.word other.tail there.at (record { low = other.low; entered = other.entered; all = other.all }) ∙ ap main_pieces.row_pieces other.is in (
@@ -150,15 +150,15 @@ filled_part xs ys zs e = filled_both xs ys ∙ ap (λ (l : List Piece). filled x
 filled_front : (xs ys zs : List Piece) → filled xs ≡ filled ys → filled (xs ++ zs) ≡ filled (ys ++ zs)
 filled_front xs ys zs e = filled_both xs zs ∙ ap (λ (l : List Piece). l ++ filled zs) e ∙ sym (filled_both ys zs)
 
--- the pieces in front of the seam with another number
+-- the tokens before the seam with another number
 left_put : (op : Op) (row : Row68) (n : ℕ) → main_allows op row.first n ≡ true → main_left (main_with.first_with n row) ≡ put_all n (main_left row)
 left_put op row n h =
     ap (λ (l : List Piece). main_trip.front row ++ l) (led_with op 32 row.first n h)
     ∙ ap (λ (l : List Piece). l ++ put_all n (main_pieces.led_pieces 32 row.first)) (sym (put_plain n (main_trip.front row) (main_trip.size_plain row)))
     ∙ sym (put_both n (main_trip.front row) (main_pieces.led_pieces 32 row.first))
 
-main_has : (said : List Piece) (place n : ℕ) → IsInRange false said place n → HasNumber false said place n
-main_has said place n (word, tail, at, range) = rw_by (nat_lt place (length (main_left row))) refl allowed
+main_has : (line_tokens : List Piece) (place n : ℕ) → IsInRange false line_tokens place n → HasNumber false line_tokens place n
+main_has line_tokens place n (word, tail, at, range) = rw_by (nat_lt place (length (main_left row))) refl allowed
   where
     row : Row68
     row = main_rows.row_of (main.instruction_of (word ∷ tail)).op at
@@ -178,31 +178,31 @@ main_has said place n (word, tail, at, range) = rw_by (nat_lt place (length (mai
     stands : StandsIn (main_left row ++ main_pieces.led_pieces 44 row.second) place (pieces.Number range.own)
     stands = subst (λ (l : List Piece). StandsIn l place (pieces.Number range.own)) text range.stands
 
-    same : filled said ≡ filled (main_left row ++ main_pieces.led_pieces 44 row.second)
+    same : filled line_tokens ≡ filled (main_left row ++ main_pieces.led_pieces 44 row.second)
     same = range.form.alike ∙ ap filled text
 
-    rw_by : (b : Bool) → nat_lt place (length (main_left row)) ≡ b → main_allows op (if b then row.first else row.second) n ≡ true → HasNumber false said place n
+    rw_by : (b : Bool) → nat_lt place (length (main_left row)) ≡ b → main_allows op (if b then row.first else row.second) n ≡ true → HasNumber false line_tokens place n
     rw_by true low h =
         let wanted = main_with.first_with n row in
         let is : main_pieces.row_pieces wanted ≡ put_all n (main_left row) ++ main_pieces.led_pieces 44 row.second
         = seam wanted ∙ ap (λ (l : List Piece). l ++ main_pieces.led_pieces 44 row.second) (left_put op row n h) in
-        main_other said place n range.own row wanted (main_trip.first_there word tail at n own range.form.address h)
+        main_other line_tokens place n range.own row wanted (main_trip.first_there word tail at n own range.form.address h)
         (same ∙ filled_front (main_left row) (put_all n (main_left row)) (main_pieces.led_pieces 44 row.second) (sym (put_filled n (main_left row))) ∙ ap filled (sym is))
         (subst (λ (l : List Piece). StandsIn l place (pieces.Number n)) (sym is) (first_put (main_left row) (main_pieces.led_pieces 44 row.second) place range.own n low stands))
     rw_by false high h =
         let wanted = main_with.second_with n row in
         let is : main_pieces.row_pieces wanted ≡ main_left row ++ put_all n (main_pieces.led_pieces 44 row.second)
         = seam wanted ∙ ap (λ (l : List Piece). main_left row ++ l) (led_with op 44 row.second n h) in
-        main_other said place n range.own row wanted (main_trip.second_there word tail at n own range.form.address h)
+        main_other line_tokens place n range.own row wanted (main_trip.second_there word tail at n own range.form.address h)
         (same ∙ filled_part (main_left row) (main_pieces.led_pieces 44 row.second) (put_all n (main_pieces.led_pieces 44 row.second)) (sym (put_filled n (main_pieces.led_pieces 44 row.second))) ∙ ap filled (sym is))
         (subst (λ (l : List Piece). StandsIn l place (pieces.Number n)) (sym is) (second_put (main_left row) (main_pieces.led_pieces 44 row.second) place range.own n high stands))
 
 -- ---- both
 
-pub has_in : (z80 : Bool) (said : List Piece) (place n : ℕ) → HasNumber z80 said place n → IsInRange z80 said place n
-has_in true said place n has = sub_in said place n has
-has_in false said place n has = main_in said place n has
+pub has_in : (z80 : Bool) (line_tokens : List Piece) (place n : ℕ) → HasNumber z80 line_tokens place n → IsInRange z80 line_tokens place n
+has_in true line_tokens place n has = sub_in line_tokens place n has
+has_in false line_tokens place n has = main_in line_tokens place n has
 
-pub in_has : (z80 : Bool) (said : List Piece) (place n : ℕ) → IsInRange z80 said place n → HasNumber z80 said place n
-in_has true said place n range = sub_has said place n range
-in_has false said place n range = main_has said place n range
+pub in_has : (z80 : Bool) (line_tokens : List Piece) (place n : ℕ) → IsInRange z80 line_tokens place n → HasNumber z80 line_tokens place n
+in_has true line_tokens place n range = sub_has line_tokens place n range
+in_has false line_tokens place n range = main_has line_tokens place n range

@@ -18,6 +18,7 @@ use Rattle.md_disasm.specs.Rows68.{Row68, row_of, target}
 use Rattle.asm_m68k.specs.Encoding.{extension}
 use Rattle.asm_m68k.specs.Table.{AreWords, IsInstruction}
 use Rattle.asm_m68k.proofs.Sources.{led_pieces}
+use Rattle.asm_m68k.proofs.Instructions.{target_below}
 use Rattle.md_asm.specs.Contents.{under}
 use Rattle.asm_laws.proofs.Alone68.{filled_row, first_row, is_quick, second_row}
 use Rattle.asm_laws.proofs.Fits.{number_of}
@@ -25,7 +26,6 @@ use Rattle.asm_laws.proofs.Kept68.{decoded_kept, is_branch, made_kept, op_kept}
 use Rattle.asm_laws.proofs.Low68.{append_low, cons_low, extension_low, none_low}
 use Rattle.asm_laws.proofs.Quick68.{all_changed, decoded8, op8, word8}
 use Rattle.asm_laws.proofs.Rows68.{row_kept}
-use Rattle.asm_laws.proofs.Shown68.{target_low}
 
 -- ---- words that decode to this
 
@@ -180,8 +180,8 @@ bra_filled (displacements.Byte by) at = rw byte_4 refl
 bra_filled (displacements.Word by) at = rw word_4 refl
 
 bra_under : (d : Displacement) (at : ℕ) → row_of (ops.Bra (near d)) (under false (target at d)) ≡ row_kept true false (row_of (ops.Bra d) at)
-bra_under (displacements.Byte by) at = rw (byte_under (target at (displacements.Byte by)) (target_low at (displacements.Byte by))) refl
-bra_under (displacements.Word by) at = rw (word_under (target at (displacements.Word by)) (target_low at (displacements.Word by))) refl
+bra_under (displacements.Byte by) at = rw (byte_under (target at (displacements.Byte by)) (target_below at (displacements.Byte by))) refl
+bra_under (displacements.Word by) at = rw (word_under (target at (displacements.Word by)) (target_below at (displacements.Word by))) refl
 
 bra_reached : (w : ℕ) (tail : List ℕ) (at : ℕ) → AreOf rows.Bra w tail → AreReached (made rows.Bra (w ∷ tail)) at
 unfolding made
@@ -207,8 +207,8 @@ bsr_filled (displacements.Byte by) at = rw byte_4 refl
 bsr_filled (displacements.Word by) at = rw word_4 refl
 
 bsr_under : (d : Displacement) (at : ℕ) → row_of (ops.Bsr (near d)) (under false (target at d)) ≡ row_kept true false (row_of (ops.Bsr d) at)
-bsr_under (displacements.Byte by) at = rw (byte_under (target at (displacements.Byte by)) (target_low at (displacements.Byte by))) refl
-bsr_under (displacements.Word by) at = rw (word_under (target at (displacements.Word by)) (target_low at (displacements.Word by))) refl
+bsr_under (displacements.Byte by) at = rw (byte_under (target at (displacements.Byte by)) (target_below at (displacements.Byte by))) refl
+bsr_under (displacements.Word by) at = rw (word_under (target at (displacements.Word by)) (target_below at (displacements.Word by))) refl
 
 bsr_reached : (w : ℕ) (tail : List ℕ) (at : ℕ) → AreOf rows.Bsr w tail → AreReached (made rows.Bsr (w ∷ tail)) at
 unfolding made
@@ -234,8 +234,8 @@ bcc_filled condition (displacements.Byte by) at = rw byte_4 refl
 bcc_filled condition (displacements.Word by) at = rw word_4 refl
 
 bcc_under : (condition : Condition) (d : Displacement) (at : ℕ) → row_of (ops.Bcc condition (near d)) (under false (target at d)) ≡ row_kept true false (row_of (ops.Bcc condition d) at)
-bcc_under condition (displacements.Byte by) at = rw (byte_under (target at (displacements.Byte by)) (target_low at (displacements.Byte by))) refl
-bcc_under condition (displacements.Word by) at = rw (word_under (target at (displacements.Word by)) (target_low at (displacements.Word by))) refl
+bcc_under condition (displacements.Byte by) at = rw (byte_under (target at (displacements.Byte by)) (target_below at (displacements.Byte by))) refl
+bcc_under condition (displacements.Word by) at = rw (word_under (target at (displacements.Word by)) (target_below at (displacements.Word by))) refl
 
 bcc_reached : (w : ℕ) (tail : List ℕ) (at : ℕ) → AreOf rows.Bcc w tail → AreReached (made rows.Bcc (w ∷ tail)) at
 unfolding made
@@ -264,7 +264,7 @@ dbcc_reached w tail at of =
       first = λ n is. cc;
       second = λ n is. let e : target at d ≡ n = cc in
           to_number (row_kept false true (row_of op at)) (target at d) n e
-          (4, reach (record { op = near_op; length = 4 }) (row_kept false true (row_of op at)) (under false (target at d)) 4 own (rw (word_under (target at d) (target_low at d)) refl) refl);
+          (4, reach (record { op = near_op; length = 4 }) (row_kept false true (row_of op at)) (under false (target at d)) 4 own (rw (word_under (target at d) (target_below at d)) refl) refl);
     }
 
 -- ---- each row

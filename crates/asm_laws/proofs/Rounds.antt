@@ -1,25 +1,25 @@
 -- The two rounds on a source of one instruction.
-use Rattle.std.proofs.Common.{◌≡◌, ℕ, zero, suc, ◌+◌, ◌-◌, ◌%◌, ◌<◌, ◌≤◌, Bool, true, false, ◌==◌, List, [], ◌∷◌, ◌++◌, nat_lt, nat_le, length, take, max, append-nil, refl, ap, ◌∙◌, sym, arith, codes, Some, None}
+use Rattle.std.proofs.Common.{◌≡◌, ℕ, zero, suc, ◌+◌, ◌-◌, ◌%◌, ◌<◌, ◌≤◌, Bool, true, false, ◌==◌, List, [], ◌∷◌, ◌++◌, nat_lt, nat_le, length, take, max, append-nil, refl, ap, ◌∙◌, sym, arith, codes, None}
 use Rattle.std.proofs.lemmas.Bool.Decides.{nat_tests}
 use Rattle.md_disasm.specs.Digits.{eight_digits, four_digits, marked_long, marked_word}
 use Rattle.md_asm_text.specs.Pieces as pieces
-use Rattle.md_asm_text.specs.Pieces.{Piece, every, is_name, is_worded, opened, split}
+use Rattle.md_asm_text.specs.Pieces.{Piece, is_name, is_worded, opened, split}
 use Rattle.md_asm_text.proofs.Splits.{mark_split, name_opens, number_4, number_8, word_split}
-use Rattle.md_asm_text.specs.Bodies.{told}
+use Rattle.md_asm_text.specs.Bodies.{directive_of}
 use Rattle.md_asm_text.specs.Lines.{Line, line_of}
 use Rattle.md_asm_text.specs.Texts.{has, lines}
 use Rattle.md_asm_text.specs.declared.body.Body.{Body}
 use Rattle.md_asm_text.specs.declared.body.Body.TheVariants as bodies
-use Rattle.md_asm.specs.Codes.{code}
-use Rattle.md_asm.specs.Contents.{Good, misfits, settled_line}
-use Rattle.md_asm.specs.Numbers.{Names, filled, has_name, resolved}
+use Rattle.md_asm.specs.Contents.{Good, settled_line}
+use Rattle.md_asm.specs.Numbers.{Names, resolved}
 use Rattle.md_asm.specs.Assembly.{Done, assembly, places_of, second}
-use Rattle.md_asm.specs.Places.{any_written, blank, put}
+use Rattle.md_asm.specs.Places.{any_written, blank, image_limit, put}
 use Rattle.md_asm.proofs.Slots.{resolved_plain}
 use Rattle.md_asm.specs.Rounds.{On, behind, line_step, round_one, round_two, start}
 use Rattle.asm_laws.specs.Sources.{main_source, sub_source}
 use Rattle.asm_laws.proofs.Line.{instruction_line, line_is}
 use Rattle.asm_laws.proofs.Solid.{IsText, eight_solid, four_solid, has_none, text_more, text_solid}
+use Rattle.asm_laws.proofs.Coded.{IsCoded}
 
 -- ---- the lines of a source
 
@@ -68,7 +68,7 @@ org_pieces at h =
 
 cpu_pieces : (at : ℕ) → at < 65536
     → pieces.pieces (cpu_line at) ≡ pieces.Word (codes "cpu") ∷ pieces.Mark 32 ∷ pieces.Name (codes "z80") ∷ pieces.Mark 32 ∷ pieces.Number at ∷ []
-unfolding marked_word is_worded is_name pieces.told split
+unfolding marked_word is_worded is_name pieces.token_of split
 cpu_pieces at h =
     ap (opened []) (append-nil (codes "cpu z80 $" ++ four_digits at))
     ∙ name_opens (codes "cpu") (32 ∷ 122 ∷ 56 ∷ 48 ∷ 32 ∷ 36 ∷ four_digits at) refl refl
@@ -81,12 +81,12 @@ abbrev pub plain_line : List ℕ → Body → Line
 plain_line text body = record { label = None; text = text; body = body }
 
 pub org_is : (at : ℕ) → at < 4294967296 → line_of (org_line at) ≡ plain_line (org_line at) (bodies.Org at)
-unfolding told
-org_is at h = line_is (org_line at) (bodies.Org at) (org_text at) (ap told (org_pieces at h))
+unfolding directive_of
+org_is at h = line_is (org_line at) (bodies.Org at) (org_text at) (ap directive_of (org_pieces at h))
 
 cpu_is : (at : ℕ) → at < 65536 → line_of (cpu_line at) ≡ plain_line (cpu_line at) (bodies.Sub at)
-unfolding told
-cpu_is at h = line_is (cpu_line at) (bodies.Sub at) (cpu_text at) (ap told (cpu_pieces at h))
+unfolding directive_of
+cpu_is at h = line_is (cpu_line at) (bodies.Sub at) (cpu_text at) (ap directive_of (cpu_pieces at h))
 
 -- ---- the first line
 
@@ -104,32 +104,23 @@ pub none_written : (long place : ℕ) → any_written (λ other. false) place lo
 none_written zero place = refl
 none_written (suc long) place = none_written long (place + 1)
 
--- what the pieces of an instruction come to at an address
-pub record IsCoded (sub : Bool) (said : List Piece) (at : ℕ) (bytes : List ℕ) : Type 0 where
-  pub other : List ℕ
-  pub sized : code sub (filled said) 4 ≡ Some other
-  pub long : length other ≡ length bytes
-  pub fits : misfits sub said 0 said ≡ false
-  pub plain : has_name said ≡ false
-  pub own : code sub said at ≡ Some bytes
-
 pub max_zero : (n : ℕ) → max 0 n ≡ n
 max_zero n = omega arith
 
 max_both : (n : ℕ) → max 0 (0 + n) ≡ n
 max_both n = omega arith
 
-pub small : (at long : ℕ) → at + long ≤ 4194304 → nat_lt 4194304 (at + long) ≡ false
-small at long h = cases (nat_lt 4194304 (at + long)) refl
+pub small : (at long : ℕ) → at + long ≤ image_limit → nat_lt image_limit (at + long) ≡ false
+small at long h = cases (nat_lt image_limit (at + long)) refl
   where
-    cases : (b : Bool) → nat_lt 4194304 (at + long) ≡ b → b ≡ false
+    cases : (b : Bool) → nat_lt image_limit (at + long) ≡ b → b ≡ false
     cases true is = absurd (grind (arith, nat_tests))
     cases false is = refl
 
 pub even : (at : ℕ) → at % 2 ≡ 0 → (at % 2 == 1) ≡ false
 even at h = rw h refl
 
-main_step : (first text : List ℕ) (at : ℕ) (bytes : List ℕ) → IsCoded false (pieces.pieces text) at bytes → at % 2 ≡ 0 → at + length bytes ≤ 4194304
+main_step : (first text : List ℕ) (at : ℕ) (bytes : List ℕ) → IsCoded false (pieces.pieces text) at bytes → at % 2 ≡ 0 → at + length bytes ≤ image_limit
     → line_step (behind start 1 (plain_line first (bodies.Org at)) 0) 2 (instruction_line text) ≡ On (behind (behind start 1 (plain_line first (bodies.Org at)) 0) 2 (instruction_line text) (length bytes))
 main_step first text at bytes coded e h =
     rw (coded.sized, coded.long, coded.fits, even at e, none_written (length bytes) at, small at (length bytes) h) refl
@@ -148,15 +139,15 @@ same_long n = cases (n == n) refl
     cases true is = refl
     cases false is = absurd (grind (arith, nat_tests))
 
-settled : (sub : Bool) (names : Names) (said : List Piece) (at : ℕ) (bytes : List ℕ) → IsCoded sub said at bytes
-    → settled_line sub bodies.Instruction (length bytes) (resolved names said) at ≡ Good bytes
-settled sub names said at bytes coded =
-    rw (resolved_plain names said coded.plain, coded.plain, coded.fits, coded.own, same_long (length bytes)) refl
+settled : (sub : Bool) (names : Names) (line_tokens : List Piece) (at : ℕ) (bytes : List ℕ) → IsCoded sub line_tokens at bytes
+    → settled_line sub bodies.Instruction (length bytes) (resolved names line_tokens) at ≡ Good bytes
+settled sub names line_tokens at bytes coded =
+    rw (resolved_plain names line_tokens coded.plain, coded.plain, coded.fits, coded.own, same_long (length bytes)) refl
 
 -- ---- the source
 
 pub main_done : (text : List ℕ) (at : ℕ) (bytes : List ℕ) → IsText text → line_of text ≡ instruction_line text → IsCoded false (pieces.pieces text) at bytes
-    → at % 2 ≡ 0 → at + length bytes ≤ 4194304
+    → at % 2 ≡ 0 → at + length bytes ≤ image_limit
     → assembly (main_source at text) ≡ Done (take (at + length bytes) (put blank at bytes)) (record { place = at; address = at; z80 = false } ∷ [])
 unfolding assembly round_one round_two places_of
 main_done text at bytes is line coded e h =

@@ -1,4 +1,4 @@
--- The pieces of the 68000's rows, and what they are with 8 for a number.
+-- The tokens of the 68000's rows, and what they are with 8 for a number.
 use Rattle.std.proofs.Common.{◌≡◌, ℕ, ◌==◌, Bool, true, false, List, [], ◌∷◌, ◌++◌, refl, ap, ◌∙◌, Option, Some, None}
 use Rattle.md_word.specs.declared.mode.Mode.{Mode}
 use Rattle.md_word.specs.declared.mode.Mode.TheVariants as modes

@@ -1,35 +1,21 @@
--- The pieces of the Z80's rows, and what they are with 8 for a number.
-use Rattle.std.proofs.Common.{◌≡◌, ℕ, Bool, true, false, not, ◌&&◌, ◌||◌, List, [], ◌∷◌, ◌++◌, append-nil, refl, ap, ◌∙◌, codes, if◌then◌else◌, None}
+-- The tokens of the Z80's rows, and what they are with 8 for a number.
+use Rattle.std.proofs.Common.{◌≡◌, ℕ, Bool, true, false, not, ◌&&◌, ◌||◌, List, [], ◌∷◌, ◌++◌, append-nil, refl, ap, ◌∙◌, codes, None}
 use Rattle.std.proofs.lemmas.Bool.{and_parts}
 use Rattle.z80_decode.specs.declared.place8.Place8.{Place8}
 use Rattle.z80_decode.specs.declared.place8.Place8.TheVariants as places
-use Rattle.md_disasm.specs.Operands80.{operand_text}
 use Rattle.md_disasm.specs.Rows80.{Row80}
 use Rattle.md_disasm.specs.Texts80.{led, row_text}
 use Rattle.md_disasm.specs.declared.operand80.Operand80.{Operand80}
 use Rattle.md_disasm.specs.declared.operand80.Operand80.TheVariants as operands
 use Rattle.md_asm_text.specs.Pieces as pieces
 use Rattle.md_asm_text.specs.Pieces.{Piece, every, is_worded, split}
-use Rattle.md_asm_text.proofs.Splits.{is_end, mark_split}
+use Rattle.md_asm_text.proofs.Splits.{behind, is_end}
 use Rattle.md_asm.specs.Numbers.{filled}
-use Rattle.asm_z80.proofs.Operands.{behind, operand_pieces, operand_split, place_pieces, shown}
-use Rattle.asm_z80.proofs.Sources.{is_none, is_read, led_pieces, row_opens, row_pieces}
+use Rattle.asm_z80.proofs.Operands.{operand_pieces, place_pieces, shown}
+use Rattle.asm_z80.proofs.Sources.{is_none, is_read, led_end, led_pieces, led_split, row_opens, row_pieces}
 use Rattle.asm_laws.proofs.Fits.{filled_both, is_single, number_of}
 
--- ---- a row falls into its pieces
-
-pub led_by : (mark : List ℕ) (o : Operand80) → led mark o ≡ (if is_none o then [] else mark ++ operand_text o)
-led_by mark operands.Nothing = refl
-led_by mark o = refl
-
-led_split : (b : Bool) (c : ℕ) (o : Operand80) (e : List ℕ) → is_none o ≡ b → is_worded c ≡ false → shown o ≡ true → is_end e ≡ true
-    → split [] (led (c ∷ []) o ++ e) ≡ led_pieces c o ++ split [] e
-led_split true c o e none is h ends = rw (led_by (c ∷ []) o, none) refl
-led_split false c o e none is h ends = rw (led_by (c ∷ []) o, none) (mark_split c (operand_text o ++ e) is ∙ behind _ _ _ (operand_split o e h ends))
-
-led_end : (b : Bool) (c : ℕ) (o : Operand80) (e : List ℕ) → is_none o ≡ b → is_worded c ≡ false → is_end e ≡ true → is_end (led (c ∷ []) o ++ e) ≡ true
-led_end true c o e none is ends = rw (led_by (c ∷ []) o, none) ends
-led_end false c o e none is ends = rw (led_by (c ∷ []) o, none, is) refl
+-- ---- a row falls into its tokens
 
 pub row_split : (row : Row80) → every is_worded row.name ≡ true → shown row.first ≡ true → shown row.second ≡ true → pieces.pieces (row_text row) ≡ row_pieces row
 unfolding is_worded split

@@ -28,7 +28,7 @@ use Rattle.asm_laws.proofs.Texts as main_laws
 use Rattle.asm_laws.specs.Lines.{AreSaid, IsKept, IsSaid, IsWritten, SaysLines}
 use Rattle.asm_laws.specs.Places.{bytes_from, text_at, word_at, words_from}
 
--- ---- the laws of what pieces are assembled to
+-- ---- the laws of what tokens are assembled to
 
 pub record Laws : Type 0 where
   pub main_again : (word : ℕ) (tail : List ℕ) (at : ℕ) → word < 65536 → IsInstruction (nested word) → AreWords (word ∷ tail) → at < 4294967296
@@ -37,10 +37,10 @@ pub record Laws : Type 0 where
   pub sub_again : (bytes : List ℕ) (at : ℕ) → AreBytes bytes → at < 65536 → is_db (sub.instruction_of bytes).op ≡ false
       → (found : List ℕ) × (sub_code (pieces (sub_texts.text_of (sub.instruction_of bytes) at)) at ≡ Some found)
       × ((rest : List ℕ) → AreBytes rest → sub.instruction_of (found ++ rest) ≡ sub.instruction_of bytes)
-  pub main_least : (said : List Piece) (words : List ℕ) (at : ℕ) → AreWords words → at < 4294967296 → main_code said at ≡ Some words → AreLeast words said at
-  pub sub_best : (said : List Piece) (bytes : List ℕ) (at : ℕ) → AreBytes bytes → at < 65536 → sub_code said at ≡ Some bytes → AreChosen bytes said at
+  pub main_least : (line_tokens : List Piece) (words : List ℕ) (at : ℕ) → AreWords words → at < 4294967296 → main_code line_tokens at ≡ Some words → AreLeast words line_tokens at
+  pub sub_best : (line_tokens : List Piece) (bytes : List ℕ) (at : ℕ) → AreBytes bytes → at < 65536 → sub_code line_tokens at ≡ Some bytes → AreChosen bytes line_tokens at
 
--- ---- what an instruction comes to is what is found for it
+-- ---- what an instruction results in is what is found for it
 
 sized_is : (long : ℕ) (own bytes : List ℕ) (b : Bool) → (if b then Good own else Far) ≡ Good bytes → own ≡ bytes
 sized_is long own bytes true is = cc
@@ -56,18 +56,18 @@ chosen true c long found bytes is = cc
 chosen false true long found bytes is = cc
 chosen false false long found bytes is = sized_by long found bytes is
 
-code_of : (z80 : Bool) (body : Body) (long : ℕ) (said : List Piece) (at : ℕ) (bytes : List ℕ) → is_instruction body ≡ true
-    → settled_line z80 body long said at ≡ Good bytes → code z80 said at ≡ Some bytes
-code_of z80 bodies.Instruction long said at bytes instruction is = chosen (has_name said) (is_unfit z80 bodies.Instruction said) long (code z80 said at) bytes is
-code_of z80 bodies.Words long said at bytes instruction is = cc
-code_of z80 bodies.Bytes long said at bytes instruction is = cc
-code_of z80 bodies.Nothing long said at bytes instruction is = cc
-code_of z80 (bodies.Org place) long said at bytes instruction is = cc
-code_of z80 bodies.Main long said at bytes instruction is = cc
-code_of z80 (bodies.Sub n) long said at bytes instruction is = cc
-code_of z80 bodies.Bad long said at bytes instruction is = cc
+code_of : (z80 : Bool) (body : Body) (long : ℕ) (line_tokens : List Piece) (at : ℕ) (bytes : List ℕ) → is_instruction body ≡ true
+    → settled_line z80 body long line_tokens at ≡ Good bytes → code z80 line_tokens at ≡ Some bytes
+code_of z80 bodies.Instruction long line_tokens at bytes instruction is = chosen (has_name line_tokens) (is_unfit z80 bodies.Instruction line_tokens) long (code z80 line_tokens at) bytes is
+code_of z80 bodies.Words long line_tokens at bytes instruction is = cc
+code_of z80 bodies.Bytes long line_tokens at bytes instruction is = cc
+code_of z80 bodies.Nothing long line_tokens at bytes instruction is = cc
+code_of z80 (bodies.Org place) long line_tokens at bytes instruction is = cc
+code_of z80 bodies.Main long line_tokens at bytes instruction is = cc
+code_of z80 (bodies.Sub n) long line_tokens at bytes instruction is = cc
+code_of z80 bodies.Bad long line_tokens at bytes instruction is = cc
 
--- ---- bytes that stand in an image
+-- ---- bytes that are in an image
 
 pub stand_bytes : (image : List ℕ) (place : ℕ) (bytes : List ℕ) → AreBytes image → StandsAt image place bytes → AreBytes bytes
 stand_bytes image place bytes all stands k = elim (cases_lt k (length bytes)) [
@@ -78,7 +78,7 @@ stand_bytes image place bytes all stands k = elim (cases_lt k (length bytes)) [
 first_of : (image : List ℕ) (place a : ℕ) (more : List ℕ) → StandsAt image place (a ∷ more) → slice_index image place ≡ a
 first_of image place a more stands = ap (λ (n : ℕ). get_or image n 0) (sym (add-zero place)) ∙ stands 0 (omega arith)
 
--- what is read at a place begins with the bytes that stand there
+-- what is read at a place begins with the bytes that are there
 record Begins (read bytes : List ℕ) : Type 0 where
   rest : List ℕ
   whole : read ≡ bytes ++ rest
@@ -111,7 +111,7 @@ read_bytes image place all (suc (suc (suc (suc k)))) = omega arith
 rest_bytes : (bytes rest : List ℕ) → AreBytes (bytes ++ rest) → AreBytes rest
 rest_bytes bytes rest all k = let here = all (length bytes + k) in let e = get_or-append-add bytes rest k 0 in omega (arith, here, e)
 
--- ---- words that stand in an image
+-- ---- words that are in an image
 
 -- bytes of words that are bytes are those of words
 pub words_are : (words : List ℕ) → AreBytes (in_bytes words) → AreWords words
@@ -179,50 +179,50 @@ mapped (Some words) bytes is = (words, refl, cc)
 address_stays : (at : ℕ) → at < 65536 → at % 65536 ≡ at
 address_stays at below = omega arith
 
-said_by : (z80 : Bool) (image : List ℕ) (place at : ℕ) (said : List Piece) (bytes : List ℕ) → AreBytes image → IsAddress z80 at → StandsAt image place bytes
-    → code z80 said at ≡ Some bytes → pieces (text_at z80 image place at) ≡ said
-said_by true image place at said bytes all below stands is =
+said_by : (z80 : Bool) (image : List ℕ) (place at : ℕ) (line_tokens : List Piece) (bytes : List ℕ) → AreBytes image → IsAddress z80 at → StandsAt image place bytes
+    → code z80 line_tokens at ≡ Some bytes → pieces (text_at z80 image place at) ≡ line_tokens
+said_by true image place at line_tokens bytes all below stands is =
     let own = stand_bytes image place bytes all stands in
-    let begins = bytes_begin image place bytes (sub_laws.few said bytes at own below is) stands in
+    let begins = bytes_begin image place bytes (sub_laws.few line_tokens bytes at own below is) stands in
     let rest = rest_bytes bytes begins.rest (subst (λ (l : List ℕ). AreBytes l) begins.whole (read_bytes image place all)) in
     ap (λ (l : List ℕ). pieces (sub_texts.text_of (sub.instruction_of l) (at % 65536))) begins.whole
     ∙ ap (λ (n : ℕ). pieces (sub_texts.text_of (sub.instruction_of (bytes ++ begins.rest)) n)) (address_stays at below)
-    ∙ sub_laws.keeps_text said bytes begins.rest at own rest below is
-said_by false image place at said bytes all below stands is =
-    let found = mapped (main_code said at) bytes is in
+    ∙ sub_laws.keeps_text line_tokens bytes begins.rest at own rest below is
+said_by false image place at line_tokens bytes all below stands is =
+    let found = mapped (main_code line_tokens at) bytes is in
     let stood : StandsAt image place (in_bytes found.0) = subst (λ (l : List ℕ). StandsAt image place l) found.2 stands in
     let own = words_are found.0 (stand_bytes image place (in_bytes found.0) all stood) in
-    let begins = words_begin image place found.0 (main_laws.few said found.0 at found.1) stood in
+    let begins = words_begin image place found.0 (main_laws.few line_tokens found.0 at found.1) stood in
     ap (λ (l : List ℕ). pieces (main_texts.text_of (main.instruction_of l) at)) begins.whole
-    ∙ main_laws.keeps_text said found.0 begins.rest at own below found.1
+    ∙ main_laws.keeps_text line_tokens found.0 begins.rest at own below found.1
 
 one_found : (found : Option (List ℕ)) (own other : List ℕ) → found ≡ Some own → found ≡ Some other → own ≡ other
 one_found found own other is too = cc
 
-kept_by : Laws → (z80 : Bool) (image : List ℕ) (place at : ℕ) (said : List Piece) (bytes : List ℕ) → AreBytes image → IsAddress z80 at → StandsAt image place bytes
-    → code z80 said at ≡ Some bytes → IsKept z80 image place said at
-kept_by laws true image place at said bytes all below stands is = λ other others none text.
+kept_by : Laws → (z80 : Bool) (image : List ℕ) (place at : ℕ) (line_tokens : List Piece) (bytes : List ℕ) → AreBytes image → IsAddress z80 at → StandsAt image place bytes
+    → code z80 line_tokens at ≡ Some bytes → IsKept z80 image place line_tokens at
+kept_by laws true image place at line_tokens bytes all below stands is = λ other others none text.
     let own = stand_bytes image place bytes all stands in
-    let begins = bytes_begin image place bytes (sub_laws.few said bytes at own below is) stands in
+    let begins = bytes_begin image place bytes (sub_laws.few line_tokens bytes at own below is) stands in
     let rest = rest_bytes bytes begins.rest (subst (λ (l : List ℕ). AreBytes l) begins.whole (read_bytes image place all)) in
     let again = laws.sub_again other at others below none in
-    let same : bytes ≡ again.0 = one_found (sub_code said at) bytes again.0 is (ap (λ (s : List Piece). sub_code s at) (sym text) ∙ again.1) in
+    let same : bytes ≡ again.0 = one_found (sub_code line_tokens at) bytes again.0 is (ap (λ (s : List Piece). sub_code s at) (sym text) ∙ again.1) in
     ap sub.instruction_of begins.whole ∙ ap (λ (l : List ℕ). sub.instruction_of (l ++ begins.rest)) same ∙ again.2 begins.rest rest
-kept_by laws false image place at said bytes all below stands is = λ word tail low entered words text.
-    let found = mapped (main_code said at) bytes is in
+kept_by laws false image place at line_tokens bytes all below stands is = λ word tail low entered words text.
+    let found = mapped (main_code line_tokens at) bytes is in
     let stood : StandsAt image place (in_bytes found.0) = subst (λ (l : List ℕ). StandsAt image place l) found.2 stands in
-    let begins = words_begin image place found.0 (main_laws.few said found.0 at found.1) stood in
+    let begins = words_begin image place found.0 (main_laws.few line_tokens found.0 at found.1) stood in
     let again = laws.main_again word tail at low entered words below in
-    let same : found.0 ≡ again.0 = one_found (main_code said at) found.0 again.0 found.1 (ap (λ (s : List Piece). main_code s at) (sym text) ∙ again.1) in
+    let same : found.0 ≡ again.0 = one_found (main_code line_tokens at) found.0 again.0 found.1 (ap (λ (s : List Piece). main_code s at) (sym text) ∙ again.1) in
     ap main.instruction_of begins.whole ∙ ap (λ (l : List ℕ). main.instruction_of (l ++ begins.rest)) same ∙ again.2 begins.rest
 
-written_by : Laws → (z80 : Bool) (image : List ℕ) (place at : ℕ) (said : List Piece) (bytes : List ℕ) → AreBytes image → IsAddress z80 at → StandsAt image place bytes
-    → code z80 said at ≡ Some bytes → IsWritten z80 bytes said at
-written_by laws true image place at said bytes all below stands is = laws.sub_best said bytes at (stand_bytes image place bytes all stands) below is
-written_by laws false image place at said bytes all below stands is =
-    let found = mapped (main_code said at) bytes is in
+written_by : Laws → (z80 : Bool) (image : List ℕ) (place at : ℕ) (line_tokens : List Piece) (bytes : List ℕ) → AreBytes image → IsAddress z80 at → StandsAt image place bytes
+    → code z80 line_tokens at ≡ Some bytes → IsWritten z80 bytes line_tokens at
+written_by laws true image place at line_tokens bytes all below stands is = laws.sub_best line_tokens bytes at (stand_bytes image place bytes all stands) below is
+written_by laws false image place at line_tokens bytes all below stands is =
+    let found = mapped (main_code line_tokens at) bytes is in
     let stood : StandsAt image place (in_bytes found.0) = subst (λ (l : List ℕ). StandsAt image place l) found.2 stands in
-    (found.0, found.2, laws.main_least said found.0 at (words_are found.0 (stand_bytes image place (in_bytes found.0) all stood)) below found.1)
+    (found.0, found.2, laws.main_least line_tokens found.0 at (words_are found.0 (stand_bytes image place (in_bytes found.0) all stood)) below found.1)
 
 slot_said : Laws → (image : List ℕ) (names : Names) (slot : Slot) → AreBytes image → IsHeld image names slot → is_instruction slot.body ≡ true → IsSaid image names slot
 slot_said laws image names slot all is instruction =
@@ -244,5 +244,5 @@ lines_said laws source image lines all is =
       round = holds.round;
       read = holds.read;
       places = holds.places;
-      said = slots_said laws image holds.round.names holds.round.slots all holds.held;
+      round_trips = slots_said laws image holds.round.names holds.round.slots all holds.held;
     }

@@ -6,7 +6,7 @@ use Rattle.std.proofs.lemmas.List.{reverse-append, reverse-reverse}
 use Rattle.std.specs.Fmt.{digit_glyph}
 use Rattle.md_disasm.specs.Digits.{one_digit, two_digits, four_digits, eight_digits}
 use Rattle.md_asm_text.specs.Pieces.{every, is_hexadecimal}
-use Rattle.md_asm_text.proofs.Splits.{hexadecimal}
+use Rattle.md_asm_text.proofs.Splits.{every_both, hexadecimal}
 use Rattle.md_asm_text.specs.Texts.{before, cut_back, has, is_blank, unblanked}
 
 -- no blank, no line feed, no colon and no semicolon
@@ -34,12 +34,6 @@ pub record IsText (text : List ℕ) : Type 0 where
 
 clean_of : (c : ℕ) → is_solid c ≡ true → is_clean c ≡ true
 clean_of c h = rw h refl
-
-pub every_both : (test : ℕ → Bool) (xs ys : List ℕ) → every test xs ≡ true → every test ys ≡ true → every test (xs ++ ys) ≡ true
-every_both test [] ys h k = k
-every_both test (x ∷ xs) ys h k =
-    let parts = and_parts (test x) (every test xs) h in
-    rw (parts.0, every_both test xs ys parts.1 k) refl
 
 pub all_clean : (xs : List ℕ) → every is_solid xs ≡ true → every is_clean xs ≡ true
 all_clean [] h = refl

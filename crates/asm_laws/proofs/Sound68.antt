@@ -1,4 +1,4 @@
--- What is read of pieces of the 68000 has registers that there are, and addresses and lists of their size.
+-- What is read of tokens of the 68000 has registers that there are, and addresses and lists of their size.
 use Rattle.std.proofs.Common.{ℕ, ◌+◌, ◌%◌, ◌<◌, ◌==◌, Bool, true, false, not, ◌&&◌, List, [], ◌∷◌, arith, if◌then◌else◌, Option, Some, None}
 use Rattle.md_word.specs.declared.size.Size.{Size}
 use Rattle.md_asm_text.specs.Operands.{opens, operands_of, is_comma}
@@ -121,7 +121,7 @@ operand_sound (pieces.Number n ∷ p ∷ ps) h = behind_sound n ps (h.0)
 operand_sound (pieces.Name name ∷ ps) h = marked_sound ps
 operand_sound (pieces.Mark c ∷ ps) h = marked_sound ps
 
--- one piece more in front
+-- one token more at the start
 pub long_more : (p : Piece) (ps rest : List Piece) → AreLongs (p ∷ rest) → AreLongs ps → AreLongs (p ∷ ps)
 long_more (pieces.Number n) ps rest h k = (h.0, k)
 long_more (pieces.Word word) ps rest h k = k
@@ -175,7 +175,7 @@ sized_source stem (pieces.Word word ∷ ps) h = operands_sound stem None (pieces
 sized_source stem (pieces.Number n ∷ ps) h = operands_sound stem None (pieces.Number n ∷ ps) h
 sized_source stem (pieces.Name name ∷ ps) h = operands_sound stem None (pieces.Name name ∷ ps) h
 
-pub read_sound : (said : List Piece) → AreLongs said → IsSource68 (read_source said)
+pub read_sound : (line_tokens : List Piece) → AreLongs line_tokens → IsSource68 (read_source line_tokens)
 unfolding read_source
 read_sound [] h = operands_sound [] None [] tt
 read_sound (pieces.Word stem ∷ ps) h = sized_source stem ps h

@@ -1,4 +1,4 @@
--- The bytes of what bytes of the Z80 decode to are these, or those that stand for them: for each page by computing
+-- The bytes of what bytes of the Z80 decode to are these, or the chosen ones of the same text: for each page by computing
 -- both for all opcodes, whatever the operands are.
 use Rattle.std.proofs.Common.{◌≡◌, ◌==◌, ◌⊎◌, inl, inr, ℕ, ◌+◌, ◌*◌, ◌/◌, ◌%◌, ◌<◌, ◌≤◌, Bool, true, false, cond, not, List, [], ◌∷◌, length, map, take, refl, ap, ◌∙◌, sym, subst, arith}
 use Rattle.std.specs.Prelude.{◌||◌, ◌&&◌, nat_lt, slice_index}
@@ -56,9 +56,9 @@ codes_iy : (b2 b3 : ℕ) → b2 < 256 → map (if_named (λ w. own (by_opcode in
 unfolding range place_of pair_of stacked_of condition_of bit_of arithmetic accumulator relative_jumps pair_loads memory_loads pair_steps step number_loads low_group loads returns jumps calls control by_opcode low_names_hl names_hl prefixes opcode_of operands encoded
 codes_iy b2 b3 h = rw (low_byte b2 b3 h, high_byte b2 b3 h) refl
 
--- ---- behind DD CB d and FD CB d
+-- ---- after DD CB d and FD CB d
 
--- the code that stands for one of (HL)
+-- the code in place of one of (HL)
 abbrev ix_code : ℕ → ℕ → ℕ
 ix_code b2 w = opcode_of (bits w (memory_of indexes.Ix b2))
 

@@ -15,7 +15,7 @@ use Rattle.asm_z80.specs.Instruction.{is_db}
 use Rattle.asm_z80.proofs.Judged.{meant_again, said_again, tried_again, tried_zero}
 use Rattle.asm_z80.proofs.Lengths.{decoded_few, encoded_long}
 use Rattle.md_asm.specs.Codes.{say_bytes, sub_code}
-use Rattle.md_asm.proofs.Told.{sub_said}
+use Rattle.md_asm.proofs.Checks.{sub_said}
 use Rattle.asm_laws.proofs.Bytes.{filled_up, padded_bytes}
 use Rattle.asm_laws.proofs.Texts.{let_through}
 
@@ -40,37 +40,37 @@ pub assembled_again : (bytes : List ℕ) (at : ℕ) → AreBytes bytes → at < 
     → (found : List ℕ) × (sub_code (pieces (text_of (instruction_of bytes) at)) at ≡ Some found)
     × ((rest : List ℕ) → AreBytes rest → instruction_of (found ++ rest) ≡ instruction_of bytes)
 assembled_again bytes at h a none =
-    let said = pieces (text_of (instruction_of bytes) at) in (
-      tried said at,
-      sub_said (tried said at) said at refl (ap (λ (d : Decoded80). pieces (text_of d at)) (filled_again bytes at h a none)),
+    let line_tokens = pieces (text_of (instruction_of bytes) at) in (
+      tried line_tokens at,
+      sub_said (tried line_tokens at) line_tokens at refl (ap (λ (d : Decoded80). pieces (text_of d at)) (filled_again bytes at h a none)),
       λ rest k. tried_again bytes rest at h k a none,
     )
 
--- ---- what is found for pieces
+-- ---- what is found for tokens
 
--- what is found is what is tried, and says the pieces where 0 stands behind it
-pub record IsFound (said : List Piece) (bytes : List ℕ) (at : ℕ) : Type 0 where
-  pub own : bytes ≡ tried said at
-  pub text : pieces (text_of (instruction_of (padded bytes)) at) ≡ said
+-- what is found is what is tried, and says the tokens with 0 after it
+pub record IsFound (line_tokens : List Piece) (bytes : List ℕ) (at : ℕ) : Type 0 where
+  pub own : bytes ≡ tried line_tokens at
+  pub text : pieces (text_of (instruction_of (padded bytes)) at) ≡ line_tokens
 
-pub found : (said : List Piece) (bytes : List ℕ) (at : ℕ) → sub_code said at ≡ Some bytes → IsFound said bytes at
+pub found : (line_tokens : List Piece) (bytes : List ℕ) (at : ℕ) → sub_code line_tokens at ≡ Some bytes → IsFound line_tokens bytes at
 unfolding sub_code
-found said bytes at is =
-    let through = let_through (say_bytes (tried said at) said at) (tried said at) bytes is in record {
+found line_tokens bytes at is =
+    let through = let_through (say_bytes (tried line_tokens at) line_tokens at) (tried line_tokens at) bytes is in record {
       own = sym through.1;
       text = ap (λ (l : List ℕ). pieces (text_of (instruction_of (padded l)) at)) (sym through.1)
-          ∙ all_alike_is (pieces (text_of (instruction_of (padded (tried said at))) at)) said through.0;
+          ∙ all_alike_is (pieces (text_of (instruction_of (padded (tried line_tokens at))) at)) line_tokens through.0;
     }
 
-few_by : (said : List Piece) (bytes : List ℕ) (at : ℕ) → AreBytes bytes → at < 65536 → IsFound said bytes at
+few_by : (line_tokens : List Piece) (bytes : List ℕ) (at : ℕ) → AreBytes bytes → at < 65536 → IsFound line_tokens bytes at
     → (b : Bool) → is_db (instruction_of (padded bytes)).op ≡ b → length bytes ≤ 4
-few_by said bytes at h a is true db =
-    let zero : bytes ≡ 0 ∷ [] = is.own ∙ tried_zero (instruction_of (padded bytes)) said at db is.text in
+few_by line_tokens bytes at h a is true db =
+    let zero : bytes ≡ 0 ∷ [] = is.own ∙ tried_zero (instruction_of (padded bytes)) line_tokens at db is.text in
     let one : length bytes ≡ 1 = ap length zero in
     omega (arith, one)
-few_by said bytes at h a is false none =
+few_by line_tokens bytes at h a is false none =
     let all = padded_bytes bytes h in
-    let made : meant (read_source said) at ≡ (instruction_of (padded bytes)).op
+    let made : meant (read_source line_tokens) at ≡ (instruction_of (padded bytes)).op
     = ap (λ (s : List Piece). meant (read_source s) at) (sym is.text) ∙ meant_again (padded bytes) at all a none in
     let same : length bytes ≡ length (encoded (instruction_of (padded bytes)).op) = ap length is.own ∙ ap (λ op. length (encoded op)) made in
     let long = encoded_long (padded bytes) all in
@@ -78,15 +78,15 @@ few_by said bytes at h a is false none =
     omega (arith, same, long, few)
 
 -- it has the text whatever follows it
-pub keeps_text : (said : List Piece) (bytes rest : List ℕ) (at : ℕ) → AreBytes bytes → AreBytes rest → at < 65536 → sub_code said at ≡ Some bytes
-    → pieces (text_of (instruction_of (bytes ++ rest)) at) ≡ said
-keeps_text said bytes rest at h k a is =
-    let own = found said bytes at is in
-    let filled = filled_up bytes (few_by said bytes at h a own _ refl) in
-    let text : pieces (text_of (instruction_of (bytes ++ filled.more)) at) ≡ said
+pub keeps_text : (line_tokens : List Piece) (bytes rest : List ℕ) (at : ℕ) → AreBytes bytes → AreBytes rest → at < 65536 → sub_code line_tokens at ≡ Some bytes
+    → pieces (text_of (instruction_of (bytes ++ rest)) at) ≡ line_tokens
+keeps_text line_tokens bytes rest at h k a is =
+    let own = found line_tokens bytes at is in
+    let filled = filled_up bytes (few_by line_tokens bytes at h a own _ refl) in
+    let text : pieces (text_of (instruction_of (bytes ++ filled.more)) at) ≡ line_tokens
     = ap (λ (l : List ℕ). pieces (text_of (instruction_of l) at)) (sym filled.up) ∙ own.text in
     let all : AreBytes (bytes ++ filled.more) = rw filled.up at (padded_bytes bytes h) in
-    ap (λ (d : Decoded80). pieces (text_of d at)) (said_again bytes filled.more rest said at all k a own.own text) ∙ text
+    ap (λ (d : Decoded80). pieces (text_of d at)) (said_again bytes filled.more rest line_tokens at all k a own.own text) ∙ text
 
-pub few : (said : List Piece) (bytes : List ℕ) (at : ℕ) → AreBytes bytes → at < 65536 → sub_code said at ≡ Some bytes → length bytes ≤ 4
-few said bytes at h a is = few_by said bytes at h a (found said bytes at is) _ refl
+pub few : (line_tokens : List Piece) (bytes : List ℕ) (at : ℕ) → AreBytes bytes → at < 65536 → sub_code line_tokens at ≡ Some bytes → length bytes ≤ 4
+few line_tokens bytes at h a is = few_by line_tokens bytes at h a (found line_tokens bytes at is) _ refl

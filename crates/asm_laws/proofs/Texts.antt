@@ -13,7 +13,7 @@ use Rattle.asm_m68k.specs.Judged.{padded, tried}
 use Rattle.asm_m68k.specs.Table.{AreWords, IsInstruction}
 use Rattle.asm_m68k.proofs.Judged.{said_again, tried_again}
 use Rattle.md_asm.specs.Codes.{main_code, say_words}
-use Rattle.md_asm.proofs.Told.{main_said}
+use Rattle.md_asm.proofs.Checks.{main_said}
 use Rattle.asm_laws.proofs.Directives.{tried_instruction}
 use Rattle.asm_laws.proofs.Lengths.{encoded_few, filled_up, padded_words}
 
@@ -23,74 +23,74 @@ use Rattle.asm_laws.proofs.Lengths.{encoded_few, filled_up, padded_words}
 filled_again : (word : ℕ) (tail : List ℕ) (at : ℕ) → word < 65536 → IsInstruction (nested word) → AreWords (word ∷ tail) → at < 4294967296
     → instruction_of (padded (tried (pieces (text_of (instruction_of (word ∷ tail)) at)) at)) ≡ instruction_of (word ∷ tail)
 filled_again word tail at below is all h =
-    let said = pieces (text_of (instruction_of (word ∷ tail)) at) in
-    let up = filled_up (tried said at) (encoded_few (meant (read_source said) at)) in
+    let line_tokens = pieces (text_of (instruction_of (word ∷ tail)) at) in
+    let up = filled_up (tried line_tokens at) (encoded_few (meant (read_source line_tokens) at)) in
     ap instruction_of up.1 ∙ tried_again word tail up.0 at below is all h
 
 pub assembled_again : (word : ℕ) (tail : List ℕ) (at : ℕ) → word < 65536 → IsInstruction (nested word) → AreWords (word ∷ tail) → at < 4294967296
     → (words : List ℕ) × (main_code (pieces (text_of (instruction_of (word ∷ tail)) at)) at ≡ Some words)
     × ((rest : List ℕ) → instruction_of (words ++ rest) ≡ instruction_of (word ∷ tail))
 assembled_again word tail at below is all h =
-    let said = pieces (text_of (instruction_of (word ∷ tail)) at) in (
-      tried said at,
-      main_said (tried said at) said at refl
+    let line_tokens = pieces (text_of (instruction_of (word ∷ tail)) at) in (
+      tried line_tokens at,
+      main_said (tried line_tokens at) line_tokens at refl
           (ap (λ (op : Decoded). pieces (text_of op at)) (filled_again word tail at below is all h)),
       λ rest. tried_again word tail rest at below is all h,
     )
 
--- ---- what is found for pieces
+-- ---- what is found for tokens
 
 -- what a test lets through
 pub let_through : {X : Type 0} (b : Bool) (own found : X) → (if b then Some own else None) ≡ Some found → (b ≡ true) × (own ≡ found)
 let_through true own found is = (refl, cc)
 let_through false own found is = cc
 
--- what is found is what is tried, and says the pieces where 0 stands behind it
-pub record IsFound (said : List Piece) (words : List ℕ) (at : ℕ) : Type 0 where
-  pub own : words ≡ tried said at
-  pub text : pieces (text_of (instruction_of (padded words)) at) ≡ said
+-- what is found is what is tried, and says the tokens with 0 after it
+pub record IsFound (line_tokens : List Piece) (words : List ℕ) (at : ℕ) : Type 0 where
+  pub own : words ≡ tried line_tokens at
+  pub text : pieces (text_of (instruction_of (padded words)) at) ≡ line_tokens
 
-pub found : (said : List Piece) (words : List ℕ) (at : ℕ) → main_code said at ≡ Some words → IsFound said words at
+pub found : (line_tokens : List Piece) (words : List ℕ) (at : ℕ) → main_code line_tokens at ≡ Some words → IsFound line_tokens words at
 unfolding main_code
-found said words at is =
-    let through = let_through (say_words (tried said at) said at) (tried said at) words is in record {
+found line_tokens words at is =
+    let through = let_through (say_words (tried line_tokens at) line_tokens at) (tried line_tokens at) words is in record {
       own = sym through.1;
       text = ap (λ (l : List ℕ). pieces (text_of (instruction_of (padded l)) at)) (sym through.1)
-          ∙ all_alike_is (pieces (text_of (instruction_of (padded (tried said at))) at)) said through.0;
+          ∙ all_alike_is (pieces (text_of (instruction_of (padded (tried line_tokens at))) at)) line_tokens through.0;
     }
 
-pub few : (said : List Piece) (words : List ℕ) (at : ℕ) → main_code said at ≡ Some words → length words ≤ 5
-few said words at is = rw ((found said words at is).own) (encoded_few (meant (read_source said) at))
+pub few : (line_tokens : List Piece) (words : List ℕ) (at : ℕ) → main_code line_tokens at ≡ Some words → length words ≤ 5
+few line_tokens words at is = rw ((found line_tokens words at is).own) (encoded_few (meant (read_source line_tokens) at))
 
 -- words that are found, filled up with others, decode to an instruction, and to the same whatever follows them
-pub record GoesOn (said : List Piece) (word : ℕ) (tail : List ℕ) (at : ℕ) : Type 0 where
+pub record GoesOn (line_tokens : List Piece) (word : ℕ) (tail : List ℕ) (at : ℕ) : Type 0 where
   pub more : List ℕ
   pub all : AreWords (word ∷ (tail ++ more))
   pub instruction : IsInstruction (nested word)
-  pub own : word ∷ tail ≡ tried said at
-  pub text : pieces (text_of (instruction_of (word ∷ (tail ++ more))) at) ≡ said
+  pub own : word ∷ tail ≡ tried line_tokens at
+  pub text : pieces (text_of (instruction_of (word ∷ (tail ++ more))) at) ≡ line_tokens
   pub same : (rest : List ℕ) → instruction_of (word ∷ (tail ++ rest)) ≡ instruction_of (word ∷ (tail ++ more))
 
-pub going_on : (said : List Piece) (word : ℕ) (tail : List ℕ) (at : ℕ) → AreWords (word ∷ tail) → at < 4294967296 → main_code said at ≡ Some (word ∷ tail) → GoesOn said word tail at
-going_on said word tail at h a is =
-    let own = found said (word ∷ tail) at is in
-    let up = filled_up (word ∷ tail) (few said (word ∷ tail) at is) in
-    let text : pieces (text_of (instruction_of (word ∷ (tail ++ up.0))) at) ≡ said
+pub going_on : (line_tokens : List Piece) (word : ℕ) (tail : List ℕ) (at : ℕ) → AreWords (word ∷ tail) → at < 4294967296 → main_code line_tokens at ≡ Some (word ∷ tail) → GoesOn line_tokens word tail at
+going_on line_tokens word tail at h a is =
+    let own = found line_tokens (word ∷ tail) at is in
+    let up = filled_up (word ∷ tail) (few line_tokens (word ∷ tail) at is) in
+    let text : pieces (text_of (instruction_of (word ∷ (tail ++ up.0))) at) ≡ line_tokens
     = ap (λ (l : List ℕ). pieces (text_of (instruction_of l) at)) (sym up.1) ∙ own.text in
     let all : AreWords (word ∷ (tail ++ up.0)) = rw up.1 at (padded_words (word ∷ tail) h) in
-    let entered = tried_instruction word (tail ++ up.0) said at (h 0) (word ∷ tail) refl own.own text in record {
+    let entered = tried_instruction word (tail ++ up.0) line_tokens at (h 0) (word ∷ tail) refl own.own text in record {
       more = up.0;
       all = all;
       instruction = entered;
       own = own.own;
       text = text;
-      same = λ rest. said_again word tail up.0 rest said at (h 0) entered all a own.own text;
+      same = λ rest. said_again word tail up.0 rest line_tokens at (h 0) entered all a own.own text;
     }
 
 -- it has the text whatever follows it
-pub keeps_text : (said : List Piece) (words rest : List ℕ) (at : ℕ) → AreWords words → at < 4294967296 → main_code said at ≡ Some words
-    → pieces (text_of (instruction_of (words ++ rest)) at) ≡ said
-keeps_text said [] rest at h a is = let own = (found said [] at is).own in cc
-keeps_text said (word ∷ tail) rest at h a is =
-    let there = going_on said word tail at h a is in
+pub keeps_text : (line_tokens : List Piece) (words rest : List ℕ) (at : ℕ) → AreWords words → at < 4294967296 → main_code line_tokens at ≡ Some words
+    → pieces (text_of (instruction_of (words ++ rest)) at) ≡ line_tokens
+keeps_text line_tokens [] rest at h a is = let own = (found line_tokens [] at is).own in cc
+keeps_text line_tokens (word ∷ tail) rest at h a is =
+    let there = going_on line_tokens word tail at h a is in
     ap (λ (d : Decoded). pieces (text_of d at)) (there.same rest) ∙ there.text

@@ -1,4 +1,4 @@
--- The words that are tried for pieces of the 68000 are words.
+-- The words that are tried for tokens of the 68000 are words.
 use Rattle.std.proofs.Common.{ℕ, ◌%◌, ◌<◌, Bool, true, false, List, [], ◌∷◌, arith, if◌then◌else◌}
 use Rattle.std.specs.Str.{bytes_eq}
 use Rattle.md_word.specs.Width.{modulus_of}
@@ -430,11 +430,11 @@ module _ (size : Size) (first second : Form) (f : IsSound first) (s : IsSound se
       by true own rest = own
       by false own rest = rest
 
--- what is tried for pieces whose numbers have 32 bits
-pub tried_words : (said : List Piece) (at : ℕ) → AreLongs said → AreWords (tried said at)
+-- what is tried for tokens whose numbers have 32 bits
+pub tried_words : (line_tokens : List Piece) (at : ℕ) → AreLongs line_tokens → AreWords (tried line_tokens at)
 unfolding meant stem_of
-tried_words said at h =
-    let source = read_sound said h in
-    let whole = stem_whole (written (read_source said).size) (read_source said).first (read_source said).second source.first source.second table (read_source said).stem at
-    (table_whole (written (read_source said).size) (read_source said).first (read_source said).second source.first source.second at) in
-    cons_low (first_word (meant (read_source said) at)) (extension (meant (read_source said) at)) whole.first whole.more
+tried_words line_tokens at h =
+    let source = read_sound line_tokens h in
+    let whole = stem_whole (written (read_source line_tokens).size) (read_source line_tokens).first (read_source line_tokens).second source.first source.second table (read_source line_tokens).stem at
+    (table_whole (written (read_source line_tokens).size) (read_source line_tokens).first (read_source line_tokens).second source.first source.second at) in
+    cons_low (first_word (meant (read_source line_tokens) at)) (extension (meant (read_source line_tokens) at)) whole.first whole.more

@@ -1,4 +1,4 @@
--- The bytes that are tried for pieces are bytes.
+-- The bytes that are tried for tokens are bytes.
 use Rattle.std.proofs.Common.{◌≡◌, ℕ, ◌<◌, Bool, true, false, List, [], ◌∷◌, refl, arith, if◌then◌else◌}
 use Rattle.std.specs.Str.{bytes_eq}
 use Rattle.md_word.specs.declared.bit.Bit.{Bit}
@@ -11,13 +11,14 @@ use Rattle.md_asm_text.specs.Pieces.{Piece}
 use Rattle.asm_z80.specs.Coded80.{AreBytes}
 use Rattle.asm_z80.specs.Encoding80.{arithmetic_code, displaced_code, encoded, index_of_pair, opcode_of, operand_bytes, operands, prefixes}
 use Rattle.asm_z80.proofs.Bytes80.{all_bytes}
+use Rattle.asm_z80.proofs.Law80.{all_are}
 use Rattle.asm_z80.specs.Building as building
 use Rattle.asm_z80.specs.Building.{Entry, built, distance, meant, stem_in, stem_of, table}
 use Rattle.asm_z80.specs.Forms.{Form}
 use Rattle.asm_z80.specs.Judged.{tried}
 use Rattle.asm_z80.specs.Reading.{read_source}
 use Rattle.asm_z80.specs.Words.{bit_of, condition_of, mode_of, special_of}
-use Rattle.asm_laws.proofs.Places80.{IsPlace, all_are, append_bytes, arithmetic_low, bit_low, byte_alone, change_low, changed_low, computed_low, condition_low, cons_byte, displaced_low, extended_prefix, form_place, index_bytes, interrupt_low, load_low, none_byte, pair_low, place_bytes, place_low, prefix_place, special_low, step_low, two_bytes}
+use Rattle.asm_laws.proofs.Places80.{IsPlace, append_bytes, arithmetic_low, bit_low, byte_alone, change_low, changed_low, computed_low, condition_low, cons_byte, displaced_low, extended_prefix, form_place, index_bytes, interrupt_low, load_low, none_byte, pair_low, place_bytes, place_low, prefix_place, special_low, step_low, two_bytes}
 
 -- ---- instructions
 
@@ -322,9 +323,9 @@ module _ (first second : Form) where
       by true own rest = own
       by false own rest = rest
 
--- what is tried for pieces
-pub tried_bytes : (said : List Piece) (at : ℕ) → AreBytes (tried said at)
+-- what is tried for tokens
+pub tried_bytes : (line_tokens : List Piece) (at : ℕ) → AreBytes (tried line_tokens at)
 unfolding meant stem_of
-tried_bytes said at =
-    let source = read_source said in
+tried_bytes line_tokens at =
+    let source = read_source line_tokens in
     stem_whole source.first source.second table source.stem at (table_whole source.first source.second at)

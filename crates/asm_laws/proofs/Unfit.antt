@@ -15,11 +15,11 @@ use Rattle.asm_laws.proofs.Ranges.{in_has}
 
 -- ---- numbers that do not fit
 
--- a piece more stands in front
+-- a token more is at the start
 stands_more : (p : Piece) (ps : List Piece) (place : ℕ) (piece : Piece) → StandsIn ps place piece → StandsIn (p ∷ ps) (place + 1) piece
 stands_more p ps place piece (front, behind, is, long) = (p ∷ front, behind, ap (λ (l : List Piece). p ∷ l) is, (omega (arith, long)))
 
-over_stands : (limit : ℕ) (said : List Piece) → any_over limit said ≡ true → HasOver limit said
+over_stands : (limit : ℕ) (line_tokens : List Piece) → any_over limit line_tokens ≡ true → HasOver limit line_tokens
 unfolding any_over
 over_stands limit [] h = cc
 over_stands limit (pieces.Number n ∷ ps) h = by (nat_le limit n) refl (λ more. over_stands limit ps more)
@@ -37,51 +37,51 @@ over_stands limit (pieces.Name name ∷ ps) h =
 over_stands limit (pieces.Mark c ∷ ps) h =
     let there = over_stands limit ps h in (there.0 + 1, there.1, stands_more (pieces.Mark c) ps there.0 (pieces.Number there.1) there.2, there.3)
 
--- one of a list's pieces is a misfit
+-- one of a list's tokens is a misfit
 abbrev HasMisfit : Bool → List Piece → ℕ → List Piece → Type 0
-HasMisfit z80 said i ps = (place : ℕ) × (n : ℕ) × StandsIn ps place (pieces.Number n) × (misfit z80 said (i + place) (pieces.Number n) ≡ true)
+HasMisfit z80 line_tokens i ps = (place : ℕ) × (n : ℕ) × StandsIn ps place (pieces.Number n) × (misfit z80 line_tokens (i + place) (pieces.Number n) ≡ true)
 
-misfit_more : (z80 : Bool) (said : List Piece) (i : ℕ) (p : Piece) (ps : List Piece) → HasMisfit z80 said (i + 1) ps → HasMisfit z80 said i (p ∷ ps)
-misfit_more z80 said i p ps (place, n, stands, wrong) = (
+misfit_more : (z80 : Bool) (line_tokens : List Piece) (i : ℕ) (p : Piece) (ps : List Piece) → HasMisfit z80 line_tokens (i + 1) ps → HasMisfit z80 line_tokens i (p ∷ ps)
+misfit_more z80 line_tokens i p ps (place, n, stands, wrong) = (
   place + 1,
   n,
   stands_more p ps place (pieces.Number n) stands,
-  ap (λ (k : ℕ). misfit z80 said k (pieces.Number n)) (let e : i + (place + 1) ≡ i + 1 + place = omega arith in e) ∙ wrong,
+  ap (λ (k : ℕ). misfit z80 line_tokens k (pieces.Number n)) (let e : i + (place + 1) ≡ i + 1 + place = omega arith in e) ∙ wrong,
 )
 
-misfit_stands : (z80 : Bool) (said : List Piece) (i : ℕ) (ps : List Piece) → misfits z80 said i ps ≡ true → HasMisfit z80 said i ps
+misfit_stands : (z80 : Bool) (line_tokens : List Piece) (i : ℕ) (ps : List Piece) → misfits z80 line_tokens i ps ≡ true → HasMisfit z80 line_tokens i ps
 unfolding misfits
-misfit_stands z80 said i [] h = cc
-misfit_stands z80 said i (pieces.Number n ∷ ps) h = by (misfit z80 said i (pieces.Number n)) refl (λ more. misfit_stands z80 said (i + 1) ps more)
+misfit_stands z80 line_tokens i [] h = cc
+misfit_stands z80 line_tokens i (pieces.Number n ∷ ps) h = by (misfit z80 line_tokens i (pieces.Number n)) refl (λ more. misfit_stands z80 line_tokens (i + 1) ps more)
   where
-    by : (b : Bool) → misfit z80 said i (pieces.Number n) ≡ b → (misfits z80 said (i + 1) ps ≡ true → HasMisfit z80 said (i + 1) ps) → HasMisfit z80 said i (pieces.Number n ∷ ps)
-    by true is more = (0, n, ([], ps, refl, refl), ap (λ (k : ℕ). misfit z80 said k (pieces.Number n)) (let e : i + 0 ≡ i = omega arith in e) ∙ is)
+    by : (b : Bool) → misfit z80 line_tokens i (pieces.Number n) ≡ b → (misfits z80 line_tokens (i + 1) ps ≡ true → HasMisfit z80 line_tokens (i + 1) ps) → HasMisfit z80 line_tokens i (pieces.Number n ∷ ps)
+    by true is more = (0, n, ([], ps, refl, refl), ap (λ (k : ℕ). misfit z80 line_tokens k (pieces.Number n)) (let e : i + 0 ≡ i = omega arith in e) ∙ is)
     by false is more =
-        let rest : misfits z80 said (i + 1) ps ≡ true = rw is at h in
-        misfit_more z80 said i (pieces.Number n) ps (more rest)
-misfit_stands z80 said i (pieces.Word word ∷ ps) h = misfit_more z80 said i (pieces.Word word) ps (misfit_stands z80 said (i + 1) ps h)
-misfit_stands z80 said i (pieces.Name name ∷ ps) h = misfit_more z80 said i (pieces.Name name) ps (misfit_stands z80 said (i + 1) ps h)
-misfit_stands z80 said i (pieces.Mark c ∷ ps) h = misfit_more z80 said i (pieces.Mark c) ps (misfit_stands z80 said (i + 1) ps h)
+        let rest : misfits z80 line_tokens (i + 1) ps ≡ true = rw is at h in
+        misfit_more z80 line_tokens i (pieces.Number n) ps (more rest)
+misfit_stands z80 line_tokens i (pieces.Word word ∷ ps) h = misfit_more z80 line_tokens i (pieces.Word word) ps (misfit_stands z80 line_tokens (i + 1) ps h)
+misfit_stands z80 line_tokens i (pieces.Name name ∷ ps) h = misfit_more z80 line_tokens i (pieces.Name name) ps (misfit_stands z80 line_tokens (i + 1) ps h)
+misfit_stands z80 line_tokens i (pieces.Mark c ∷ ps) h = misfit_more z80 line_tokens i (pieces.Mark c) ps (misfit_stands z80 line_tokens (i + 1) ps h)
 
 -- no instruction of the form has a misfit
-never : (z80 : Bool) (said : List Piece) (place n : ℕ) → misfit z80 said (0 + place) (pieces.Number n) ≡ true → ¬ HasNumber z80 said place n
-never z80 said place n wrong has =
-    let fits = has_fits z80 said place n has in
-    let same : misfit z80 said (0 + place) (pieces.Number n) ≡ misfit z80 said place (pieces.Number n)
-    = ap (λ (k : ℕ). misfit z80 said k (pieces.Number n)) (let e : 0 + place ≡ place = omega arith in e) in
+never : (z80 : Bool) (line_tokens : List Piece) (place n : ℕ) → misfit z80 line_tokens (0 + place) (pieces.Number n) ≡ true → ¬ HasNumber z80 line_tokens place n
+never z80 line_tokens place n wrong has =
+    let fits = has_fits z80 line_tokens place n has in
+    let same : misfit z80 line_tokens (0 + place) (pieces.Number n) ≡ misfit z80 line_tokens place (pieces.Number n)
+    = ap (λ (k : ℕ). misfit z80 line_tokens k (pieces.Number n)) (let e : 0 + place ≡ place = omega arith in e) in
     let no : true ≡ false = sym wrong ∙ same ∙ fits in cc
 
-pub unfit_is : (z80 : Bool) (body : Body) (said : List Piece) → is_unfit z80 body said ≡ true → IsUnfit z80 body said
-unfit_is z80 (bodies.Sub at) said h = let e : 65536 ≤ at = grind (arith, nat_tests) in e
-unfit_is z80 bodies.Words said h = over_stands 65536 said h
-unfit_is z80 bodies.Bytes said h = over_stands 256 said h
-unfit_is z80 bodies.Instruction said h =
-    let there = misfit_stands z80 said 0 said h in
-    let no = never z80 said there.0 there.1 there.3 in (there.0, there.1, there.2, λ range. no (in_has z80 said there.0 there.1 range), no)
-unfit_is z80 bodies.Bad said h = cc
-unfit_is z80 bodies.Nothing said h = cc
-unfit_is z80 (bodies.Org place) said h = cc
-unfit_is z80 bodies.Main said h = cc
+pub unfit_is : (z80 : Bool) (body : Body) (line_tokens : List Piece) → is_unfit z80 body line_tokens ≡ true → IsUnfit z80 body line_tokens
+unfit_is z80 (bodies.Sub at) line_tokens h = let e : 65536 ≤ at = grind (arith, nat_tests) in e
+unfit_is z80 bodies.Words line_tokens h = over_stands 65536 line_tokens h
+unfit_is z80 bodies.Bytes line_tokens h = over_stands 256 line_tokens h
+unfit_is z80 bodies.Instruction line_tokens h =
+    let there = misfit_stands z80 line_tokens 0 line_tokens h in
+    let no = never z80 line_tokens there.0 there.1 there.3 in (there.0, there.1, there.2, λ range. no (in_has z80 line_tokens there.0 there.1 range), no)
+unfit_is z80 bodies.Bad line_tokens h = cc
+unfit_is z80 bodies.Nothing line_tokens h = cc
+unfit_is z80 (bodies.Org place) line_tokens h = cc
+unfit_is z80 bodies.Main line_tokens h = cc
 
 pub bad_is : (z80 : Bool) (line : Line) → size z80 line.body (pieces.pieces line.text) ≡ None → IsBad z80 line
 bad_is z80 line h = by line.body refl

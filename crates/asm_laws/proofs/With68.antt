@@ -23,7 +23,7 @@ use Rattle.asm_m68k.specs.Table.{AreWords}
 use Rattle.md_asm.specs.Contents.{under}
 use Rattle.asm_laws.specs.Ranges.{main_allows, mode_limit}
 use Rattle.asm_laws.proofs.Among.{at_most, below, no_number}
-use Rattle.asm_laws.proofs.First68.{high_with, low_with, moveq_row, quick_row, trap_row}
+use Rattle.asm_laws.proofs.First68.{high_low, high_with, low_low, low_with, moveq_row, quick_row, trap_row}
 use Rattle.asm_laws.proofs.Low68.{cons_low}
 use Rattle.asm_laws.proofs.Put68.{high_put, high_same, low_put, low_same, mode_few, number_few, number_put, number_same, same_behind, same_front, with_counted}
 use Rattle.asm_laws.proofs.Reach68.{AreOf, IsDecoded, IsReached, bcc_by, bra_by, bsr_by, byte_under, dbcc_decoded, near, own_decoded, reach, word_under}
@@ -43,7 +43,7 @@ pub record IsSomewhere (row : Row68) : Type 0 where
   pub long : ℕ
   pub reached : IsReached row at long
 
--- words behind the same first word
+-- words after the same first word
 there : (row : Row) (w : ℕ) (tail rest : List ℕ) (at : ℕ) (wanted : Row68) → at < 4294967296 → AreOf row w tail → AreWords (w ∷ rest) → row_of (made row (w ∷ rest)).op at ≡ wanted → IsSomewhere wanted
 there row w tail rest at wanted a of all is =
     let own : AreOf row w rest = record { low = of.low; is = of.is; entered = of.entered; all = all } in
@@ -66,7 +66,7 @@ turned_with : (n : ℕ) (mode : Mode) → is_turned (mode_with n mode) ≡ is_tu
 turned_with n (modes.PreDec r) = refl
 turned_with n _ = refl
 
--- ---- a number in front of a mode
+-- ---- a number before a mode
 
 record IsFirstNumber (size : Size) (n w : ℕ) (tail : List ℕ) : Type 0 where
   rest : List ℕ
@@ -104,7 +104,7 @@ mode_behind size n w tail fits all =
       mode = p.is;
     }
 
--- behind one word, whatever the mode's size
+-- after one word, whatever the mode's size
 record IsBehindWord (size : Size) (n w : ℕ) (tail : List ℕ) : Type 0 where
   rest : List ℕ
   all : AreWords (w ∷ rest)
@@ -185,10 +185,6 @@ quick_is : (n w : ℕ) (tail : List ℕ) → w < 65536 → 1 ≤ n → n ≤ 8 �
 unfolding quick high_register
 quick_is n w tail h low high = rw (high_number n w h) (quick_by n (n % 8 == 0) refl low high)
 
--- the low nine bits stay
-low_bits : (n w : ℕ) → w < 65536 → high_with n w % 512 ≡ w % 512
-low_bits n w h = omega arith
-
 same_size : (n w : ℕ) → w < 65536 → high_with n w / 64 % 4 ≡ w / 64 % 4
 same_size n w h = omega arith
 
@@ -204,12 +200,6 @@ same_kind n w h = omega arith
 same_left : (n w : ℕ) → w < 65536 → high_with n w / 256 % 2 ≡ w / 256 % 2
 same_left n w h = omega arith
 
-high_fits : (n w : ℕ) → w < 65536 → high_with n w < 65536
-high_fits n w h = omega arith
-
-low_fits : (n w : ℕ) → w < 65536 → n < 256 → low_with n w < 65536
-low_fits n w h k = omega arith
-
 low_number : (n w : ℕ) → n < 256 → low_with n w % 256 ≡ n
 low_number n w k = omega arith
 
@@ -222,7 +212,7 @@ vector_is n h = omega arith
 vector_fits : (n : ℕ) → n < 16 → 0x4e40 + n < 65536
 vector_fits n h = omega arith
 
--- the mode of a word with other bits 11 to 9, from the same words behind it
+-- the mode of a word with other bits 11 to 9, from the same words after it
 one_other : (m r : ℕ) (size : Size) (v w : ℕ) (tail : List ℕ) → mode_of m r size 1 (v ∷ tail) ≡ mode_of m r size 1 (w ∷ tail)
 unfolding mode_of number_at
 one_other m r Byte v w tail = refl
@@ -232,10 +222,6 @@ one_other m r Long v w tail = refl
 low_other : (size : Size) (n w : ℕ) (tail : List ℕ) → w < 65536 → low_mode size 1 (high_with n w ∷ tail) ≡ low_mode size 1 (w ∷ tail)
 unfolding low_mode
 low_other size n w tail h = rw (same_mode n w h, same_register n w h) (one_other (w / 8 % 8) (w % 8) size (high_with n w) w tail)
-
-size_other : (n w : ℕ) (tail : List ℕ) → w < 65536 → size_of (high_with n w ∷ tail) ≡ size_of (w ∷ tail)
-unfolding size_of
-size_other n w tail h = rw (same_size n w h) refl
 
 -- ---- branches
 
@@ -286,7 +272,7 @@ module _ (at n : ℕ) (a : at < 4294967296) where
   first_there rows.Chk w tail of h = let p = low_put Word 1 n w tail (omega arith) (omega arith) of.all h in there rows.Chk w tail p.rest at _ a of p.put.all (rw p.is refl)
   first_there (rows.Quick own) w tail of h =
       let k = quick_parts n h in
-      other (rows.Quick own) w (high_with n w) tail at _ a of (high_fits n w of.low) (quick_row n w (rows.Quick own) of.low of.is refl)
+      other (rows.Quick own) w (high_with n w) tail at _ a of (high_low n w of.low) (quick_row n w (rows.Quick own) of.low of.is refl)
       (rw (same_size n w of.low, quick_is n w tail of.low k.0 k.1, low_other (size_of (w ∷ tail)) n w tail of.low) refl)
   first_there rows.Scc w tail of h = let p = low_put Byte 1 n w tail (omega arith) (omega arith) of.all h in there rows.Scc w tail p.rest at _ a of p.put.all (rw p.is refl)
   first_there rows.Bra w tail of h =
@@ -297,7 +283,7 @@ module _ (at n : ℕ) (a : at < 4294967296) where
       somewhere _ _ n (bcc_by (w % 256 == 0) w tail refl of) (bcc_with (condition_of (w ∷ tail)) (displacement_of (w ∷ tail)) at n (below n 4294967296 h))
   first_there rows.Moveq w tail of h =
       let k = below n 256 h in
-      other rows.Moveq w (low_with n w) tail at _ a of (low_fits n w of.low k) (moveq_row n w of.low k of.is) (rw (low_number n w k, low_register_stays n w k) refl)
+      other rows.Moveq w (low_with n w) tail at _ a of (low_low n w of.low k) (moveq_row n w of.low k of.is) (rw (low_number n w k, low_register_stays n w k) refl)
   first_there rows.Divu w tail of h = let p = low_put Word 1 n w tail (omega arith) (omega arith) of.all h in there rows.Divu w tail p.rest at _ a of p.put.all (rw p.is refl)
   first_there rows.Divs w tail of h = let p = low_put Word 1 n w tail (omega arith) (omega arith) of.all h in there rows.Divs w tail p.rest at _ a of p.put.all (rw p.is refl)
   first_there rows.Mulu w tail of h = let p = low_put Word 1 n w tail (omega arith) (omega arith) of.all h in there rows.Mulu w tail p.rest at _ a of p.put.all (rw p.is refl)
@@ -311,7 +297,7 @@ module _ (at n : ℕ) (a : at < 4294967296) where
   first_there rows.Cmpm w tail of h = absurd (no_number n h)
   first_there rows.ShiftByNumber w tail of h =
       let k = quick_parts n h in
-      other rows.ShiftByNumber w (high_with n w) tail at _ a of (high_fits n w of.low) (quick_row n w rows.ShiftByNumber of.low of.is refl)
+      other rows.ShiftByNumber w (high_with n w) tail at _ a of (high_low n w of.low) (quick_row n w rows.ShiftByNumber of.low of.is refl)
       (rw (same_size n w of.low, same_kind n w of.low, same_left n w of.low, same_register n w of.low, quick_is n w tail of.low k.0 k.1) refl)
   first_there rows.ShiftMemory w tail of h = let p = low_put Word 1 n w tail (omega arith) (omega arith) of.all h in there rows.ShiftMemory w tail p.rest at _ a of p.put.all (rw p.is refl)
   first_there row w tail of h = cc

@@ -155,7 +155,7 @@ wide_iy : (first second : ℕ) → map (λ w. is_wide (by_opcode indexes.Iy w fi
 unfolding range place_of pair_of stacked_of condition_of bit_of arithmetic accumulator relative_jumps pair_loads memory_loads pair_steps step number_loads low_group loads returns jumps calls control by_opcode
 wide_iy first second = refl
 
--- ---- what is put is there
+-- ---- what is written is there
 
 -- a number fits the operands: of 16 bits where they are wide, of 8 where they are not
 abbrev pub Fits : ℕ → Bool → Type 0

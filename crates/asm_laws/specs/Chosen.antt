@@ -13,14 +13,14 @@ use Rattle.asm_z80.specs.Instruction.{is_db}
 
 -- ---- the Z80
 
--- bytes say pieces at an address: whatever follows them, they are an instruction of their length whose text has
--- these pieces
-pub record Says (bytes : List ℕ) (said : List Piece) (at : ℕ) : Type 0 where
+-- bytes say tokens at an address: whatever follows them, they are an instruction of their length whose text has
+-- these tokens
+pub record Says (bytes : List ℕ) (line_tokens : List Piece) (at : ℕ) : Type 0 where
   pub instruction : is_db (instruction_of bytes).op ≡ false
-  pub text : (rest : List ℕ) → AreBytes rest → pieces (text_of (instruction_of (bytes ++ rest)) at) ≡ said
+  pub text : (rest : List ℕ) → AreBytes rest → pieces (text_of (instruction_of (bytes ++ rest)) at) ≡ line_tokens
   pub whole : (rest : List ℕ) → AreBytes rest → (instruction_of (bytes ++ rest)).length ≡ length bytes
 
--- behind DD CB d and FD CB d the manual has the codes of (HL) alone, and none of SLL
+-- after DD CB d and FD CB d the manual has the codes of (HL) alone, and none of SLL
 abbrev pub is_manual : List ℕ → Bool
 is_manual (p ∷ q ∷ d ∷ code ∷ []) = not ((p == 0xdd || p == 0xfd) && q == 0xcb) || (code % 8 == 6 && not (code / 8 == 6))
 is_manual bytes = true
@@ -36,17 +36,17 @@ IsPassed other bytes =
     (is_manual other ≡ false)
     × ((is_manual bytes ≡ true) ⊎ ((length bytes < length other) ⊎ ((length bytes ≡ length other) × IsBefore bytes other)))
 
--- they say the pieces, and all others that do are passed over
-pub record AreChosen (bytes : List ℕ) (said : List Piece) (at : ℕ) : Type 0 where
-  pub text : Says bytes said at
-  pub best : (other : List ℕ) → AreBytes other → Says other said at → (other ≡ bytes) ⊎ IsPassed other bytes
+-- they say the tokens, and all others that do are passed over
+pub record AreChosen (bytes : List ℕ) (line_tokens : List Piece) (at : ℕ) : Type 0 where
+  pub text : Says bytes line_tokens at
+  pub best : (other : List ℕ) → AreBytes other → Says other line_tokens at → (other ≡ bytes) ⊎ IsPassed other bytes
 
 -- ---- the 68000
 
--- words of an instruction of the 68000 say the pieces, and all others that do are as long and come later: those of
+-- words of an instruction of the 68000 say the tokens, and all others that do are as long and come later: those of
 -- other bits that the processor does not look at
-pub record AreLeast (words : List ℕ) (said : List Piece) (at : ℕ) : Type 0 where
+pub record AreLeast (words : List ℕ) (line_tokens : List Piece) (at : ℕ) : Type 0 where
   pub instruction : IsInstruction (nested (slice_index words 0))
-  pub text : main.Says words said at
-  pub best : (other : List ℕ) → AreWords other → IsInstruction (nested (slice_index other 0)) → main.Says other said at
+  pub text : main.Says words line_tokens at
+  pub best : (other : List ℕ) → AreWords other → IsInstruction (nested (slice_index other 0)) → main.Says other line_tokens at
       → (other ≡ words) ⊎ ((length words ≡ length other) × IsBefore words other)

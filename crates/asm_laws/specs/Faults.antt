@@ -19,33 +19,33 @@ use Rattle.md_asm.specs.Rounds.{Read, Round, Slot, round_one, start}
 use Rattle.asm_laws.specs.Forms.{HasNumber, IsForm, StandsIn}
 use Rattle.asm_laws.specs.Ranges.{IsInRange}
 
--- behind a label's colon, or in place of a label, stands what is none; or it is no directive, and no instruction of the
+-- after a label's colon is no line, or in place of a label no name; or it is no directive, and no instruction of the
 -- processor has its form
 abbrev pub IsBad : Bool → Line → Type 0
 IsBad z80 line = (line.body ≡ bodies.Bad) ⊎ ((line.body ≡ bodies.Instruction) × ((long : ℕ) → ¬ IsForm z80 (pieces line.text) long))
 
--- a number stands among the pieces that is not below a limit
+-- a number among the tokens is not below a limit
 abbrev pub HasOver : ℕ → List Piece → Type 0
-HasOver limit said = (place : ℕ) × (n : ℕ) × StandsIn said place (Number n) × (limit ≤ n)
+HasOver limit line_tokens = (place : ℕ) × (n : ℕ) × StandsIn line_tokens place (Number n) × (limit ≤ n)
 
 -- a number does not fit: one of `dc.w` has no 16 bits, one of `db` no 8, the address of `cpu z80` no 16; or it is out of
 -- the range of its place, so that no instruction of the line's form has it there
 abbrev pub IsUnfit : Bool → Body → List Piece → Type 0
-IsUnfit z80 bodies.Words said = HasOver 65536 said
-IsUnfit z80 bodies.Bytes said = HasOver 256 said
-IsUnfit z80 (bodies.Sub at) said = 65536 ≤ at
-IsUnfit z80 bodies.Instruction said = (place : ℕ) × (n : ℕ) × StandsIn said place (Number n) × ¬ IsInRange z80 said place n × ¬ HasNumber z80 said place n
-IsUnfit z80 body said = ⊥
+IsUnfit z80 bodies.Words line_tokens = HasOver 65536 line_tokens
+IsUnfit z80 bodies.Bytes line_tokens = HasOver 256 line_tokens
+IsUnfit z80 (bodies.Sub at) line_tokens = 65536 ≤ at
+IsUnfit z80 bodies.Instruction line_tokens = (place : ℕ) × (n : ℕ) × StandsIn line_tokens place (Number n) × ¬ IsInRange z80 line_tokens place n × ¬ HasNumber z80 line_tokens place n
+IsUnfit z80 body line_tokens = ⊥
 
--- no instruction of the processor has these pieces in its text at an address
+-- no instruction of the processor has these tokens in its text at an address
 abbrev pub HasNoText : Bool → List Piece → ℕ → Type 0
-HasNoText true said at =
-    (bytes : List ℕ) → AreBytes bytes → is_db (sub.instruction_of bytes).op ≡ false → ¬ (pieces (sub_texts.text_of (sub.instruction_of bytes) at) ≡ said)
-HasNoText false said at =
+HasNoText true line_tokens at =
+    (bytes : List ℕ) → AreBytes bytes → is_db (sub.instruction_of bytes).op ≡ false → ¬ (pieces (sub_texts.text_of (sub.instruction_of bytes) at) ≡ line_tokens)
+HasNoText false line_tokens at =
     (word : ℕ) (tail : List ℕ) → word < 65536 → IsInstruction (nested word) → AreWords (word ∷ tail)
-    → ¬ (pieces (main_texts.text_of (main.instruction_of (word ∷ tail)) at) ≡ said)
+    → ¬ (pieces (main_texts.text_of (main.instruction_of (word ∷ tail)) at) ≡ line_tokens)
 
--- the line of a number, and what the lines in front of it come to, which are at no fault of the first round
+-- the line of a number, and what the lines before it result in, which are at no fault of the first round
 pub record IsRead (source : List ℕ) (line : ℕ) (round : Round) (text : List ℕ) : Type 0 where
   pub front : List (List ℕ)
   pub behind : List (List ℕ)

@@ -1,4 +1,4 @@
--- Which lines have the form of an instruction, and which numbers stand in such a form: told by the texts of instructions
+-- Which lines have the form of an instruction, and which numbers such a form has: defined by the texts of instructions
 -- alone, whatever the assembler tries.
 use Rattle.std.specs.Prelude.{◌≡◌, ℕ, ◌<◌, Bool, true, false, List, ◌∷◌, ◌++◌, length}
 use Rattle.m68k_decode.specs.Instructions as main
@@ -12,36 +12,36 @@ use Rattle.asm_z80.specs.Coded80.{AreBytes}
 use Rattle.asm_z80.specs.Instruction.{is_db}
 use Rattle.md_asm.specs.Numbers.{filled}
 
--- the pieces are those of the text, at an address, of an instruction that words of the 68000 decode to, but for the
+-- the tokens are those of the text, at an address, of an instruction that words of the 68000 decode to, but for the
 -- numbers and the names in their places
-pub record IsMainForm (said : List Piece) (word : ℕ) (tail : List ℕ) (at : ℕ) : Type 0 where
+pub record IsMainForm (line_tokens : List Piece) (word : ℕ) (tail : List ℕ) (at : ℕ) : Type 0 where
   pub first : word < 65536
   pub instruction : IsInstruction (nested word)
   pub words : AreWords (word ∷ tail)
   pub address : at < 4294967296
-  pub alike : filled said ≡ filled (pieces (main_texts.text_of (main.instruction_of (word ∷ tail)) at))
+  pub alike : filled line_tokens ≡ filled (pieces (main_texts.text_of (main.instruction_of (word ∷ tail)) at))
 
 -- or that bytes of the Z80 decode to
-pub record IsSubForm (said : List Piece) (bytes : List ℕ) (at : ℕ) : Type 0 where
+pub record IsSubForm (line_tokens : List Piece) (bytes : List ℕ) (at : ℕ) : Type 0 where
   pub all : AreBytes bytes
   pub instruction : is_db (sub.instruction_of bytes).op ≡ false
   pub address : at < 65536
-  pub alike : filled said ≡ filled (pieces (sub_texts.text_of (sub.instruction_of bytes) at))
+  pub alike : filled line_tokens ≡ filled (pieces (sub_texts.text_of (sub.instruction_of bytes) at))
 
 -- so they are of some instruction of the processor, the Z80 or the 68000, with so many bytes
 abbrev pub IsForm : Bool → List Piece → ℕ → Type 0
-IsForm true said long = (bytes : List ℕ) × (at : ℕ) × IsSubForm said bytes at × ((sub.instruction_of bytes).length ≡ long)
-IsForm false said long =
-    (word : ℕ) × (tail : List ℕ) × (at : ℕ) × IsMainForm said word tail at × ((main.instruction_of (word ∷ tail)).length ≡ long)
+IsForm true line_tokens long = (bytes : List ℕ) × (at : ℕ) × IsSubForm line_tokens bytes at × ((sub.instruction_of bytes).length ≡ long)
+IsForm false line_tokens long =
+    (word : ℕ) × (tail : List ℕ) × (at : ℕ) × IsMainForm line_tokens word tail at × ((main.instruction_of (word ∷ tail)).length ≡ long)
 
--- a piece stands at a place among others
+-- a token is at a place among others
 abbrev pub StandsIn : List Piece → ℕ → Piece → Type 0
 StandsIn all place piece = (front : List Piece) × (behind : List Piece) × (all ≡ front ++ piece ∷ behind) × (length front ≡ place)
 
 -- some instruction of the processor with this form has the number at this place of its text
 abbrev pub HasNumber : Bool → List Piece → ℕ → ℕ → Type 0
-HasNumber true said place n =
-    (bytes : List ℕ) × (at : ℕ) × IsSubForm said bytes at × StandsIn (pieces (sub_texts.text_of (sub.instruction_of bytes) at)) place (Number n)
-HasNumber false said place n =
-    (word : ℕ) × (tail : List ℕ) × (at : ℕ) × IsMainForm said word tail at
+HasNumber true line_tokens place n =
+    (bytes : List ℕ) × (at : ℕ) × IsSubForm line_tokens bytes at × StandsIn (pieces (sub_texts.text_of (sub.instruction_of bytes) at)) place (Number n)
+HasNumber false line_tokens place n =
+    (word : ℕ) × (tail : List ℕ) × (at : ℕ) × IsMainForm line_tokens word tail at
     × StandsIn (pieces (main_texts.text_of (main.instruction_of (word ∷ tail)) at)) place (Number n)

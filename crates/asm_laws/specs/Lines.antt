@@ -21,21 +21,21 @@ use Rattle.asm_laws.specs.Places.{bytes_from, text_at, words_from}
 
 -- bytes are those of an instruction that is written at an address: of all that have its text they are chosen
 abbrev pub IsWritten : Bool → List ℕ → List Piece → ℕ → Type 0
-IsWritten true bytes said at = AreChosen bytes said at
-IsWritten false bytes said at = (words : List ℕ) × (bytes ≡ in_bytes words) × AreLeast words said at
+IsWritten true bytes line_tokens at = AreChosen bytes line_tokens at
+IsWritten false bytes line_tokens at = (words : List ℕ) × (bytes ≡ in_bytes words) × AreLeast words line_tokens at
 
--- whichever instruction of the processor has these pieces in its text at an address, what stands at a place of an image
+-- whichever instruction of the processor has these tokens in its text at an address, what is at a place of an image
 -- decodes to it
 abbrev pub IsKept : Bool → List ℕ → ℕ → List Piece → ℕ → Type 0
-IsKept true image place said at =
+IsKept true image place line_tokens at =
     (bytes : List ℕ) → AreBytes bytes → is_db (sub.instruction_of bytes).op ≡ false
-    → pieces (sub_texts.text_of (sub.instruction_of bytes) at) ≡ said → sub.instruction_of (bytes_from image place) ≡ sub.instruction_of bytes
-IsKept false image place said at =
+    → pieces (sub_texts.text_of (sub.instruction_of bytes) at) ≡ line_tokens → sub.instruction_of (bytes_from image place) ≡ sub.instruction_of bytes
+IsKept false image place line_tokens at =
     (word : ℕ) (tail : List ℕ) → word < 65536 → IsInstruction (nested word) → AreWords (word ∷ tail)
-    → pieces (main_texts.text_of (main.instruction_of (word ∷ tail)) at) ≡ said → main.instruction_of (words_from image place) ≡ main.instruction_of (word ∷ tail)
+    → pieces (main_texts.text_of (main.instruction_of (word ∷ tail)) at) ≡ line_tokens → main.instruction_of (words_from image place) ≡ main.instruction_of (word ∷ tail)
 
--- what is decoded at a line's place has at its address the line's text: the same pieces, with the value of each name;
--- it is the instruction that has this text; and of all bytes that have it, those that are chosen stand there
+-- what is decoded at a line's place has at its address the line's text: the same tokens, with the value of each name;
+-- it is the instruction that has this text; and of all bytes that have it, those that are chosen are there
 pub record IsSaid (image : List ℕ) (names : Names) (slot : Slot) : Type 0 where
   pub text : pieces (text_at slot.sub image slot.place slot.address) ≡ resolved names (pieces slot.text)
   pub kept : IsKept slot.sub image slot.place (resolved names (pieces slot.text)) slot.address
@@ -53,4 +53,4 @@ pub record SaysLines (source image : List ℕ) (lines : List Placed) : Type 0 wh
   pub round : Round
   pub read : round_one start 1 (lines_of source) ≡ Read round
   pub places : lines ≡ places_of round.slots
-  pub said : AreSaid image round.names round.slots
+  pub round_trips : AreSaid image round.names round.slots

@@ -5,7 +5,7 @@ use Rattle.z80_decode.specs.Instructions as sub
 use Rattle.md_disasm.specs.Texts68 as main_texts
 use Rattle.md_disasm.specs.Texts80 as sub_texts
 
--- the word of an image at a place; behind its end it is 0
+-- the word of an image at a place; after its end it is 0
 abbrev pub word_at : List ℕ → ℕ → ℕ
 word_at image place = slice_index image place * 256 + slice_index image (place + 1)
 

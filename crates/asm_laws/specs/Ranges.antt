@@ -1,4 +1,4 @@
--- Which numbers may stand at a place of an instruction's text: a table by operand.
+-- Which numbers are allowed at a place of an instruction's text: a table by operand.
 -- M68000 Programmer's Reference Manual, sections 2.2 and 4 (ADDQ, SUBQ, TRAP, shifts); Zilog UM0080, "Z80 Instruction
 -- Description" (RST); displacements as unsigned numbers are this project's profile.
 use Rattle.std.specs.Prelude.{◌≡◌, ℕ, ◌%◌, ◌==◌, Bool, true, false, ◌&&◌, nat_le, nat_lt, if◌then◌else◌, List, ◌∷◌, length}
@@ -46,7 +46,7 @@ abbrev pub digit_allows : Op → ℕ → Bool
 digit_allows (ops.Trap vector) n = nat_lt n 16
 digit_allows op n = nat_le 1 n && nat_le n 8
 
--- the numbers that may stand in an operand of an instruction; a branch goes to any address
+-- the numbers that are allowed in an operand of an instruction; a branch goes to any address
 abbrev pub main_allows : Op → Operand68 → ℕ → Bool
 main_allows op (operands.Place size mode) n = nat_lt n (mode_limit size mode)
 main_allows op (operands.Digit m) n = digit_allows op n
@@ -54,7 +54,7 @@ main_allows op (operands.Number size m) n = nat_lt n (modulus_of size)
 main_allows op (operands.Target address) n = nat_lt n 0x1_0000_0000
 main_allows op operand n = false
 
--- the operand in which a place of a row's text lies: the first, or the second behind it
+-- the operand in which a place of a row's text lies: the first, or the second after it
 abbrev pub main_operand : Row68 → ℕ → Operand68
 main_operand row place = if nat_lt place (length (pieces (main_texts.row_text (record row { second = operands.Nothing })))) then row.first else row.second
 
@@ -73,7 +73,7 @@ abbrev pub byte_allows : Op80 → ℕ → Bool
 byte_allows (sub_ops.Restart address) n = nat_le n 0x38 && n % 8 == 0
 byte_allows op n = nat_lt n 0x100
 
--- the numbers that may stand in an operand of an instruction; a relative jump goes to any address
+-- the numbers that are allowed in an operand of an instruction; a relative jump goes to any address
 abbrev pub sub_allows : Op80 → Operand80 → ℕ → Bool
 sub_allows op (sub_operands.Place place) n = nat_lt n (place_limit place)
 sub_allows op (sub_operands.Byte m) n = byte_allows op n
@@ -82,27 +82,27 @@ sub_allows op (sub_operands.Word m) n = nat_lt n 0x1_0000
 sub_allows op (sub_operands.AtWord address) n = nat_lt n 0x1_0000
 sub_allows op operand n = false
 
--- the operand in which a place of a row's text lies: the first, or the second behind it
+-- the operand in which a place of a row's text lies: the first, or the second after it
 abbrev pub sub_operand : Row80 → ℕ → Operand80
 sub_operand row place = if nat_lt place (length (pieces (sub_texts.row_text (record row { second = sub_operands.Nothing })))) then row.first else row.second
 
 -- ---- a line's number
 
--- an instruction of the 68000 of this form has some number at a place of its text, and there this one may stand too
-pub record IsMainRange (said : List Piece) (place n word : ℕ) (tail : List ℕ) (at : ℕ) : Type 0 where
-  pub form : IsMainForm said word tail at
+-- an instruction of the 68000 of this form has some number at a place of its text, and there this one is allowed too
+pub record IsMainRange (line_tokens : List Piece) (place n word : ℕ) (tail : List ℕ) (at : ℕ) : Type 0 where
+  pub form : IsMainForm line_tokens word tail at
   pub own : ℕ
   pub stands : StandsIn (pieces (main_texts.text_of (main.instruction_of (word ∷ tail)) at)) place (Number own)
   pub allowed : main_allows (main.instruction_of (word ∷ tail)).op (main_operand (main_rows.row_of (main.instruction_of (word ∷ tail)).op at) place) n ≡ true
 
 -- one of the Z80 has
-pub record IsSubRange (said : List Piece) (place n : ℕ) (bytes : List ℕ) (at : ℕ) : Type 0 where
-  pub form : IsSubForm said bytes at
+pub record IsSubRange (line_tokens : List Piece) (place n : ℕ) (bytes : List ℕ) (at : ℕ) : Type 0 where
+  pub form : IsSubForm line_tokens bytes at
   pub own : ℕ
   pub stands : StandsIn (pieces (sub_texts.text_of (sub.instruction_of bytes) at)) place (Number own)
   pub allowed : sub_allows (sub.instruction_of bytes).op (sub_operand (sub_rows.row_of (sub.instruction_of bytes).op at) place) n ≡ true
 
 -- a number is in the range of its place in a line of the processor
 abbrev pub IsInRange : Bool → List Piece → ℕ → ℕ → Type 0
-IsInRange true said place n = (bytes : List ℕ) × (at : ℕ) × IsSubRange said place n bytes at
-IsInRange false said place n = (word : ℕ) × (tail : List ℕ) × (at : ℕ) × IsMainRange said place n word tail at
+IsInRange true line_tokens place n = (bytes : List ℕ) × (at : ℕ) × IsSubRange line_tokens place n bytes at
+IsInRange false line_tokens place n = (word : ℕ) × (tail : List ℕ) × (at : ℕ) × IsMainRange line_tokens place n word tail at

@@ -1,4 +1,4 @@
--- Sources of one instruction at an address, and that it stands in what they are assembled to.
+-- Sources of one instruction at an address, and that it is in their image.
 use Rattle.std.specs.Prelude.{◌≡◌, ℕ, ◌+◌, ◌%◌, ◌<◌, ◌≤◌, false, List, [], ◌∷◌, ◌++◌, codes}
 use Rattle.m68k_decode.specs.Instructions as main
 use Rattle.z80_decode.specs.Instructions as sub
@@ -9,6 +9,7 @@ use Rattle.asm_m68k.specs.Table.{AreWords}
 use Rattle.asm_z80.specs.Coded80.{AreBytes}
 use Rattle.asm_z80.specs.Instruction.{is_db}
 use Rattle.md_asm.specs.Assembly.{AssemblyOutcome, Done, Failed}
+use Rattle.md_asm.specs.Places.{image_limit}
 use Rattle.asm_laws.specs.Places.{bytes_from, words_from}
 
 -- for the 68000: `org` with the address, and the text on a line of its own
@@ -25,7 +26,7 @@ pub record IsMainSource (source : List ℕ) (word : ℕ) (tail : List ℕ) (at :
   pub first : word < 65536
   pub words : AreWords (word ∷ tail)
   pub even : at % 2 ≡ 0
-  pub room : at + (main.instruction_of (word ∷ tail)).length ≤ 4194304
+  pub room : at + (main.instruction_of (word ∷ tail)).length ≤ image_limit
   pub text : source ≡ main_source at (main_texts.text_of (main.instruction_of (word ∷ tail)) at)
 
 -- or of what bytes of the Z80 decode to that is no directive, at an address
@@ -35,7 +36,7 @@ pub record IsSubSource (source bytes : List ℕ) (at : ℕ) : Type 0 where
   pub instruction : is_db (sub.instruction_of bytes).op ≡ false
   pub text : source ≡ sub_source at (sub_texts.text_of (sub.instruction_of bytes) at)
 
--- there is an image, and what stands in it at the address, or for the Z80 at place 0, decodes to the instruction
+-- there is an image, and what is in it at the address, or for the Z80 at place 0, decodes to the instruction
 abbrev pub KeepsMain : AssemblyOutcome → ℕ → List ℕ → ℕ → Type 0
 KeepsMain (Done image lines) word tail at = main.instruction_of (words_from image at) ≡ main.instruction_of (word ∷ tail)
 KeepsMain (Failed line kind) word tail at = ⊥

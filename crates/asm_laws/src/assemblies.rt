@@ -6,7 +6,7 @@ ghost use Rattle.md_asm.specs.Assembly.{Done, assembly};
 ghost use Rattle.md_asm.specs.declared.placed.Placed.{Placed};
 ghost use Rattle.asm_laws.specs.Lines.{SaysLines};
 
-use crate::assemblies::{codes_are_chosen, texts_are_assembled};
+use crate::laws::{codes_are_chosen, texts_are_assembled};
 
 /// An image is bytes.
 pub fn known_bytes(image: &[u8])
@@ -15,9 +15,9 @@ pub fn known_bytes(image: &[u8])
     let _image = image;
 }
 
-/// In the image of a source each line that is an instruction stands at its place: what is decoded there has, at its
-/// address, the text of the line, each name replaced by its number; it is the instruction that has this text there; and of
-/// all bytes that have it the chosen ones stand there.
+/// In the image of a source each line that is an instruction is at its place: what is decoded there has, at its address,
+/// the text of the line, each name replaced by its number; it is the instruction that has this text there; and of all
+/// bytes that have it the chosen ones are there.
 pub fn image_says_its_lines(image: &[u8])
     ensures { (source : List ℕ) (lines : List Placed) → assembly source ≡ Done image.now lines → SaysLines source image.now lines }
 {

@@ -25,21 +25,21 @@ pub fn texts_are_assembled()
         × ((rest : List ℕ) → AreBytes rest → sub.instruction_of (found ++ rest) ≡ sub.instruction_of bytes) }
 {}
 
-/// What pieces are assembled to at an address has a text there with these pieces, whatever follows it, for both
+/// What tokens are assembled to at an address has a text there with these tokens, whatever follows it, for both
 /// processors.
 pub fn codes_say_their_line()
-    ensures main { (said : List Piece) (words rest : List ℕ) (at : ℕ) → AreWords words → at < 4294967296 → main_code said at ≡ Some words
-        → pieces (main_texts.text_of (main.instruction_of (words ++ rest)) at) ≡ said }
-    ensures sub { (said : List Piece) (bytes rest : List ℕ) (at : ℕ) → AreBytes bytes → AreBytes rest → at < 65536 → sub_code said at ≡ Some bytes
-        → pieces (sub_texts.text_of (sub.instruction_of (bytes ++ rest)) at) ≡ said }
+    ensures main { (line_tokens : List Piece) (words rest : List ℕ) (at : ℕ) → AreWords words → at < 4294967296 → main_code line_tokens at ≡ Some words
+        → pieces (main_texts.text_of (main.instruction_of (words ++ rest)) at) ≡ line_tokens }
+    ensures sub { (line_tokens : List Piece) (bytes rest : List ℕ) (at : ℕ) → AreBytes bytes → AreBytes rest → at < 65536 → sub_code line_tokens at ≡ Some bytes
+        → pieces (sub_texts.text_of (sub.instruction_of (bytes ++ rest)) at) ≡ line_tokens }
 {}
 
-/// What pieces are assembled to is chosen among all words or bytes that say them there; where nothing is found, none
+/// What tokens are assembled to is chosen among all words or bytes that say them there; where nothing is found, none
 /// do.
 pub fn codes_are_chosen()
-    ensures main { (said : List Piece) (words : List ℕ) (at : ℕ) → AreWords words → at < 4294967296 → main_code said at ≡ Some words → AreLeast words said at }
-    ensures main_none { (said : List Piece) (at : ℕ) → at < 4294967296 → main_code said at ≡ None
-        → (words : List ℕ) → AreWords words → IsInstruction (nested (slice_index words 0)) → MainSays words said at → ⊥ }
-    ensures sub { (said : List Piece) (bytes : List ℕ) (at : ℕ) → AreBytes bytes → at < 65536 → sub_code said at ≡ Some bytes → AreChosen bytes said at }
-    ensures sub_none { (said : List Piece) (at : ℕ) → at < 65536 → sub_code said at ≡ None → (bytes : List ℕ) → AreBytes bytes → Says bytes said at → ⊥ }
+    ensures main { (line_tokens : List Piece) (words : List ℕ) (at : ℕ) → AreWords words → at < 4294967296 → main_code line_tokens at ≡ Some words → AreLeast words line_tokens at }
+    ensures main_none { (line_tokens : List Piece) (at : ℕ) → at < 4294967296 → main_code line_tokens at ≡ None
+        → (words : List ℕ) → AreWords words → IsInstruction (nested (slice_index words 0)) → MainSays words line_tokens at → ⊥ }
+    ensures sub { (line_tokens : List Piece) (bytes : List ℕ) (at : ℕ) → AreBytes bytes → at < 65536 → sub_code line_tokens at ≡ Some bytes → AreChosen bytes line_tokens at }
+    ensures sub_none { (line_tokens : List Piece) (at : ℕ) → at < 65536 → sub_code line_tokens at ≡ None → (bytes : List ℕ) → AreBytes bytes → Says bytes line_tokens at → ⊥ }
 {}

@@ -4,5 +4,3 @@
 pub mod assemblies;
 pub mod laws;
 pub mod round_trip;
-
-

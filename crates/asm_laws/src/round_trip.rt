@@ -11,6 +11,7 @@ ghost use Rattle.asm_z80.specs.Coded80.{AreBytes};
 ghost use Rattle.asm_z80.specs.Instruction.{is_db};
 ghost use Rattle.md_asm_text.specs.declared.body.Body.TheVariants.{Instruction};
 ghost use Rattle.md_asm.specs.Contents.{misfit, size};
+ghost use Rattle.md_asm.specs.Places.{image_limit};
 ghost use Rattle.md_asm.specs.Assembly.{AssemblyOutcome, Done, Failed, assembly};
 ghost use Rattle.md_asm.specs.declared.placed.Placed.{Placed};
 ghost use Rattle.asm_laws.specs.Places.{bytes_from, words_from};
@@ -23,10 +24,10 @@ ghost use Rattle.asm_laws.specs.Sources.{KeepsInstruction, main_source, sub_sour
 use crate::assemblies::{image_says_its_lines, known_bytes};
 
 /// Whatever words or bytes decode to, but what the Z80's text writes as a directive: a source of its text at an address
-/// has an image, and what stands there decodes to it. For the 68000 the address is even, and its bytes stay below 400000h.
+/// has an image, and what is there decodes to it. For the 68000 the address is even, and its bytes stay below 400000h.
 pub fn sources_are_assembled()
     ensures main { (word : ℕ) (tail : List ℕ) (at : ℕ) → word < 65536 → AreWords (word ∷ tail) → at % 2 ≡ 0
-        → at + (main.instruction_of (word ∷ tail)).length ≤ 4194304
+        → at + (main.instruction_of (word ∷ tail)).length ≤ image_limit
         → (image : List ℕ) × (lines : List Placed) × (assembly (main_source at (main_texts.text_of (main.instruction_of (word ∷ tail)) at)) ≡ Done image lines)
         × (main.instruction_of (words_from image at) ≡ main.instruction_of (word ∷ tail)) }
     ensures sub { (bytes : List ℕ) (at : ℕ) → AreBytes bytes → at < 65536 → is_db (sub.instruction_of bytes).op ≡ false
@@ -34,7 +35,7 @@ pub fn sources_are_assembled()
         × (sub.instruction_of (bytes_from image 0) ≡ sub.instruction_of bytes) }
 {}
 
-/// So in what a source of one instruction is assembled to stands that instruction; and a source that is refused is none.
+/// So the image of a source of one instruction holds that instruction; and a source that is refused is none.
 pub fn instructions_are_kept()
     ensures { (source : List ℕ) (outcome : AssemblyOutcome) → assembly source ≡ outcome → KeepsInstruction source outcome }
 {}
@@ -42,16 +43,16 @@ pub fn instructions_are_kept()
 /// A line that is no directive has a length exactly where it has the form of some instruction, which is as long; and a number
 /// fits exactly where some instruction of the line's form has it at its place, at some address.
 pub fn forms_are_known()
-    ensures size { (z80 : Bool) (said : List Piece) (long : ℕ) → (size z80 Instruction said ≡ Some long) ↔ IsForm z80 said long }
-    ensures fits { (z80 : Bool) (said : List Piece) (place n : ℕ) → HasNumber z80 said place n → misfit z80 said place (Number n) ≡ false }
-    ensures fits_only { (z80 : Bool) (said : List Piece) (place n : ℕ) → n < 4294967296 → StandsIn said place (Number n) → misfit z80 said place (Number n) ≡ false
-        → HasNumber z80 said place n }
+    ensures size { (z80 : Bool) (line_tokens : List Piece) (long : ℕ) → (size z80 Instruction line_tokens ≡ Some long) ↔ IsForm z80 line_tokens long }
+    ensures fits { (z80 : Bool) (line_tokens : List Piece) (place n : ℕ) → HasNumber z80 line_tokens place n → misfit z80 line_tokens place (Number n) ≡ false }
+    ensures fits_only { (z80 : Bool) (line_tokens : List Piece) (place n : ℕ) → n < 4294967296 → StandsIn line_tokens place (Number n) → misfit z80 line_tokens place (Number n) ≡ false
+        → HasNumber z80 line_tokens place n }
 {}
 
 /// The numbers that instructions of a line's form have at a place are those in the range of that place: a byte, a word or a
 /// long, 1 to 8, 0 to 15, a multiple of 8 up to 38h, a displacement or an address, by the operand that the place lies in.
 pub fn numbers_have_their_range()
-    ensures { (z80 : Bool) (said : List Piece) (place n : ℕ) → HasNumber z80 said place n ↔ IsInRange z80 said place n }
+    ensures { (z80 : Bool) (line_tokens : List Piece) (place n : ℕ) → HasNumber z80 line_tokens place n ↔ IsInRange z80 line_tokens place n }
 {}
 
 /// In a source that has an image each number of an instruction, with the value of each name, is in the range of its place.
@@ -62,9 +63,9 @@ pub fn numbers_are_in_range(image: &[u8])
     image_says_its_lines(image);
 }
 
-/// What a source's fault says: a line of kind 1 has the form of no instruction, and of kinds 2 and 8 a number that no
-/// instruction of the line's form has at its place, as it is out of the range there, or one that does not fit a directive; of
-/// kind 9 it is an instruction's that no instruction has as its text at the address.
+/// What a source's fault says. A line of kind 1 has the form of no instruction. A line of kind 2 or 8 has a number that does
+/// not fit a directive, or that is out of the range of its place, where no instruction of the line's form has it. A line of
+/// kind 9 has the form of an instruction, but is no instruction's text at its address.
 pub fn faults_are_right()
     ensures { (source : List ℕ) (line kind : ℕ) → assembly source ≡ Failed line kind → IsFaulty source line kind }
 {}

@@ -20,10 +20,10 @@ use Rattle.asm_m68k.proofs.FirstWord.{first_again}
 
 -- ---- places of a list
 
-at_end : (front : List ℕ) (x : ℕ) (rest : List ℕ) (k : ℕ) → length front ≡ k → slice_index (front ++ (x ∷ rest)) k ≡ x
+pub at_end : (front : List ℕ) (x : ℕ) (rest : List ℕ) (k : ℕ) → length front ≡ k → slice_index (front ++ (x ∷ rest)) k ≡ x
 at_end front x rest k e = rw (sym e) (get_or-append_seam front x rest 0)
 
-after_end : (front : List ℕ) (x y : ℕ) (rest : List ℕ) (k : ℕ) → length front ≡ k → slice_index (front ++ (x ∷ y ∷ rest)) (k + 1) ≡ y
+pub after_end : (front : List ℕ) (x y : ℕ) (rest : List ℕ) (k : ℕ) → length front ≡ k → slice_index (front ++ (x ∷ y ∷ rest)) (k + 1) ≡ y
 after_end front x y rest k e = rw (sym e) (get_or-append-add front (x ∷ y ∷ rest) 1 0)
 
 -- ---- numbers and modes
@@ -31,10 +31,10 @@ after_end front x y rest k e = rw (sym e) (get_or-append-add front (x ∷ y ∷ 
 low_byte : (n : ℕ) → n % 256 % 256 ≡ n % 256
 low_byte n = omega arith
 
-halves : (n : ℕ) → n / 65536 * 65536 + n % 65536 ≡ n
+pub halves : (n : ℕ) → n / 65536 * 65536 + n % 65536 ≡ n
 halves n = omega arith
 
-number_again : (size : Size) (k : ℕ) (words front rest : List ℕ) → length front ≡ k
+pub number_again : (size : Size) (k : ℕ) (words front rest : List ℕ) → length front ≡ k
     → number_at size k (front ++ (number_words size (number_at size k words) ++ rest)) ≡ number_at size k words
 unfolding number_at
 number_again Byte k words front rest e = ap (λ (x : ℕ). x % 256) (at_end front (slice_index words k % 256) rest k e) ∙ low_byte (slice_index words k)
@@ -46,19 +46,19 @@ number_again Long k words front rest e =
     let whole = halves n in
     cc
 
-brief-index : (index : ℕ) (long : Bool) (by : ℕ) → by < 256 → brief index long by / 4096 ≡ index
+pub brief-index : (index : ℕ) (long : Bool) (by : ℕ) → by < 256 → brief index long by / 4096 ≡ index
 brief-index index true by h = omega arith
 brief-index index false by h = omega arith
 
-brief-by : (index : ℕ) (long : Bool) (by : ℕ) → by < 256 → brief index long by % 256 ≡ by
+pub brief-by : (index : ℕ) (long : Bool) (by : ℕ) → by < 256 → brief index long by % 256 ≡ by
 brief-by index true by h = omega arith
 brief-by index false by h = omega arith
 
-brief-bit : (index : ℕ) (long : Bool) (by : ℕ) → by < 256 → bit_of (brief index long by) 2048 ≡ long
+pub brief-bit : (index : ℕ) (long : Bool) (by : ℕ) → by < 256 → bit_of (brief index long by) 2048 ≡ long
 brief-bit index true by h = grind (arith, nat_tests)
 brief-bit index false by h = grind (arith, nat_tests)
 
--- a word that is the brief extension word of what a word told
+-- a word that is the brief extension word of another one's fields
 record IsBrief (x word : ℕ) : Type 0 where
   index : x / 4096 ≡ word / 4096
   long : bit_of x 2048 ≡ bit_of word 2048
@@ -84,7 +84,7 @@ pc_indexed_same : (x word : ℕ) → IsBrief x word → modes.PcIndexed (x / 409
 pc_indexed_same x word same = rw (same.index, same.long, same.by) refl
 
 -- a mode is read again from its extension words
-mode_again : (m r : ℕ) (size : Size) (k : ℕ) (words front rest : List ℕ) → m < 8 → r < 8 → length front ≡ k
+pub mode_again : (m r : ℕ) (size : Size) (k : ℕ) (words front rest : List ℕ) → m < 8 → r < 8 → length front ≡ k
     → mode_of m r size k (front ++ (mode_words size (mode_of m r size k words) ++ rest)) ≡ mode_of m r size k words
 unfolding mode_of mode_words
 mode_again zero r size k words front rest g h e = refl
@@ -138,11 +138,11 @@ words_counted Long (modes.Immediate value) = refl
 one : (size : Size) (w : ℕ) (tail rest : List ℕ) → low_mode size 1 (w ∷ (mode_words size (low_mode size 1 (w ∷ tail)) ++ rest)) ≡ low_mode size 1 (w ∷ tail)
 one size w tail rest = low_again size 1 w tail [] rest refl
 
--- behind one word
+-- after one word
 two : (size : Size) (w x : ℕ) (tail rest : List ℕ) → low_mode size 2 (w ∷ x ∷ (mode_words size (low_mode size 2 (w ∷ tail)) ++ rest)) ≡ low_mode size 2 (w ∷ tail)
 two size w x tail rest = low_again size 2 w tail (x ∷ []) rest refl
 
--- a number and the mode behind it
+-- a number and the mode after it
 record HasNumberAndMode (size : Size) (u words : List ℕ) : Type 0 where
   number : number_at size 1 u ≡ number_at size 1 words
   mode : low_mode size (1 + words_of_number size) u ≡ low_mode size (1 + words_of_number size) words
@@ -162,8 +162,8 @@ with_number Long w tail rest = record {
   mode = low_again Long 3 w tail (number_at Long 1 (w ∷ tail) / 65536 ∷ number_at Long 1 (w ∷ tail) % 65536 ∷ []) rest refl;
 }
 
--- a word behind the first, and a byte
-second_word : (w : ℕ) (tail rest : List ℕ) → number_at Word 1 (w ∷ number_at Word 1 (w ∷ tail) ∷ rest) ≡ number_at Word 1 (w ∷ tail)
+-- a word after the first, and a byte
+pub second_word : (w : ℕ) (tail rest : List ℕ) → number_at Word 1 (w ∷ number_at Word 1 (w ∷ tail) ∷ rest) ≡ number_at Word 1 (w ∷ tail)
 unfolding number_at
 second_word w tail rest = refl
 
@@ -268,7 +268,7 @@ made_again rows.ShiftByNumber w tail rest = refl
 made_again rows.ShiftByRegister w tail rest = refl
 made_again rows.ShiftMemory w tail rest = rw (one Word w tail rest) refl
 
-none_op : (w : ℕ) (tail rest : List ℕ) → unmatched (w ∷ rest) ≡ unmatched (w ∷ tail)
+pub none_op : (w : ℕ) (tail rest : List ℕ) → unmatched (w ∷ rest) ≡ unmatched (w ∷ tail)
 unfolding unmatched
 none_op w tail rest = refl
 

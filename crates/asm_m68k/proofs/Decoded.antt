@@ -19,7 +19,7 @@ use Rattle.m68k_decode.specs.Addressing.{control_or_postincrement, low_mode_numb
 use Rattle.m68k_decode.specs.Operands.{IsOf}
 use Rattle.asm_m68k.proofs.Instructions.{IsDisplacement, IsRead, again, bcc_again, bit_number_again, bit_register_again, bra_again, bsr_again, ccr_again, chk_again, cmp_again, cmpa_again, cmpm_again, compare_again, dbcc_again, decimal_again, divs_again, divu_again, eor_again, exg_again, ext_again, extended_again, from_sr_again, from_usp_again, immediate_again, jmp_again, jsr_again, lea_again, link_again, load_again, move_again, movea_again, movep_load_again, movep_store_again, moveq_again, muls_again, mulu_again, nbcd_again, nop_again, pea_again, quick_again, reset_again, rte_again, rtr_again, rts_again, scc_again, shift_memory_again, shift_number_again, shift_register_again, sr_again, stop_again, store_again, swap_again, tas_again, to_address_again, to_ccr_again, to_memory_again, to_register_again, to_sr_again, to_usp_again, trap_again, trapv_again, tst_again, unary_again, unlk_again}
 
-number_below : (size : Size) (k : ℕ) (words : List ℕ) → AreWords words → IsRead size (modes.Immediate (number_at size k words))
+pub number_below : (size : Size) (k : ℕ) (words : List ℕ) → AreWords words → IsRead size (modes.Immediate (number_at size k words))
 unfolding number_at
 number_below Byte k words all = record { registers = tt; written = omega arith; fits = omega arith }
 number_below Word k words all = let h = all k in record { registers = tt; written = omega arith; fits = omega arith }
@@ -45,15 +45,15 @@ mode_is_read (suc (suc (suc (suc (suc (suc (suc zero))))))) (suc (suc (suc (suc 
 mode_is_read (suc (suc (suc (suc (suc (suc (suc zero))))))) (suc (suc (suc (suc (suc (suc (suc (suc r)))))))) size k words all g h = absurd (omega arith)
 mode_is_read (suc (suc (suc (suc (suc (suc (suc (suc m)))))))) r size k words all g h = absurd (omega arith)
 
-low_is_read : (size : Size) (k : ℕ) (words : List ℕ) → AreWords words → IsRead size (low_mode size k words)
+pub low_is_read : (size : Size) (k : ℕ) (words : List ℕ) → AreWords words → IsRead size (low_mode size k words)
 unfolding low_mode
 low_is_read size k words all = mode_is_read _ _ size k words all (omega arith) (omega arith)
 
-high_is_read : (size : Size) (k : ℕ) (words : List ℕ) → AreWords words → IsRead size (high_mode size k words)
+pub high_is_read : (size : Size) (k : ℕ) (words : List ℕ) → AreWords words → IsRead size (high_mode size k words)
 unfolding high_mode
 high_is_read size k words all = mode_is_read _ _ size k words all (omega arith) (omega arith)
 
-high_below : (words : List ℕ) → high_register words < 8
+pub high_below : (words : List ℕ) → high_register words < 8
 unfolding high_register
 high_below words = omega arith
 
@@ -61,7 +61,7 @@ quick_by : (b : Bool) (n : ℕ) → n < 8 → (n == 0) ≡ b → (0 < (if b then
 quick_by true n h e = (omega arith, omega arith)
 quick_by false n h e = (grind (arith, nat_tests), omega arith)
 
-quick_in : (words : List ℕ) → (0 < quick words) × (quick words ≤ 8)
+pub quick_in : (words : List ℕ) → (0 < quick words) × (quick words ≤ 8)
 unfolding quick
 quick_in words = quick_by (high_register words == 0) (high_register words) (high_below words) refl
 
@@ -73,15 +73,15 @@ displacement_in : (words : List ℕ) → AreWords words → IsDisplacement (disp
 unfolding displacement_of
 displacement_in words all = displacement_by (slice_index words 0 % 256 == 0) words all
 
-low_below : (words : List ℕ) → low_register words < 8
+pub low_below : (words : List ℕ) → low_register words < 8
 unfolding low_register
 low_below words = omega arith
 
-byte_below : (words : List ℕ) → number_at Byte 1 words < 256
+pub byte_below : (words : List ℕ) → number_at Byte 1 words < 256
 unfolding number_at
 byte_below words = omega arith
 
-word_below : (words : List ℕ) → AreWords words → number_at Word 1 words < 65536
+pub word_below : (words : List ℕ) → AreWords words → number_at Word 1 words < 65536
 unfolding number_at
 word_below words all = all 1
 
@@ -89,7 +89,7 @@ paired_by : (b : Bool) (size : Size) (n : ℕ) → n < 8 → IsRead size (if b t
 paired_by true size n h = record { registers = h; written = tt; fits = tt }
 paired_by false size n h = record { registers = h; written = tt; fits = tt }
 
-paired_is_read : (size : Size) (words : List ℕ) (n : ℕ) → n < 8 → IsRead size (paired words n)
+pub paired_is_read : (size : Size) (words : List ℕ) (n : ℕ) → n < 8 → IsRead size (paired words n)
 unfolding paired
 paired_is_read size words n h = paired_by (bit_of (slice_index words 0) 8) size n h
 

@@ -8,7 +8,7 @@ use Rattle.m68k_decode.specs.Instructions.{made, unmatched, instruction_of, pick
 use Rattle.m68k_decode.proofs.Table.{decoded_is_picked}
 use Rattle.asm_m68k.specs.Encoding.{first_word}
 
--- the first word of what a word decodes to, with these words behind it
+-- the first word of what a word decodes to, with these words after it
 abbrev again : List ℕ → ℕ → ℕ
 again tail w = first_word (picked (nested w) (w ∷ tail)).op
 

@@ -1,6 +1,5 @@
 -- What the code makes of the text of an instruction is that instruction.
-use Rattle.std.proofs.Common.{◌≡◌, ℕ, zero, suc, ◌+◌, ◌-◌, ◌*◌, ◌/◌, ◌%◌, ◌^◌, ◌<◌, ◌≤◌, ◌==◌, Bool, true, false, not, ◌&&◌, List, [], ◌∷◌, ◌++◌, nat_lt, refl, ap, ◌∙◌, sym, arith, if◌then◌else◌, codes, Option, Some, None, mod-eq_of_lt}
-use Rattle.std.specs.Prelude.{slice_index}
+use Rattle.std.proofs.Common.{◌≡◌, ℕ, ◌+◌, ◌-◌, ◌%◌, ◌<◌, ◌≤◌, ◌==◌, Bool, true, false, not, List, [], ◌∷◌, ◌++◌, nat_lt, refl, ap, ◌∙◌, arith, codes, Some, None, mod-eq_of_lt}
 use Rattle.std.proofs.lemmas.Bool.Decides.{nat_tests}
 use Rattle.std.proofs.lemmas.Int.{ints}
 use Rattle.md_word.specs.Modes.{IsMode}
@@ -20,19 +19,19 @@ use Rattle.m68k_decode.specs.declared.op.Op.TheVariants as ops
 use Rattle.m68k_decode.specs.Addressing.{control_or_postincrement, memory_alterable}
 use Rattle.m68k_decode.specs.Operands.{FitsSize, IsOf}
 use Rattle.md_disasm.specs.Operands68.{condition_name}
-use Rattle.md_disasm.specs.Rows68.{Row68, is_turned, row_of, size_of, target}
+use Rattle.md_disasm.specs.Rows68.{is_turned, row_of, size_of, target}
 use Rattle.md_disasm.specs.Texts68.{row_text}
 use Rattle.md_disasm.specs.declared.operand68.Operand68.TheVariants as operands
 use Rattle.md_asm_text.specs.Pieces.{every, is_worded, opened, split}
 use Rattle.asm_m68k.specs.Reading.{Source, read_source}
-use Rattle.asm_m68k.specs.Building.{built, meant, stem_in, stem_of, register, number, quick, displacement, base, by_word, either, is_ccr, is_data, is_nothing, is_sr, is_usp, offset, is_list, list, list_with, turned}
+use Rattle.asm_m68k.specs.Building.{built, meant, stem_in, stem_of, register, number, quick, displacement, base, by_word, either, is_ccr, is_data, is_sr, is_usp, offset, is_list, list, list_with, turned}
 use Rattle.asm_m68k.specs.Building as building
 use Rattle.asm_m68k.specs.Table.{IsBit, IsDecimal, IsExtended, IsImmediate, IsLogic, IsQuick, IsShift, IsSum, IsUnary}
 use Rattle.asm_m68k.specs.declared.form.Form.TheVariants as forms
 use Rattle.asm_m68k.specs.declared.stem.Stem.TheVariants as stems
 use Rattle.asm_m68k.proofs.Operands.{IsWritten, form_of_mode, form_of_number}
 use Rattle.asm_m68k.proofs.Lists.{down_whole, list_form, listed, register_masks, names_form, up_whole}
-use Rattle.asm_m68k.proofs.Sources.{row_of_one, row_of_two, source_of}
+use Rattle.asm_m68k.proofs.Sources.{row_of_one, row_of_two}
 
 -- an operand as decoding gives it
 pub record IsRead (size : Size) (mode : Mode) : Type 0 where
@@ -99,7 +98,7 @@ unfolding number target
 displacement_back (displacements.Byte by) at h k = ap displacements.Byte (byte_from at (extended Byte by) h ∙ extended_byte by k)
 displacement_back (displacements.Word by) at h k = ap displacements.Word (word_from at (extended Word by) h ∙ extended_word by k)
 
-target_below : (at : ℕ) (d : Displacement) → target at d < 4294967296
+pub target_below : (at : ℕ) (d : Displacement) → target at d < 4294967296
 unfolding target
 target_below at d = omega arith
 
@@ -153,22 +152,6 @@ not_usp Byte (modes.Immediate n) = refl
 not_usp Word (modes.Immediate n) = refl
 not_usp Long (modes.Immediate n) = refl
 
-not_nothing : (size : Size) (mode : Mode) → is_nothing (form_of_mode size mode) ≡ false
-not_nothing size (modes.Data n) = refl
-not_nothing size (modes.Address n) = refl
-not_nothing size (modes.Indirect n) = refl
-not_nothing size (modes.PostInc n) = refl
-not_nothing size (modes.PreDec n) = refl
-not_nothing size (modes.Displaced n by) = refl
-not_nothing size (modes.Indexed n index long by) = refl
-not_nothing size (modes.AbsShort a) = refl
-not_nothing size (modes.AbsLong a) = refl
-not_nothing size (modes.PcDisplaced by) = refl
-not_nothing size (modes.PcIndexed index long by) = refl
-not_nothing Byte (modes.Immediate n) = refl
-not_nothing Word (modes.Immediate n) = refl
-not_nothing Long (modes.Immediate n) = refl
-
 -- memory is no data register
 not_data : (size : Size) (mode : Mode) → IsOf memory_alterable mode → is_data (form_of_mode size mode) ≡ false
 not_data size (modes.Data n) h = absurd (cc)
@@ -213,10 +196,6 @@ word_is n h = omega arith
 vector_is : (n : ℕ) → n < 16 → number (forms.Immediate n) % 16 ≡ n
 unfolding number
 vector_is n h = omega arith
-
-offset_is : (n by : ℕ) → by < 65536 → offset (forms.Displaced n by) ≡ by
-unfolding offset
-offset_is n by h = omega arith
 
 by_word_is : (d at : ℕ) → at < 4294967296 → d < 65536 → by_word at (forms.Bare (target at (displacements.Word d))) ≡ d
 unfolding number target

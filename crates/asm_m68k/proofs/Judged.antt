@@ -1,5 +1,5 @@
--- What words decode to is made again of the pieces of its text; so what is judged to say the pieces
--- is that instruction, whatever follows its words.
+-- What words decode to is made again of the tokens of its text. So words that pass the round-trip check are of that
+-- instruction, whatever follows them.
 use Rattle.std.proofs.Common.{◌≡◌, ℕ, ◌+◌, ◌<◌, List, [], ◌∷◌, ◌++◌, Option, Some, None, refl, ap, ◌∙◌, sym, arith}
 use Rattle.std.specs.Prelude.{slice_index}
 use Rattle.m68k_decode.specs.Instructions.{instruction_of, made, picked}
@@ -24,7 +24,7 @@ picked_made_again : (row : Option Row) (words : List ℕ) (at : ℕ) → IsEnter
 picked_made_again None words at is all h = absurd is
 picked_made_again (Some row) words at is all h = row_again row words at is all h
 
--- the instruction is made again of the pieces of its text
+-- the instruction is made again of the tokens of its text
 pub meant_again : (word : ℕ) (tail : List ℕ) (at : ℕ) → word < 65536 → IsInstruction (nested word) → AreWords (word ∷ tail) → at < 4294967296
     → meant (read_source (pieces (text_of (instruction_of (word ∷ tail)) at))) at ≡ (instruction_of (word ∷ tail)).op
 meant_again word tail at below is all h =
@@ -36,10 +36,10 @@ pub tried_again : (word : ℕ) (tail rest : List ℕ) (at : ℕ) → word < 6553
 tried_again word tail rest at below is all h =
     rw (meant_again word tail at below is all h) (decoded_again word tail rest below)
 
--- words that say the pieces, and are those that are tried for them, say them whatever follows
-pub said_again : (word : ℕ) (tail more rest : List ℕ) (said : List Piece) (at : ℕ) → word < 65536 → IsInstruction (nested word) → AreWords (word ∷ tail ++ more) → at < 4294967296
-    → word ∷ tail ≡ tried said at → pieces (text_of (instruction_of (word ∷ tail ++ more)) at) ≡ said → instruction_of (word ∷ tail ++ rest) ≡ instruction_of (word ∷ tail ++ more)
-said_again word tail more rest said at below is all h are text =
-    let again : instruction_of (tried said at ++ rest) ≡ instruction_of (word ∷ tail ++ more)
+-- words that say the tokens, and are those that are tried for them, say them whatever follows
+pub said_again : (word : ℕ) (tail more rest : List ℕ) (line_tokens : List Piece) (at : ℕ) → word < 65536 → IsInstruction (nested word) → AreWords (word ∷ tail ++ more) → at < 4294967296
+    → word ∷ tail ≡ tried line_tokens at → pieces (text_of (instruction_of (word ∷ tail ++ more)) at) ≡ line_tokens → instruction_of (word ∷ tail ++ rest) ≡ instruction_of (word ∷ tail ++ more)
+said_again word tail more rest line_tokens at below is all h are text =
+    let again : instruction_of (tried line_tokens at ++ rest) ≡ instruction_of (word ∷ tail ++ more)
     = rw (sym text) (tried_again word (tail ++ more) rest at below is all h) in
     ap (λ (l : List ℕ). instruction_of (l ++ rest)) are ∙ again

@@ -1,19 +1,18 @@
--- The lists of MOVEM: how their texts fall into pieces, and that what is read of them is the list.
-use Rattle.std.proofs.Common.{◌≡◌, ℕ, ◌+◌, ◌-◌, ◌*◌, ◌/◌, ◌%◌, ◌^◌, ◌<◌, ◌==◌, Bool, true, false, not, ◌&&◌, cond, List, [], ◌∷◌, ◌++◌, nat_lt, append_assoc, append-nil, refl, ap, ◌∙◌, sym, arith, if◌then◌else◌, codes, lit<}
+-- The lists of MOVEM: how their texts fall into tokens, and that what is read of them is the list.
+use Rattle.std.proofs.Common.{◌≡◌, ℕ, ◌+◌, ◌-◌, ◌*◌, ◌/◌, ◌%◌, ◌^◌, ◌<◌, ◌==◌, Bool, true, false, cond, List, [], ◌∷◌, ◌++◌, append_assoc, refl, ap, ◌∙◌, arith, if◌then◌else◌, codes, lit<}
 use Rattle.std.specs.List.{filter, flat_map, join_by}
 use Rattle.std.proofs.lemmas.Bool.Decides.{nat_tests}
 use Rattle.md_disasm.specs.Operands68.{is_listed, list_text, register_name, registers}
 use Rattle.md_asm_text.specs.Operands.{operands_of}
 use Rattle.md_asm_text.specs.Pieces as pieces
-use Rattle.md_asm_text.specs.Pieces.{Piece, is_worded, is_name, split, told, closed}
-use Rattle.md_asm_text.proofs.Splits.{is_end, mark_split, word_split}
-use Rattle.asm_m68k.specs.Reading.{Masks, operand_form, masks_of, register_of, with_register, word_form}
-use Rattle.asm_m68k.specs.Reading as reading
+use Rattle.md_asm_text.specs.Pieces.{Piece, is_worded, is_name, split, token_of}
+use Rattle.md_asm_text.proofs.Splits.{behind, is_end, mark_split, word_split}
+use Rattle.asm_m68k.specs.Reading.{Masks, operand_form, masks_of, with_register, word_form}
 use Rattle.asm_m68k.specs.declared.form.Form.{Form}
 use Rattle.asm_m68k.specs.declared.form.Form.TheVariants as forms
-use Rattle.asm_m68k.proofs.Operands.{behind, either_form, name_read, name_split}
+use Rattle.asm_m68k.proofs.Operands.{either_form, name_read, name_split}
 
--- ---- pieces
+-- ---- tokens
 
 abbrev pub more_pieces : List ℕ → List Piece
 more_pieces [] = []
@@ -52,7 +51,7 @@ names_split (n ∷ ns) e ends =
     ∙ name_split n (flat_map slashed ns ++ e) (more_end ns e ends) ∙ behind _ _ _ (more_split ns e ends)
 
 list_split_by : (b : Bool) (turned : Bool) (list : ℕ) (e : List ℕ) → (list == 0) ≡ b → is_end e ≡ true → split [] (list_text turned list ++ e) ≡ list_pieces turned list ++ split [] e
-unfolding list_text is_worded told is_name
+unfolding list_text is_worded token_of is_name
 list_split_by true turned list e is ends = rw is (word_split (codes "none") e refl ends)
 list_split_by false turned list e is ends = rw is (names_split (listed turned list) e ends)
 

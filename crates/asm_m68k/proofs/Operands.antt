@@ -1,7 +1,6 @@
--- How the texts of operands fall into pieces, and what is read of them.
-use Rattle.std.proofs.Common.{◌≡◌, ℕ, ◌+◌, ◌-◌, ◌*◌, ◌/◌, ◌%◌, ◌^◌, ◌<◌, ◌==◌, Bool, true, false, not, ◌&&◌, List, [], ◌∷◌, ◌++◌, nat_lt, append_assoc, append-nil, refl, ap, ◌∙◌, sym, arith, if◌then◌else◌, codes}
+-- How the texts of operands fall into tokens, and what is read of them.
+use Rattle.std.proofs.Common.{◌≡◌, ℕ, ◌+◌, ◌-◌, ◌%◌, ◌<◌, ◌==◌, Bool, true, false, List, [], ◌∷◌, ◌++◌, nat_lt, append_assoc, append-nil, refl, ap, ◌∙◌, arith, if◌then◌else◌, codes}
 use Rattle.std.specs.Fmt.{digit_glyph}
-use Rattle.std.specs.List.{filter, flat_map, join_by}
 use Rattle.std.proofs.lemmas.Bool.Decides.{nat_tests}
 use Rattle.md_word.specs.Modes.{IsMode}
 use Rattle.md_word.specs.declared.mode.Mode.{Mode}
@@ -9,15 +8,15 @@ use Rattle.md_word.specs.declared.mode.Mode.TheVariants as modes
 use Rattle.md_word.specs.declared.size.Size.{Size}
 use Rattle.md_word.specs.declared.size.Size.TheVariants.{Byte, Word, Long}
 use Rattle.md_disasm.specs.Digits.{one_digit, two_digits, four_digits, eight_digits, marked_digit, marked_byte, marked_word, marked_long}
-use Rattle.md_disasm.specs.Operands68.{index_text, is_listed, list_text, mode_text, number_text, operand_text, register_name, registers}
+use Rattle.md_disasm.specs.Operands68.{index_text, mode_text, number_text, register_name}
 use Rattle.md_asm_text.specs.Pieces as pieces
-use Rattle.md_asm_text.specs.Pieces.{Piece, is_worded, is_name, split, told, closed}
-use Rattle.md_asm_text.proofs.Splits.{is_end, register_split, number_1, number_2, number_4, number_8, mark_split, word_ends, word_split}
+use Rattle.md_asm_text.specs.Pieces.{Piece, is_worded, is_name, split, token_of}
+use Rattle.md_asm_text.proofs.Splits.{is_end, register_split, number_2, number_4, number_8, mark_split, word_split, behind, apart}
 use Rattle.asm_m68k.specs.Reading.{operand_form, register_of, low_register_of, word_form}
 use Rattle.asm_m68k.specs.declared.form.Form.{Form}
 use Rattle.asm_m68k.specs.declared.form.Form.TheVariants as forms
 
--- ---- the pieces of operands
+-- ---- the tokens of operands
 
 abbrev pub data_word : ℕ → Piece
 data_word n = pieces.Word (100 ∷ one_digit n)
@@ -58,12 +57,9 @@ IsWritten (modes.PcIndexed index long by) = by < 256
 IsWritten (modes.Immediate n) = n < 4294967296
 IsWritten mode = Unit {0}
 
--- ---- texts fall into these pieces
+-- ---- texts fall into these tokens
 
-pub behind : (p : Piece) (xs ys : List Piece) → xs ≡ ys → p ∷ xs ≡ p ∷ ys
-behind p xs ys e = ap (λ (l : List Piece). p ∷ l) e
-
--- An and a bracket behind it
+-- An and a bracket after it
 in_bracket : (n : ℕ) (e : List ℕ) → split [] (40 ∷ 97 ∷ (one_digit n ++ (41 ∷ e))) ≡ pieces.Mark 40 ∷ address_word n ∷ pieces.Mark 41 ∷ split [] e
 unfolding is_worded
 in_bracket n e =
@@ -82,7 +78,7 @@ name_split n e ends = name_split_by (nat_lt n 8) n e refl ends
 
 -- an index register with its size
 size_letter : (long : Bool) (e : List ℕ) → split [] (46 ∷ ((if long then codes "l" else codes "w") ++ (41 ∷ e))) ≡ pieces.Mark 46 ∷ pieces.Word (if long then codes "l" else codes "w") ∷ pieces.Mark 41 ∷ split [] e
-unfolding split is_worded told is_name
+unfolding split is_worded token_of is_name
 size_letter true e = refl
 size_letter false e = refl
 
@@ -98,9 +94,6 @@ index_split index long e =
     ∙ name_split index (46 ∷ ((if long then codes "l" else codes "w") ++ (41 ∷ e))) refl
     ∙ behind _ _ _ (size_letter long e)
 
-pub apart : (a b c e : List ℕ) → ((a ++ b) ++ c) ++ e ≡ a ++ (b ++ (c ++ e))
-apart a b c e = append_assoc (a ++ b) c e ∙ append_assoc a b (c ++ e)
-
 pub number_parts : (size : Size) (n : ℕ) (e : List ℕ) → n < 4294967296 → is_end e ≡ true → split [] (number_text size n ++ e) ≡ number_pieces size n ++ split [] e
 unfolding marked_byte marked_word marked_long is_worded
 number_parts Byte n e h ends =
@@ -113,7 +106,7 @@ number_parts Long n e h ends =
     ap (split []) (apart (codes "#$") (eight_digits n) [] e)
     ∙ mark_split 35 (36 ∷ (eight_digits n ++ e)) refl ∙ behind _ _ _ (number_8 n e h ends)
 
--- An with a comma behind it, and an index
+-- An with a comma after it, and an index
 in_index : (n index : ℕ) (long : Bool) (e : List ℕ) → is_end e ≡ true
     → split [] (40 ∷ 97 ∷ (one_digit n ++ (44 ∷ (index_text index long ++ e)))) ≡ pieces.Mark 40 ∷ address_word n ∷ pieces.Mark 44 ∷ (index_pieces index long ++ split [] e)
 unfolding is_worded
@@ -122,26 +115,26 @@ in_index n index long e ends =
     ∙ behind _ _ _ (register_split 97 n (44 ∷ (index_text index long ++ e)) refl refl refl
     ∙ behind _ _ _ (mark_split 44 (index_text index long ++ e) refl ∙ behind _ _ _ (index_split index long e)))
 
--- PC and a bracket behind it
+-- PC and a bracket after it
 in_pc : (e : List ℕ) → split [] (40 ∷ 112 ∷ 99 ∷ 41 ∷ e) ≡ pieces.Mark 40 ∷ pieces.Word (codes "pc") ∷ pieces.Mark 41 ∷ split [] e
-unfolding split is_worded told is_name
+unfolding split is_worded token_of is_name
 in_pc e = refl
 
 pc_comma : (l : List ℕ) → split [] (40 ∷ 112 ∷ 99 ∷ 44 ∷ l) ≡ pieces.Mark 40 ∷ pieces.Word (codes "pc") ∷ pieces.Mark 44 ∷ split [] l
-unfolding split is_worded told is_name
+unfolding split is_worded token_of is_name
 pc_comma l = refl
 
 in_pc_index : (index : ℕ) (long : Bool) (e : List ℕ)
     → split [] (40 ∷ 112 ∷ 99 ∷ 44 ∷ (index_text index long ++ e)) ≡ pieces.Mark 40 ∷ pieces.Word (codes "pc") ∷ pieces.Mark 44 ∷ (index_pieces index long ++ split [] e)
 in_pc_index index long e = pc_comma (index_text index long ++ e) ∙ behind _ _ _ (behind _ _ _ (behind _ _ _ (index_split index long e)))
 
--- a size behind an address
+-- a size after an address
 short_end : (e : List ℕ) → is_end e ≡ true → split [] (46 ∷ 119 ∷ e) ≡ pieces.Mark 46 ∷ pieces.Word (codes "w") ∷ split [] e
-unfolding is_worded told is_name
+unfolding is_worded token_of is_name
 short_end e ends = mark_split 46 (119 ∷ e) refl ∙ behind _ _ _ (word_split (codes "w") e refl ends)
 
 long_end : (e : List ℕ) → is_end e ≡ true → split [] (46 ∷ 108 ∷ e) ≡ pieces.Mark 46 ∷ pieces.Word (codes "l") ∷ split [] e
-unfolding is_worded told is_name
+unfolding is_worded token_of is_name
 long_end e ends = mark_split 46 (108 ∷ e) refl ∙ behind _ _ _ (word_split (codes "l") e refl ends)
 
 pub mode_split : (size : Size) (mode : Mode) (e : List ℕ) → IsWritten mode → is_end e ≡ true → split [] (mode_text size mode ++ e) ≡ mode_pieces size mode ++ split [] e

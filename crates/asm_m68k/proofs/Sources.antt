@@ -1,26 +1,24 @@
 -- What is read of the text of a row: its name, its size and the forms of its operands.
-use Rattle.std.proofs.Common.{◌≡◌, ℕ, ◌+◌, ◌-◌, ◌*◌, ◌/◌, ◌%◌, ◌^◌, ◌<◌, ◌==◌, Bool, true, false, not, ◌&&◌, List, [], ◌∷◌, ◌++◌, nat_lt, append_assoc, append-nil, refl, ap, ◌∙◌, sym, arith, if◌then◌else◌, codes, Option, Some, None}
+use Rattle.std.proofs.Common.{◌≡◌, ℕ, ◌+◌, ◌-◌, ◌<◌, true, false, List, [], ◌∷◌, ◌++◌, append_assoc, append-nil, refl, ap, ◌∙◌, sym, codes, Option, Some, None}
 use Rattle.md_word.specs.Modes.{IsMode}
 use Rattle.md_word.specs.declared.mode.Mode.{Mode}
 use Rattle.md_word.specs.declared.mode.Mode.TheVariants as modes
 use Rattle.md_word.specs.declared.size.Size.{Size}
 use Rattle.md_word.specs.declared.size.Size.TheVariants.{Byte, Word, Long}
 use Rattle.md_disasm.specs.Digits.{one_digit, four_digits, eight_digits, marked_digit, marked_word, marked_long}
-use Rattle.md_disasm.specs.Operands68.{list_text, operand_text, register_name}
-use Rattle.md_disasm.specs.Names68.{size_name}
+use Rattle.md_disasm.specs.Operands68.{operand_text, register_name}
 use Rattle.md_disasm.specs.Rows68.{Row68}
 use Rattle.md_disasm.specs.Texts68.{led, row_text, size_text}
 use Rattle.md_disasm.specs.declared.operand68.Operand68.{Operand68}
 use Rattle.md_disasm.specs.declared.operand68.Operand68.TheVariants as operands
 use Rattle.md_asm_text.specs.Operands.{operands_of}
 use Rattle.md_asm_text.specs.Pieces as pieces
-use Rattle.md_asm_text.specs.Pieces.{Piece, every, is_worded, is_name, split, told, closed, opened}
-use Rattle.md_asm_text.proofs.Splits.{is_end, name_opens, register_split, number_1, number_4, number_8, mark_split, word_split}
-use Rattle.asm_m68k.specs.Reading.{Source, operand_form, word_form, register_of, read_source, with_operands, with_size}
-use Rattle.asm_m68k.specs.Reading as reading
+use Rattle.md_asm_text.specs.Pieces.{Piece, every, is_worded, is_name, split, token_of, opened}
+use Rattle.md_asm_text.proofs.Splits.{is_end, name_opens, register_split, number_1, number_4, number_8, mark_split, word_split, behind, apart}
+use Rattle.asm_m68k.specs.Reading.{Source, operand_form, word_form, read_source, with_operands, with_size}
 use Rattle.asm_m68k.specs.declared.form.Form.{Form}
 use Rattle.asm_m68k.specs.declared.form.Form.TheVariants as forms
-use Rattle.asm_m68k.proofs.Operands.{IsWritten, apart, behind, data_word, address_word, either_form, data_read, address_read, form_of_mode, form_of_number, mode_pieces, mode_read, mode_split, name_read, name_split, number_parts, number_pieces, number_read, register_form}
+use Rattle.asm_m68k.proofs.Operands.{IsWritten, data_word, address_word, either_form, data_read, address_read, form_of_mode, form_of_number, mode_pieces, mode_read, mode_split, name_split, number_parts, number_pieces, number_read, register_form}
 use Rattle.asm_m68k.proofs.Lists.{list_alone, list_apart, list_form, list_pieces, list_read, list_split}
 
 -- ---- operands
@@ -58,7 +56,7 @@ IsShown (operands.Registers turned list) = list < 65536
 
 -- a word of letters
 pub operand_split : (o : Operand68) (e : List ℕ) → IsShown o → is_end e ≡ true → split [] (operand_text o ++ e) ≡ operand_pieces o ++ split [] e
-unfolding marked_digit marked_word marked_long is_worded told is_name
+unfolding marked_digit marked_word marked_long is_worded token_of is_name
 operand_split operands.Nothing e h ends = refl
 operand_split (operands.Place size mode) e h ends = mode_split size mode e h.1 ends
 operand_split (operands.Data n) e h ends = ap (split []) (apart (codes "d") (one_digit n) [] e) ∙ register_split 100 n e refl refl ends
@@ -231,13 +229,13 @@ size_pieces (Some Word) = pieces.Mark 46 ∷ pieces.Word (codes "w") ∷ []
 size_pieces (Some Long) = pieces.Mark 46 ∷ pieces.Word (codes "l") ∷ []
 
 size_split : (size : Option Size) (e : List ℕ) → is_end e ≡ true → split [] (size_text size ++ e) ≡ size_pieces size ++ split [] e
-unfolding is_worded told is_name
+unfolding is_worded token_of is_name
 size_split None e ends = refl
 size_split (Some Byte) e ends = mark_split 46 (98 ∷ e) refl ∙ behind _ _ _ (word_split (codes "b") e refl ends)
 size_split (Some Word) e ends = mark_split 46 (119 ∷ e) refl ∙ behind _ _ _ (word_split (codes "w") e refl ends)
 size_split (Some Long) e ends = mark_split 46 (108 ∷ e) refl ∙ behind _ _ _ (word_split (codes "l") e refl ends)
 
-size_end : (size : Option Size) (e : List ℕ) → is_end e ≡ true → is_end (size_text size ++ e) ≡ true
+pub size_end : (size : Option Size) (e : List ℕ) → is_end e ≡ true → is_end (size_text size ++ e) ≡ true
 unfolding is_worded
 size_end None e ends = ends
 size_end (Some Byte) e ends = refl
@@ -247,7 +245,7 @@ size_end (Some Long) e ends = refl
 abbrev pub row_pieces : Row68 → List Piece
 row_pieces row = pieces.Word row.name ∷ (size_pieces row.size ++ (led_pieces 32 row.first ++ led_pieces 44 row.second))
 
-row_shape : (name size first second : List ℕ) → ((name ++ size) ++ first) ++ second ≡ name ++ (size ++ (first ++ (second ++ [])))
+pub row_shape : (name size first second : List ℕ) → ((name ++ size) ++ first) ++ second ≡ name ++ (size ++ (first ++ (second ++ [])))
 row_shape name size first second =
     append_assoc (name ++ size) first second ∙ append_assoc name size (first ++ second) ∙ ap (λ (l : List ℕ). name ++ (size ++ (first ++ l))) (sym (append-nil second))
 

@@ -68,12 +68,12 @@ turned (forms.Register n) = 2 ^ (15 - n) % 65536
 turned (forms.Registers up down) = down
 turned _ = 0
 
--- the list that stands with a mode
+-- the list of MOVEM with this mode
 abbrev pub list_with : Mode → Form → ℕ
 list_with (modes.PreDec n) f = turned f
 list_with _ f = list f
 
--- the displacement from behind the first word to a target
+-- the displacement from the end of the first word to a target
 abbrev pub by_byte : ℕ → Form → Displacement
 by_byte at f = displacements.Byte ((number f + 0x2_0000_0000 - at - 2) % 256)
 
@@ -118,7 +118,7 @@ abbrev pub is_data : Form → Bool
 is_data (forms.Register n) = nat_lt n 8
 is_data _ = false
 
--- MOVEM: the list stands first where the registers are stored
+-- MOVEM: the list comes first where the registers are stored
 abbrev pub is_list : Form → Bool
 is_list (forms.Register n) = true
 is_list (forms.Registers up down) = true

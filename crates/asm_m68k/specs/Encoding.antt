@@ -31,7 +31,7 @@ mode_code (modes.PcDisplaced by) = 58
 mode_code (modes.PcIndexed index long by) = 59
 mode_code (modes.Immediate value) = 60
 
--- the target of MOVE: its register stands before its mode
+-- the target of MOVE: its register comes before its mode
 abbrev pub target_code : Mode → ℕ
 target_code mode = mode_code mode % 8 * 8 + mode_code mode / 8
 
@@ -227,7 +227,7 @@ abbrev pub displacement_words : Displacement → List ℕ
 displacement_words (displacements.Byte by) = []
 displacement_words (displacements.Word by) = by ∷ []
 
--- the words behind the first: a number or a list, then the extension words of the source, of the target
+-- the words after the first: a number or a list, then the extension words of the source, of the target
 unfoldable pub extension : Op → List ℕ
 extension (ops.Immediate _ size value mode) = number_words size value ++ mode_words size mode
 extension (ops.CompareImmediate size value mode) = number_words size value ++ mode_words size mode

@@ -5,11 +5,11 @@ use Rattle.md_asm_text.specs.Pieces.{Piece}
 use Rattle.asm_m68k.specs.Building.{meant}
 use Rattle.asm_m68k.specs.Reading.{read_source}
 
--- the words of what is made of the pieces
+-- the words of the instruction that is read of tokens
 abbrev pub tried : List Piece → ℕ → List ℕ
-tried said at = encoded (meant (read_source said) at)
+tried line_tokens at = encoded (meant (read_source line_tokens) at)
 
--- one to five words, filled up with 0 to five
+-- one to five words, with words of 0 after them up to five
 abbrev pub padded : List ℕ → List ℕ
 padded [] = 0 ∷ 0 ∷ 0 ∷ 0 ∷ 0 ∷ []
 padded (a ∷ []) = a ∷ 0 ∷ 0 ∷ 0 ∷ 0 ∷ []

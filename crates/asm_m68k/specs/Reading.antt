@@ -1,5 +1,5 @@
--- What the code reads of an instruction's pieces. It takes every text for one of the forms that its
--- kinds of pieces allow; what it made of it is compared with the text afterwards, so nobody has to
+-- What the code reads of an instruction's tokens. It takes every text for one of the forms that its
+-- kinds of tokens allow; what it made of it is compared with the text afterwards, so nobody has to
 -- believe this file.
 use Rattle.std.specs.Prelude.{ℕ, ◌+◌, ◌-◌, ◌*◌, ◌/◌, ◌%◌, ◌^◌, ◌==◌, Bool, true, false, ◌&&◌, not, if◌then◌else◌, List, [], ◌∷◌, ◌++◌, Option, Some, None}
 use Rattle.md_word.specs.declared.size.Size.{Size}
@@ -45,18 +45,18 @@ masks_of (p ∷ ps) = masks_of ps
 abbrev pub registers_of : List Piece → Form
 registers_of ps = forms.Registers (masks_of ps).0 (masks_of ps).1
 
--- (An) or (An)+, by what stands behind An
+-- (An) or (An)+, by what follows An
 abbrev pub bracketed : List ℕ → List Piece → Form
 bracketed word [] = forms.Nothing
 bracketed word (p ∷ []) = forms.Indirect (low_register_of word)
 bracketed word (p ∷ q ∷ ps) = forms.PostInc (low_register_of word)
 
--- behind -(
+-- after -(
 abbrev pub lowered : List Piece → Form
 lowered (pieces.Word word ∷ ps) = forms.PreDec (low_register_of word)
 lowered ps = forms.Nothing
 
--- behind a character
+-- after a character
 abbrev pub marked : List Piece → Form
 marked [] = forms.Nothing
 marked (pieces.Number n ∷ ps) = forms.Immediate n
@@ -69,23 +69,23 @@ indexed n word index size =
     if begins 112 word then forms.PcIndexed (register_of index) (begins 108 size) n
     else forms.Indexed (low_register_of word) (register_of index) (begins 108 size) n
 
--- behind the index register
+-- after the index register
 abbrev pub with_index : ℕ → List ℕ → List ℕ → List Piece → Form
 with_index n word index (p ∷ pieces.Word size ∷ ps) = indexed n word index size
 with_index n word index ps = forms.Nothing
 
--- behind the base register and a bracket or a comma
+-- after the base register and a bracket or a comma
 abbrev pub based : ℕ → List ℕ → List Piece → Form
 based n word [] = if begins 112 word then forms.PcDisplaced n else forms.Displaced (low_register_of word) n
 based n word (pieces.Word index ∷ ps) = with_index n word index ps
 based n word (p ∷ ps) = forms.Nothing
 
--- behind a number and a word
+-- after a number and a word
 abbrev pub sized : ℕ → List ℕ → List Piece → Form
 sized n word [] = if begins 119 word then forms.Short n else forms.Long n
 sized n word (p ∷ ps) = based n word ps
 
--- behind a number and a character
+-- after a number and a character
 abbrev pub behind_number : ℕ → List Piece → Form
 behind_number n (pieces.Word word ∷ ps) = sized n word ps
 behind_number n ps = forms.Nothing

@@ -1,126 +1,19 @@
-ghost use Rattle.std.specs.Prelude.{◌≡◌, ◌<◌, ◌≤◌, ◌%◌};
-ghost use Rattle.m68k_decode.specs.Operands.{IsOperand};
+//! The instruction that a mnemonic, a size and the forms of two operands name.
+
+ghost use Rattle.std.specs.Prelude.{◌≡◌};
 ghost use Rattle.asm_m68k.specs.Coded.{IsCoded};
 ghost use Rattle.asm_m68k.specs.Building as building;
 ghost use Rattle.asm_m68k.specs.Forms.{IsForm};
 
-use crate::stem::Stem;
-use m68k_decode::{Displacement, Op};
 use crate::Form;
-use md_word::{Mode, Size, Task};
-
-/// An addressing mode.
-#[tactic(auto, unfolding(crate::specs::Building::mode))]
-fn mode(size: Size, form: Form) -> Mode
-    requires { IsForm form }
-    ensures value { result ≡ building.mode size form }
-    ensures operand { IsOperand size result }
-{
-    match form {
-        Form::Register(n) if n < 8 => Mode::Data(n),
-        Form::Register(n) => Mode::Address(n % 8),
-        Form::Indirect(n) => Mode::Indirect(n),
-        Form::PostInc(n) => Mode::PostInc(n),
-        Form::PreDec(n) => Mode::PreDec(n),
-        Form::Displaced(n, by) => Mode::Displaced(n, (by % 65536) as u16),
-        Form::Indexed(n, index, long, by) => Mode::Indexed(n, index, long, (by % 256) as u8),
-        Form::Short(at) => Mode::AbsShort((at % 65536) as u16),
-        Form::Long(at) => Mode::AbsLong(at),
-        Form::PcDisplaced(by) => Mode::PcDisplaced((by % 65536) as u16),
-        Form::PcIndexed(index, long, by) => Mode::PcIndexed(index, long, (by % 256) as u8),
-        Form::Immediate(n) => Mode::Immediate(size.low(n)),
-        _ => Mode::Data(0),
-    }
-}
-
-/// A register of one kind.
-#[tactic(auto, unfolding(crate::specs::Building::register))]
-fn register(form: Form) -> u8
-    ensures value { result ≡ building.register form }
-    ensures below { result < 8 }
-{
-    match form {
-        Form::Register(n) => n % 8,
-        _ => 0,
-    }
-}
-
-/// A number.
-#[tactic(auto, unfolding(crate::specs::Building::number))]
-fn number(form: Form) -> u32
-    ensures { result ≡ building.number form }
-{
-    match form {
-        Form::Immediate(n) | Form::Bare(n) => n,
-        _ => 0,
-    }
-}
-
-/// A number from 1 to 8.
-fn quick(form: Form) -> u8
-    ensures value { result ≡ building.quick form }
-    ensures some { 0 < result }
-    ensures most { result ≤ 8 }
-{
-    ((u64::from(number(form)) + 7) % 8 + 1) as u8
-}
-
-/// A list of registers as the bits of D0 to A7.
-#[tactic(auto, unfolding(crate::specs::Building::list))]
-fn list(form: Form) -> u16
-    requires { IsForm form }
-    ensures { result ≡ building.list form }
-{
-    match form {
-        Form::Register(n) => ((1u32 << n) % 65536) as u16,
-        Form::Registers(up, _) => up,
-        _ => 0,
-    }
-}
-
-/// The same turned round.
-#[tactic(auto, unfolding(crate::specs::Building::turned))]
-fn turned(form: Form) -> u16
-    requires { IsForm form }
-    ensures { result ≡ building.turned form }
-{
-    match form {
-        Form::Register(n) => ((1u32 << (15 - n)) % 65536) as u16,
-        Form::Registers(_, down) => down,
-        _ => 0,
-    }
-}
-
-/// The list that stands with a mode.
-fn list_with(mode: Mode, form: Form) -> u16
-    requires { IsForm form }
-    ensures { result ≡ building.list_with mode form }
-{
-    match mode {
-        Mode::PreDec(_) => turned(form),
-        _ => list(form),
-    }
-}
-
-/// The displacement from behind the first word of an instruction to a target.
-fn displacement(size: Size, at: u32, form: Form) -> Displacement
-    ensures { result ≡ building.displacement size at form }
-{
-    let by = u64::from(number(form)) + 0x2_0000_0000 - u64::from(at) - 2;
-    match size {
-        Size::Byte => Displacement::Byte((by % 256) as u8),
-        _ => Displacement::Word((by % 65536) as u16),
-    }
-}
-
-fn is_list(form: Form) -> bool
-    ensures { result ≡ building.is_list form }
-{
-    match form {
-        Form::Register(_) | Form::Registers(_, _) => true,
-        _ => false,
-    }
-}
+use crate::form_values::{
+    base, by_word, displacement, either, is_ccr, is_data, is_displaced, is_immediate, is_list,
+    is_nothing, is_sr, is_usp, list, list_with, low_byte, low_word, mode, number, offset, quick,
+    register,
+};
+use crate::stem::Stem;
+use m68k_decode::Op;
+use md_word::{Size, Task};
 
 fn movem(size: Size, first: Form, second: Form) -> Op
     requires first { IsForm first }
@@ -134,128 +27,6 @@ fn movem(size: Size, first: Form, second: Form) -> Op
     } else {
         Op::MovemToRegisters(size, list(second), mode(size, first))
     }
-}
-
-fn is_ccr(form: Form) -> bool
-    ensures { result ≡ building.is_ccr form }
-{
-    match form {
-        Form::Ccr => true,
-        _ => false,
-    }
-}
-
-fn is_sr(form: Form) -> bool
-    ensures { result ≡ building.is_sr form }
-{
-    match form {
-        Form::Sr => true,
-        _ => false,
-    }
-}
-
-fn is_usp(form: Form) -> bool
-    ensures { result ≡ building.is_usp form }
-{
-    match form {
-        Form::Usp => true,
-        _ => false,
-    }
-}
-
-fn is_nothing(form: Form) -> bool
-    ensures { result ≡ building.is_nothing form }
-{
-    match form {
-        Form::Nothing => true,
-        _ => false,
-    }
-}
-
-fn is_immediate(form: Form) -> bool
-    ensures { result ≡ building.is_immediate_form form }
-{
-    match form {
-        Form::Immediate(_) => true,
-        _ => false,
-    }
-}
-
-fn is_displaced(form: Form) -> bool
-    ensures { result ≡ building.is_displaced form }
-{
-    match form {
-        Form::Displaced(_, _) => true,
-        _ => false,
-    }
-}
-
-fn is_data(form: Form) -> bool
-    ensures { result ≡ building.is_data form }
-{
-    match form {
-        Form::Register(n) => n < 8,
-        _ => false,
-    }
-}
-
-/// A register of sixteen.
-#[tactic(auto, unfolding(crate::specs::Building::either))]
-fn either(form: Form) -> u8
-    requires { IsForm form }
-    ensures value { result ≡ building.either form }
-    ensures below { result < 16 }
-{
-    match form {
-        Form::Register(n) => n,
-        _ => 0,
-    }
-}
-
-/// The address register of d16(An) and (An)+.
-#[tactic(auto, unfolding(crate::specs::Building::base))]
-fn base(form: Form) -> u8
-    requires { IsForm form }
-    ensures value { result ≡ building.base form }
-    ensures below { result < 8 }
-{
-    match form {
-        Form::Displaced(n, _) => n,
-        Form::PostInc(n) => n,
-        _ => 0,
-    }
-}
-
-#[tactic(auto, unfolding(crate::specs::Building::offset))]
-fn offset(form: Form) -> u16
-    ensures { result ≡ building.offset form }
-{
-    match form {
-        Form::Displaced(_, by) => (by % 65536) as u16,
-        _ => 0,
-    }
-}
-
-/// The low 8 bits of a number.
-fn low_byte(form: Form) -> u8
-    ensures { result ≡ building.number form % 256 }
-{
-    (number(form) % 256) as u8
-}
-
-/// The low 16 bits of a number.
-fn low_word(form: Form) -> u16
-    ensures { result ≡ building.number form % 65536 }
-{
-    (number(form) % 65536) as u16
-}
-
-/// The displacement of DBcc.
-fn by_word(at: u32, form: Form) -> u16
-    ensures { result ≡ building.by_word at form }
-{
-    let by = u64::from(number(form)) + 0x2_0000_0000 - u64::from(at) - 2;
-    (by % 65536) as u16
 }
 
 fn immediate(task: Task, size: Size, first: Form, second: Form) -> Op
@@ -348,7 +119,8 @@ fn shift(task: Task, size: Size, first: Form, second: Form) -> Op
     }
 }
 
-/// The instruction of a name, a size and two operands, at an address.
+/// The instruction of a mnemonic, a size and two operands, at an address. It is total: operands that do not fit give some
+/// instruction, and the round-trip check refuses it.
 #[tactic(auto, unfolding(crate::specs::Building::built))]
 pub(crate) fn built(stem: Stem, size: Size, first: Form, second: Form, at: u32) -> Op
     requires first { IsForm first }

@@ -5,7 +5,7 @@ ghost use Rattle.asm_m68k.specs.Encoding as encoding;
 use m68k_decode::{Condition, Displacement};
 use md_word::{Mode, Size, Task};
 
-/// A mode and its register, in six bits.
+/// A mode and its register, in six bits. M68000 Programmer's Reference Manual, section 2.2, "Effective Addressing Modes".
 pub(crate) fn mode_code(mode: Mode) -> u16
     requires { IsMode mode }
     ensures value { result ≡ encoding.mode_code mode }
@@ -27,7 +27,7 @@ pub(crate) fn mode_code(mode: Mode) -> u16
     }
 }
 
-/// The target of MOVE: its register stands before its mode.
+/// The target of MOVE: its register comes before its mode.
 pub(crate) fn target_code(mode: Mode) -> u16
     requires { IsMode mode }
     ensures value { result ≡ encoding.target_code mode }

@@ -6,9 +6,10 @@ use crate::extension::{Words, put_extension};
 use crate::first::first_word;
 use m68k_decode::Op;
 
-/// The words of an instruction that some words decode to: one to five.
+/// The words of an instruction that some words decode to: one to five. M68000 Programmer's Reference Manual, section 8,
+/// "Instruction Format Summary".
 ///
-/// What the processor does not look at is 0, so that these are the least words of the instruction.
+/// Bits that the processor does not look at are 0, so that these are the least words of the instruction.
 pub fn encode(op: &Op) -> Words
     requires { IsCoded op.now }
     ensures { result.items ≡ encoded op.now }

@@ -1,4 +1,4 @@
-//! Laws of encoding, as calls that do nothing and stand for what they ensure.
+//! Laws of encoding, each the contract of a call that does nothing.
 
 ghost use Rattle.std.specs.Prelude.{◌≡◌, ◌<◌, ◌∷◌, ◌++◌, ℕ, List};
 ghost use Rattle.m68k_decode.specs.Instructions.{instruction_of};

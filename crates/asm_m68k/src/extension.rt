@@ -69,7 +69,7 @@ fn put_displacement(words: &mut Words, displacement: Displacement)
     }
 }
 
-/// Appends the words behind the first.
+/// Appends the words after the first.
 #[tactic(auto, unfolding(crate::specs::Encoding::extension))]
 pub(crate) fn put_extension(words: &mut Words, op: Op)
     requires room { array_vec_len words.old ≤ 1 }

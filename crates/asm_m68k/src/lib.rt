@@ -1,5 +1,5 @@
 //! The assembler's side of the 68000: the words of an instruction, the forms of its operands, and the instruction that
-//! a text names.
+//! a text names. Tables and forms are those of the M68000 Programmer's Reference Manual.
 #![tactic(auto)]
 
 mod building;
@@ -9,6 +9,7 @@ pub mod encoding_laws;
 mod extension;
 mod first;
 mod form;
+mod form_values;
 mod judge;
 mod reader;
 mod reading;

@@ -12,13 +12,15 @@ use md_word::Size;
 /// An instruction as it is written.
 #[derive(Clone, Copy)]
 pub struct Source<'a> {
+    /// Its mnemonic, without the size.
     pub stem: &'a [u8],
+    /// Its size, or `None` where none is written.
     pub size: Option<Size>,
     pub first: Form,
     pub second: Form,
 }
 
-/// The size of a letter.
+/// The size of a letter: b, w, and any other for long.
 fn size_of(word: &[u8]) -> Size
     ensures { result ≡ reading.size_of word.now }
 {
@@ -65,7 +67,8 @@ fn with_size<'a>(stem: &'a [u8], pieces: &[Piece<'a>]) -> Source<'a>
     }
 }
 
-/// What is read of an instruction's pieces.
+/// The instruction that is read of tokens. It is total: each text is taken for one of the forms that its kinds of tokens
+/// allow, and the round-trip check refuses what is none.
 #[tactic(auto, unfolding(crate::specs::Reading::read_source))]
 pub fn read<'a>(pieces: &[Piece<'a>]) -> Source<'a>
     ensures seen { source_seen result ≡ reading.read_source (map shown pieces.now) }

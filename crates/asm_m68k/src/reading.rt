@@ -83,7 +83,7 @@ fn masks_of(pieces: &[Piece<'_>]) -> Masks
     }
 }
 
-/// (An) or (An)+, by what stands behind An.
+/// (An) or (An)+, by what follows An.
 fn bracketed(word: &[u8], pieces: &[Piece<'_>]) -> Form
     ensures value { result ≡ reading.bracketed word.now (map shown pieces.now) }
     ensures registers { IsForm result }
@@ -105,7 +105,7 @@ fn lowered(pieces: &[Piece<'_>]) -> Form
     }
 }
 
-/// Behind a character.
+/// After a character.
 fn marked(pieces: &[Piece<'_>]) -> Form
     ensures value { result ≡ reading.marked (map shown pieces.now) }
     ensures registers { IsForm result }
@@ -187,7 +187,7 @@ fn behind_number(n: u32, pieces: &[Piece<'_>]) -> Form
     }
 }
 
-/// Behind a number.
+/// After a number.
 fn numbered(n: u32, pieces: &[Piece<'_>]) -> Form
     ensures value { result ≡ reading.numbered n (map shown pieces.now) }
     ensures registers { IsForm result }

@@ -1,4 +1,4 @@
-//! Laws of reading, as calls that do nothing and stand for what they ensure.
+//! Laws of reading, each the contract of a call that does nothing.
 
 ghost use Rattle.std.specs.Prelude.{◌≡◌, ◌<◌, ◌∷◌, ◌++◌, ℕ, List};
 ghost use Rattle.m68k_decode.specs.Instructions.{instruction_of};
@@ -13,6 +13,6 @@ ghost use Rattle.asm_m68k.specs.Table.{AreWords, IsInstruction};
 pub fn texts_are_read()
     ensures back { (word : ℕ) (tail rest : List ℕ) (at : ℕ) → word < 65536 → IsInstruction (nested word) → AreWords (word ∷ tail) → at < 4294967296
         → instruction_of (tried (pieces (text_of (instruction_of (word ∷ tail)) at)) at ++ rest) ≡ instruction_of (word ∷ tail) }
-    ensures said { (word : ℕ) (tail more rest : List ℕ) (said : List Piece) (at : ℕ) → word < 65536 → IsInstruction (nested word) → AreWords (word ∷ tail ++ more) → at < 4294967296
-        → word ∷ tail ≡ tried said at → pieces (text_of (instruction_of (word ∷ tail ++ more)) at) ≡ said → instruction_of (word ∷ tail ++ rest) ≡ instruction_of (word ∷ tail ++ more) }
+    ensures round_trips { (word : ℕ) (tail more rest : List ℕ) (line_tokens : List Piece) (at : ℕ) → word < 65536 → IsInstruction (nested word) → AreWords (word ∷ tail ++ more) → at < 4294967296
+        → word ∷ tail ≡ tried line_tokens at → pieces (text_of (instruction_of (word ∷ tail ++ more)) at) ≡ line_tokens → instruction_of (word ∷ tail ++ rest) ≡ instruction_of (word ∷ tail ++ more) }
 {}

@@ -6,11 +6,11 @@ use crate::stem::Stem;
 use m68k_decode::Condition;
 use md_word::Task;
 
-/// A name with what it stands for.
+/// A mnemonic as it is written, and its meaning.
 #[derive(Clone, Copy)]
 pub(crate) struct Named(&'static [u8], Stem);
 
-/// What a text stands for among these names.
+/// The meaning of a text among these mnemonics, else `Unknown`.
 #[tactic(auto, unfolding(crate::specs::Building::stem_in))]
 fn stem_in(names: &[Named], text: &[u8]) -> Stem
     ensures { result ≡ meant.stem_in (map entered names.now) text.now }
@@ -25,7 +25,7 @@ fn stem_in(names: &[Named], text: &[u8]) -> Stem
     Stem::Unknown
 }
 
-/// The names of the instructions.
+/// The mnemonics of the 68000. M68000 Programmer's Reference Manual, section 4, "Integer Instructions".
 static NAMES: [Named; 118] = [
     Named(b"abcd", Stem::Decimal(Task::Abcd)),
     Named(b"add", Stem::Sum(Task::Add)),
@@ -147,7 +147,7 @@ static NAMES: [Named; 118] = [
     Named(b"unlk", Stem::Unlk),
 ];
 
-/// What a text stands for.
+/// The meaning of a text, else `Unknown`.
 #[tactic(auto, unfolding(crate::specs::Building::stem_of))]
 pub(crate) fn stem_of(text: &[u8]) -> Stem
     ensures { result ≡ meant.stem_of text.now }

@@ -1,5 +1,5 @@
--- What bytes decode to is made again of the pieces of its text; so what is judged to say the pieces is
--- that instruction, whatever follows its bytes.
+-- What bytes decode to is made again of the tokens of its text. So bytes that pass the round-trip check are of that
+-- instruction, whatever follows them.
 use Rattle.std.proofs.Common.{◌≡◌, ℕ, ◌<◌, Bool, true, false, List, [], ◌∷◌, ◌++◌, refl, ap, ◌∙◌, sym, arith, codes}
 use Rattle.std.specs.Prelude.{IsTrue}
 use Rattle.std.proofs.lemmas.Slice.Eq.{bytes_eq-Decides}
@@ -76,7 +76,7 @@ iy_again at b1 b2 b3 h k l names =
     let same = joined (named (λ w. again at (by_opcode indexes.Iy w b2 b3))) (named (λ w. kept (by_opcode indexes.Iy w b2 b3))) (built_iy_low at b2 b3 k l) (built_iy_middle at b2 b3 k) (built_iy_high at b2 b3) b1 h in
     judged_again at (by_opcode indexes.Iy b1 b2 b3) (rw names at reads) (rw names at same)
 
--- a prefix that stands alone has a directive's text
+-- a prefix that is alone has a directive's text
 lone_again : (at : ℕ) (index : Index) → IsAgain at (of_bytes 1 (ops.LonePrefix index))
 lone_again at index none = absurd (true≢false none)
 
@@ -94,7 +94,7 @@ decoded_again bytes at h a = rw (decoded_is_nested bytes (h 0) (h 1) (h 3)) (nes
 
 -- ---- the law
 
--- the instruction is made again of the pieces of its text
+-- the instruction is made again of the tokens of its text
 pub meant_again : (bytes : List ℕ) (at : ℕ) → AreBytes bytes → at < 65536 → is_db (instruction_of bytes).op ≡ false
     → meant (read_source (pieces (text_of (instruction_of bytes) at))) at ≡ (instruction_of bytes).op
 meant_again bytes at h a none =
@@ -113,7 +113,7 @@ tried_again bytes rest at h k a none =
 
 -- ---- what is tried has never a directive's text
 
-name_stays : (op : Op80) (at : ℕ) → (row_of op at).name ≡ (row_of op 0).name
+pub name_stays : (op : Op80) (at : ℕ) → (row_of op at).name ≡ (row_of op 0).name
 name_stays (ops.JumpRelative distance) at = refl
 name_stays _ at = refl
 
@@ -139,27 +139,27 @@ unfolding nested by_opcode low_group relative_jumps
 zero_is more h = rw (decoded_is_nested (0 ∷ more) (h 0) (h 1) (h 3)) refl
 
 -- what is tried for a directive's text is NOP
-pub tried_zero : (d : Decoded80) (said : List Piece) (at : ℕ) → is_db d.op ≡ true → pieces (text_of d at) ≡ said → tried said at ≡ 0 ∷ []
-tried_zero d said at is text =
+pub tried_zero : (d : Decoded80) (line_tokens : List Piece) (at : ℕ) → is_db d.op ≡ true → pieces (text_of d at) ≡ line_tokens → tried line_tokens at ≡ 0 ∷ []
+tried_zero d line_tokens at is text =
     let name = name_stays d.op at ∙ (bytes_eq-Decides (row_of d.op 0).name (codes "db")).0 is in
     let opens = db_opens (row_of d.op at) name in
     ap (λ (s : List Piece). tried s at) (sym text ∙ opens.1) ∙ tried_db opens.0 at
 
--- so what is tried and says the pieces is no directive
-pub tried_is : (bytes more : List ℕ) (said : List Piece) (at : ℕ) → AreBytes (bytes ++ more) → bytes ≡ tried said at
-    → pieces (text_of (instruction_of (bytes ++ more)) at) ≡ said → (b : Bool) → is_db (instruction_of (bytes ++ more)).op ≡ b → b ≡ false
-tried_is bytes more said at h are text false is = refl
-tried_is bytes more said at h are text true is =
-    let zero : bytes ≡ 0 ∷ [] = are ∙ tried_zero (instruction_of (bytes ++ more)) said at is text in
+-- so what is tried and says the tokens is no directive
+pub tried_is : (bytes more : List ℕ) (line_tokens : List Piece) (at : ℕ) → AreBytes (bytes ++ more) → bytes ≡ tried line_tokens at
+    → pieces (text_of (instruction_of (bytes ++ more)) at) ≡ line_tokens → (b : Bool) → is_db (instruction_of (bytes ++ more)).op ≡ b → b ≡ false
+tried_is bytes more line_tokens at h are text false is = refl
+tried_is bytes more line_tokens at h are text true is =
+    let zero : bytes ≡ 0 ∷ [] = are ∙ tried_zero (instruction_of (bytes ++ more)) line_tokens at is text in
     let all : AreBytes (0 ∷ more) = rw zero at h in
     let here : is_db (instruction_of (0 ∷ more)).op ≡ true = rw zero at is in
     sym here ∙ zero_is more all
 
--- bytes that say the pieces, and are those that are tried for them, say them whatever follows
-pub said_again : (bytes more rest : List ℕ) (said : List Piece) (at : ℕ) → AreBytes (bytes ++ more) → AreBytes rest → at < 65536
-    → bytes ≡ tried said at → pieces (text_of (instruction_of (bytes ++ more)) at) ≡ said → instruction_of (bytes ++ rest) ≡ instruction_of (bytes ++ more)
-said_again bytes more rest said at h k a are text =
-    let none = tried_is bytes more said at h are text (is_db (instruction_of (bytes ++ more)).op) refl in
-    let again : instruction_of (tried said at ++ rest) ≡ instruction_of (bytes ++ more)
+-- bytes that say the tokens, and are those that are tried for them, say them whatever follows
+pub said_again : (bytes more rest : List ℕ) (line_tokens : List Piece) (at : ℕ) → AreBytes (bytes ++ more) → AreBytes rest → at < 65536
+    → bytes ≡ tried line_tokens at → pieces (text_of (instruction_of (bytes ++ more)) at) ≡ line_tokens → instruction_of (bytes ++ rest) ≡ instruction_of (bytes ++ more)
+said_again bytes more rest line_tokens at h k a are text =
+    let none = tried_is bytes more line_tokens at h are text (is_db (instruction_of (bytes ++ more)).op) refl in
+    let again : instruction_of (tried line_tokens at ++ rest) ≡ instruction_of (bytes ++ more)
     = rw (sym text) (tried_again (bytes ++ more) rest at h k a none) in
     ap (λ (l : List ℕ). instruction_of (l ++ rest)) are ∙ again

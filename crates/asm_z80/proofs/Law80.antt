@@ -1,6 +1,6 @@
 -- The bytes of what bytes decode to decode to the same, and are bytes.
 use Rattle.std.proofs.Common.{◌≡◌, ◌==◌, ℕ, zero, suc, ◌<◌, Bool, true, false, List, [], ◌∷◌, ◌++◌, refl, arith}
-use Rattle.std.specs.Prelude.{◌&&◌, IsTrue, nat_lt}
+use Rattle.std.specs.Prelude.{IsTrue, nat_lt}
 use Rattle.std.proofs.lemmas.Bool.{and_parts, false≢true}
 use Rattle.std.proofs.lemmas.Bool.Decides.{nat_tests}
 use Rattle.z80_decode.specs.declared.decoded80.Decoded80.{Decoded80}
@@ -111,16 +111,16 @@ before [] rest e h i = h i
 before (b ∷ bs) rest e h zero = let parts = and_parts (nat_lt b 256) (all_bytes bs) e in grind (arith, nat_tests)
 before (b ∷ bs) rest e h (suc i) = before bs rest (and_parts (nat_lt b 256) (all_bytes bs) e).1 h i
 
-alone : (bytes : List ℕ) → all_bytes bytes ≡ true → AreBytes bytes
-alone [] e i = omega arith
-alone (b ∷ bs) e zero = let parts = and_parts (nat_lt b 256) (all_bytes bs) e in grind (arith, nat_tests)
-alone (b ∷ bs) e (suc i) = alone bs (and_parts (nat_lt b 256) (all_bytes bs) e).1 i
+pub all_are : (bytes : List ℕ) → all_bytes bytes ≡ true → AreBytes bytes
+all_are [] e i = omega arith
+all_are (b ∷ bs) e zero = let parts = and_parts (nat_lt b 256) (all_bytes bs) e in grind (arith, nat_tests)
+all_are (b ∷ bs) e (suc i) = all_are bs (and_parts (nat_lt b 256) (all_bytes bs) e).1 i
 
 decoded_made : (bytes : List ℕ) → AreBytes bytes → made (instruction_of bytes) ≡ true
 decoded_made bytes h = rw (decoded_is_nested bytes (h 0) (h 1) (h 3)) (nested_made _ _ _ _ (h 0) (h 1) (h 2) (h 3))
 
 pub encoding_bytes : (bytes : List ℕ) → AreBytes bytes → AreBytes (encoded (instruction_of bytes).op)
-encoding_bytes bytes h = alone (encoded (instruction_of bytes).op) (decoded_made bytes h)
+encoding_bytes bytes h = all_are (encoded (instruction_of bytes).op) (decoded_made bytes h)
 
 pub encoding_again : (bytes rest : List ℕ) → AreBytes bytes → AreBytes rest → IsTrue (is_whole (instruction_of bytes).op) → instruction_of (encoded (instruction_of bytes).op ++ rest) ≡ instruction_of bytes
 encoding_again bytes rest h k whole =

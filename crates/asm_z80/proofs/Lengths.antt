@@ -21,7 +21,7 @@ use Rattle.asm_z80.proofs.Pages.{by_index, by_page}
 abbrev sized : Decoded80 → Bool
 sized d = (length (encoded d.op) == d.length) && nat_le d.length 4
 
--- behind a prefix that changes the opcode
+-- after a prefix that changes the opcode
 abbrev sized_behind : Decoded80 → ℕ → Bool
 sized_behind d w = if names_hl w then sized d else true
 

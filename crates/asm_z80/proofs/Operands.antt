@@ -1,5 +1,5 @@
--- How the texts of operands fall into pieces, and what is read of them.
-use Rattle.std.proofs.Common.{◌≡◌, ℕ, ◌<◌, Bool, true, false, List, [], ◌∷◌, ◌++◌, nat_lt, refl, ap, ◌∙◌, append_assoc, arith, codes}
+-- How the texts of operands fall into tokens, and what is read of them.
+use Rattle.std.proofs.Common.{◌≡◌, ℕ, ◌<◌, Bool, true, false, List, [], ◌∷◌, ◌++◌, nat_lt, refl, ap, ◌∙◌, arith, codes}
 use Rattle.std.proofs.lemmas.Bool.Decides.{nat_tests}
 use Rattle.md_word.specs.declared.bit.Bit.{Bit}
 use Rattle.md_word.specs.declared.bit.Bit.TheVariants.{Bit0, Bit1, Bit2, Bit3, Bit4, Bit5, Bit6, Bit7}
@@ -19,16 +19,10 @@ use Rattle.md_disasm.specs.declared.operand80.Operand80.{Operand80}
 use Rattle.md_disasm.specs.declared.operand80.Operand80.TheVariants as operands
 use Rattle.md_asm_text.specs.Operands.{operands_of as parted}
 use Rattle.md_asm_text.specs.Pieces as pieces
-use Rattle.md_asm_text.specs.Pieces.{Piece, is_worded, is_name, split, told}
-use Rattle.md_asm_text.proofs.Splits.{is_end, number_2, number_4, mark_split, word_split}
+use Rattle.md_asm_text.specs.Pieces.{Piece, is_worded, is_name, split, token_of}
+use Rattle.md_asm_text.proofs.Splits.{is_end, number_2, number_4, mark_split, word_split, behind, apart}
 use Rattle.asm_z80.specs.Forms.{Form, Nothing, AtWord, Displaced, Bare, AtNumber, Worded}
 use Rattle.asm_z80.specs.Reading.{operand_form}
-
-pub behind : (p : Piece) (xs ys : List Piece) → xs ≡ ys → p ∷ xs ≡ p ∷ ys
-behind p xs ys e = ap (λ (l : List Piece). p ∷ l) e
-
-apart : (a b c e : List ℕ) → ((a ++ b) ++ c) ++ e ≡ a ++ (b ++ (c ++ e))
-apart a b c e = append_assoc (a ++ b) c e ∙ append_assoc a b (c ++ e)
 
 byte_fits : (n : ℕ) → nat_lt n 256 ≡ true → n < 256
 byte_fits n h = grind (arith, nat_tests)
@@ -36,7 +30,7 @@ byte_fits n h = grind (arith, nat_tests)
 word_fits : (n : ℕ) → nat_lt n 65536 ≡ true → n < 65536
 word_fits n h = grind (arith, nat_tests)
 
--- ---- the pieces of operands, and their forms
+-- ---- the tokens of operands, and their forms
 
 abbrev pub in_brackets : List ℕ → List Piece
 in_brackets word = pieces.Mark 40 ∷ pieces.Word word ∷ pieces.Mark 41 ∷ []
@@ -119,7 +113,7 @@ shown (operands.AtWord address) = nat_lt address 65536
 shown (operands.ByteAndWord byte word) = false
 shown operand = true
 
--- ---- texts fall into these pieces
+-- ---- texts fall into these tokens
 
 bracket_split : (word : List ℕ) (e : List ℕ) → split [] (word ++ (41 ∷ e)) ≡ pieces.Word word ∷ split [] (41 ∷ e) → split [] (40 ∷ (word ++ (41 ∷ e))) ≡ in_brackets word ++ split [] e
 unfolding is_worded
@@ -142,21 +136,21 @@ unfolding marked_byte
 byte_split n e h ends = ap (split []) (apart (codes "$") (two_digits n) [] e) ∙ number_2 n e h ends
 
 ix_split : (by : ℕ) (e : List ℕ) → by < 256 → split [] (marked_byte (codes "(ix+$") by (codes ")") ++ e) ≡ displaced (codes "ix") by ++ split [] e
-unfolding is_worded told is_name marked_byte
+unfolding is_worded token_of is_name marked_byte
 ix_split by e h =
     ap (split []) (apart (codes "(ix+$") (two_digits by) (codes ")") e) ∙ mark_split 40 (105 ∷ 120 ∷ 43 ∷ 36 ∷ (two_digits by ++ (41 ∷ e))) refl
     ∙ behind _ _ _ (word_split (codes "ix") (43 ∷ 36 ∷ (two_digits by ++ (41 ∷ e))) refl refl
     ∙ behind _ _ _ (mark_split 43 (36 ∷ (two_digits by ++ (41 ∷ e))) refl ∙ behind _ _ _ (number_2 by (41 ∷ e) h refl ∙ behind _ _ _ (mark_split 41 e refl))))
 
 iy_split : (by : ℕ) (e : List ℕ) → by < 256 → split [] (marked_byte (codes "(iy+$") by (codes ")") ++ e) ≡ displaced (codes "iy") by ++ split [] e
-unfolding is_worded told is_name marked_byte
+unfolding is_worded token_of is_name marked_byte
 iy_split by e h =
     ap (split []) (apart (codes "(iy+$") (two_digits by) (codes ")") e) ∙ mark_split 40 (105 ∷ 121 ∷ 43 ∷ 36 ∷ (two_digits by ++ (41 ∷ e))) refl
     ∙ behind _ _ _ (word_split (codes "iy") (43 ∷ 36 ∷ (two_digits by ++ (41 ∷ e))) refl refl
     ∙ behind _ _ _ (mark_split 43 (36 ∷ (two_digits by ++ (41 ∷ e))) refl ∙ behind _ _ _ (number_2 by (41 ∷ e) h refl ∙ behind _ _ _ (mark_split 41 e refl))))
 
 place_split : (place : Place8) (e : List ℕ) → place_shown place ≡ true → is_end e ≡ true → split [] (place_text place ++ e) ≡ place_pieces place ++ split [] e
-unfolding is_worded told is_name
+unfolding is_worded token_of is_name
 place_split places.A e h ends = word_split (codes "a") e refl ends
 place_split places.B e h ends = word_split (codes "b") e refl ends
 place_split places.C e h ends = word_split (codes "c") e refl ends
@@ -197,7 +191,7 @@ place_read (places.At n) = refl
 place_read (places.Number n) = refl
 
 pair_split : (pair : Pair) (e : List ℕ) → is_end e ≡ true → split [] (pair_name pair ++ e) ≡ pieces.Word (pair_name pair) ∷ split [] e
-unfolding is_worded told is_name
+unfolding is_worded token_of is_name
 pair_split pairs.Bc e ends = word_split (codes "bc") e refl ends
 pair_split pairs.De e ends = word_split (codes "de") e refl ends
 pair_split pairs.Hl e ends = word_split (codes "hl") e refl ends
@@ -212,12 +206,12 @@ at_pair_split pair e =
     ap (split []) (apart (codes "(") (pair_name pair) (codes ")") e) ∙ bracket_split (pair_name pair) e (pair_split pair (41 ∷ e) refl)
 
 special_split : (special : Special) (e : List ℕ) → is_end e ≡ true → split [] (special_name special ++ e) ≡ pieces.Word (special_name special) ∷ split [] e
-unfolding is_worded told is_name
+unfolding is_worded token_of is_name
 special_split Interrupt e ends = word_split (codes "i") e refl ends
 special_split Refresh e ends = word_split (codes "r") e refl ends
 
 condition_split : (condition : Condition) (e : List ℕ) → is_end e ≡ true → split [] (condition_name condition ++ e) ≡ pieces.Word (condition_name condition) ∷ split [] e
-unfolding is_worded told is_name
+unfolding is_worded token_of is_name
 condition_split NonZero e ends = word_split (codes "nz") e refl ends
 condition_split Zero e ends = word_split (codes "z") e refl ends
 condition_split NonCarry e ends = word_split (codes "nc") e refl ends
@@ -228,7 +222,7 @@ condition_split Positive e ends = word_split (codes "p") e refl ends
 condition_split Negative e ends = word_split (codes "m") e refl ends
 
 bit_split : (bit : Bit) (e : List ℕ) → is_end e ≡ true → split [] (bit_name bit ++ e) ≡ pieces.Word (bit_name bit) ∷ split [] e
-unfolding is_worded told is_name
+unfolding is_worded token_of is_name
 bit_split Bit0 e ends = word_split (codes "0") e refl ends
 bit_split Bit1 e ends = word_split (codes "1") e refl ends
 bit_split Bit2 e ends = word_split (codes "2") e refl ends
@@ -239,7 +233,7 @@ bit_split Bit6 e ends = word_split (codes "6") e refl ends
 bit_split Bit7 e ends = word_split (codes "7") e refl ends
 
 mode_split : (mode : InterruptMode) (e : List ℕ) → is_end e ≡ true → split [] (mode_name mode ++ e) ≡ pieces.Word (mode_name mode) ∷ split [] e
-unfolding is_worded told is_name
+unfolding is_worded token_of is_name
 mode_split Mode0 e ends = word_split (codes "0") e refl ends
 mode_split Mode1 e ends = word_split (codes "1") e refl ends
 mode_split Mode2 e ends = word_split (codes "2") e refl ends
@@ -249,11 +243,11 @@ unfolding marked_word
 word_number_split n e h ends = ap (split []) (apart (codes "$") (four_digits n) [] e) ∙ number_4 n e h ends
 
 other_split : (e : List ℕ) → split [] (codes "af'" ++ e) ≡ pieces.Word (codes "af") ∷ pieces.Mark 39 ∷ split [] e
-unfolding is_worded told is_name
+unfolding is_worded token_of is_name
 other_split e = word_split (codes "af") (39 ∷ e) refl refl ∙ behind _ _ _ (mark_split 39 e refl)
 
 pub operand_split : (o : Operand80) (e : List ℕ) → shown o ≡ true → is_end e ≡ true → split [] (operand_text o ++ e) ≡ operand_pieces o ++ split [] e
-unfolding is_worded told is_name
+unfolding is_worded token_of is_name
 operand_split operands.Nothing e h ends = refl
 operand_split (operands.Place place) e h ends = place_split place e h ends
 operand_split (operands.Register pair) e h ends = pair_split pair e ends

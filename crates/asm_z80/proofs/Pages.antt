@@ -24,7 +24,7 @@ by_page P b0 b1 b2 b3 on_bits on_ix on_extended on_iy plain false false false fa
     let none : is_prefix b0 ≡ false = rw (ecb, edd, eed, efd) refl in
     rw (ecb, edd, eed, efd) (plain none)
 
--- what stands behind DD and FD
+-- what follows DD and FD
 pub by_index : (P : Decoded80 → Type 0) (index : Index) (b1 b2 b3 : ℕ)
     → ((b1 == 0xcb) ≡ true → P (of_bytes 4 (bits b3 (memory_of index b2)))) → (names_hl b1 ≡ true → P (by_opcode index b1 b2 b3)) → P (of_bytes 1 (ops.LonePrefix index))
     → (cb names : Bool) → (b1 == 0xcb) ≡ cb → names_hl b1 ≡ names → P (indexed index b1 b2 b3)

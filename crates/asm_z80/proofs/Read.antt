@@ -20,7 +20,7 @@ use Rattle.asm_z80.proofs.Sources.{is_read}
 abbrev pub read : ℕ → Decoded80 → Bool
 read at d = is_db d.op || is_read (row_of d.op at)
 
--- behind a prefix that changes the opcode
+-- after a prefix that changes the opcode
 abbrev pub read_behind : ℕ → Decoded80 → ℕ → Bool
 read_behind at d w = if names_hl w then read at d else true
 

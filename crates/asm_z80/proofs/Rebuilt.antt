@@ -32,7 +32,7 @@ again at d = unless_db d.op (rebuilt (row_of d.op at) at)
 abbrev pub kept : Decoded80 → Op80
 kept d = unless_db d.op d.op
 
--- behind a prefix that changes the opcode
+-- after a prefix that changes the opcode
 abbrev pub named : (ℕ → Op80) → ℕ → Op80
 named f w = cond (names_hl w) (f w) ops.Nop
 

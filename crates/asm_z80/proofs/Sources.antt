@@ -9,9 +9,9 @@ use Rattle.md_disasm.specs.declared.operand80.Operand80.{Operand80}
 use Rattle.md_disasm.specs.declared.operand80.Operand80.TheVariants as operands
 use Rattle.md_asm_text.specs.Pieces as pieces
 use Rattle.md_asm_text.specs.Pieces.{Piece, every, is_worded, split, opened}
-use Rattle.md_asm_text.proofs.Splits.{is_end, name_opens, mark_split}
+use Rattle.md_asm_text.proofs.Splits.{is_end, name_opens, mark_split, behind}
 use Rattle.asm_z80.specs.Reading.{Source, read_source, with_operands}
-use Rattle.asm_z80.proofs.Operands.{behind, form_of, operand_alone, operand_apart, operand_pieces, operand_read, operand_split, shown}
+use Rattle.asm_z80.proofs.Operands.{form_of, operand_alone, operand_apart, operand_pieces, operand_read, operand_split, shown}
 
 abbrev pub is_none : Operand80 → Bool
 is_none operands.Nothing = true
@@ -34,7 +34,7 @@ none_pieces (operands.Word n) h = cc
 none_pieces (operands.AtWord address) h = cc
 none_pieces (operands.ByteAndWord byte word) h = cc
 
-led_by : (mark : List ℕ) (o : Operand80) → led mark o ≡ (if is_none o then [] else mark ++ operand_text o)
+pub led_by : (mark : List ℕ) (o : Operand80) → led mark o ≡ (if is_none o then [] else mark ++ operand_text o)
 led_by mark operands.Nothing = refl
 led_by mark (operands.Place place) = refl
 led_by mark (operands.Register pair) = refl
@@ -54,12 +54,12 @@ led_by mark (operands.ByteAndWord byte word) = refl
 abbrev pub led_pieces : ℕ → Operand80 → List Piece
 led_pieces c o = if is_none o then [] else pieces.Mark c ∷ operand_pieces o
 
-led_split : (b : Bool) (c : ℕ) (o : Operand80) (e : List ℕ) → is_none o ≡ b → is_worded c ≡ false → shown o ≡ true → is_end e ≡ true
+pub led_split : (b : Bool) (c : ℕ) (o : Operand80) (e : List ℕ) → is_none o ≡ b → is_worded c ≡ false → shown o ≡ true → is_end e ≡ true
     → split [] (led (c ∷ []) o ++ e) ≡ led_pieces c o ++ split [] e
 led_split true c o e none is h ends = rw (led_by (c ∷ []) o, none) refl
 led_split false c o e none is h ends = rw (led_by (c ∷ []) o, none) (mark_split c (operand_text o ++ e) is ∙ behind _ _ _ (operand_split o e h ends))
 
-led_end : (b : Bool) (c : ℕ) (o : Operand80) (e : List ℕ) → is_none o ≡ b → is_worded c ≡ false → is_end e ≡ true → is_end (led (c ∷ []) o ++ e) ≡ true
+pub led_end : (b : Bool) (c : ℕ) (o : Operand80) (e : List ℕ) → is_none o ≡ b → is_worded c ≡ false → is_end e ≡ true → is_end (led (c ∷ []) o ++ e) ≡ true
 led_end true c o e none is ends = rw (led_by (c ∷ []) o, none) ends
 led_end false c o e none is ends = rw (led_by (c ∷ []) o, none, is) refl
 

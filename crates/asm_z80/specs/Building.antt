@@ -72,7 +72,7 @@ byte form = number form % 256
 abbrev pub word : Form → ℕ
 word form = number form % 65536
 
--- the distance of a relative jump of two bytes that stands at an address
+-- the distance of a relative jump of two bytes that is at an address
 unfoldable pub distance : ℕ → ℕ → ℕ
 distance at to = (to + 131070 - at) % 256
 

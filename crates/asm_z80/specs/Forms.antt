@@ -1,4 +1,4 @@
--- What the pieces of an operand are taken for.
+-- What the tokens of an operand are taken for.
 use Rattle.std.specs.Prelude.{ℕ, List}
 use Rattle.asm_z80.specs.declared.form.Form80.{Form80}
 use Rattle.asm_z80.specs.declared.form.Form80.TheVariants as variants

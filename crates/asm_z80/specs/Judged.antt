@@ -5,11 +5,11 @@ use Rattle.asm_z80.specs.Encoding80.{encoded}
 use Rattle.asm_z80.specs.Building.{meant}
 use Rattle.asm_z80.specs.Reading.{read_source}
 
--- the bytes of what is made of the pieces
+-- the bytes of the instruction that is read of tokens
 abbrev pub tried : List Piece → ℕ → List ℕ
-tried said at = encoded (meant (read_source said) at)
+tried line_tokens at = encoded (meant (read_source line_tokens) at)
 
--- one to four bytes, filled up with 0 to four
+-- one to four bytes, with bytes of 0 after them up to four
 abbrev pub padded : List ℕ → List ℕ
 padded [] = 0 ∷ 0 ∷ 0 ∷ 0 ∷ []
 padded (a ∷ []) = a ∷ 0 ∷ 0 ∷ 0 ∷ []

@@ -1,17 +1,17 @@
--- What is read of an instruction's pieces. It takes every text for one of the forms that its kinds of
--- pieces allow; what is made of it is compared with the text afterwards.
+-- What is read of an instruction's tokens. It takes every text for one of the forms that its kinds of
+-- tokens allow; what is made of it is compared with the text afterwards.
 use Rattle.std.specs.Prelude.{ℕ, false, List, [], ◌∷◌}
 use Rattle.md_asm_text.specs.Operands.{operands_of}
 use Rattle.md_asm_text.specs.Pieces as pieces
 use Rattle.md_asm_text.specs.Pieces.{Piece}
 use Rattle.asm_z80.specs.Forms.{Form, Nothing, Worded, AtWord, Displaced, Bare, AtNumber}
 
--- behind a word in brackets
+-- after a word in brackets
 abbrev pub based : List ℕ → List Piece → Form
 based word (p ∷ pieces.Number n ∷ ps) = Displaced word n
 based word ps = AtWord word
 
--- behind a bracket
+-- after a bracket
 abbrev pub bracketed : List Piece → Form
 bracketed (pieces.Number n ∷ ps) = AtNumber n
 bracketed (pieces.Word word ∷ ps) = based word ps

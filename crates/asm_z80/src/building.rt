@@ -1,136 +1,17 @@
-ghost use Rattle.std.specs.Prelude.{◌≡◌, ◌%◌};
+//! The instruction that a mnemonic and the forms of two operands name.
+
+ghost use Rattle.std.specs.Prelude.{◌≡◌};
 ghost use Rattle.asm_z80.specs.Building as building;
 ghost use Rattle.asm_z80.specs.Forms.{seen};
-ghost use Rattle.asm_z80.specs.Words as meaning;
 
 use crate::form::Form80;
-use crate::stem::Stem80;
-use crate::words::{
-    at_pair, bit_of, condition_of, displaced, index_of, is_af, is_index, is_pair, is_special,
-    mode_of, pair_of, register8, special_of,
+use crate::form_values::{
+    byte, condition, distance, index, is_at_number, is_at_word, is_nothing, names_pair,
+    names_special, number, pair, place, word, word_in,
 };
-use z80_decode::{Condition, Index, Op80, Pair, Place8, Task80};
-
-/// The word of an operand.
-fn word_in<'a>(form: Form80<'a>) -> &'a [u8]
-    ensures { result.now ≡ building.word_in (seen form.entry) }
-{
-    match form {
-        Form80::Worded(word) | Form80::AtWord(word) => word,
-        _ => &[],
-    }
-}
-
-/// The number of an operand.
-fn number(form: Form80<'_>) -> u32
-    ensures { result ≡ building.number (seen form.entry) }
-{
-    match form {
-        Form80::Bare(n) | Form80::AtNumber(n) => n,
-        _ => 0,
-    }
-}
-
-fn is_nothing(form: Form80<'_>) -> bool
-    ensures { result ≡ building.is_nothing (seen form.entry) }
-{
-    match form {
-        Form80::Nothing => true,
-        _ => false,
-    }
-}
-
-fn is_at_number(form: Form80<'_>) -> bool
-    ensures { result ≡ building.is_at_number (seen form.entry) }
-{
-    match form {
-        Form80::AtNumber(_) => true,
-        _ => false,
-    }
-}
-
-fn is_at_word(form: Form80<'_>) -> bool
-    ensures { result ≡ building.is_at_word (seen form.entry) }
-{
-    match form {
-        Form80::AtWord(_) => true,
-        _ => false,
-    }
-}
-
-/// Whether an operand is a register of 16 bits that is no address.
-fn names_pair(form: Form80<'_>) -> bool
-    ensures { result ≡ building.names_pair (seen form.entry) }
-{
-    match form {
-        Form80::Worded(word) => is_pair(word),
-        _ => false,
-    }
-}
-
-/// Whether an operand is I or R.
-fn names_special(form: Form80<'_>) -> bool
-    ensures { result ≡ building.names_special (seen form.entry) }
-{
-    match form {
-        Form80::Worded(word) => is_special(word),
-        _ => false,
-    }
-}
-
-/// The low 8 bits of a number.
-fn byte(form: Form80<'_>) -> u8
-    ensures { result ≡ building.byte (seen form.entry) }
-{
-    (number(form) % 256) as u8
-}
-
-/// The low 16 bits of a number.
-fn word(form: Form80<'_>) -> u16
-    ensures { result ≡ building.word (seen form.entry) }
-{
-    (number(form) % 65536) as u16
-}
-
-/// An operand of 8 bits.
-fn place(form: Form80<'_>) -> Place8
-    ensures { result ≡ building.place (seen form.entry) }
-{
-    match form {
-        Form80::Nothing => Place8::A,
-        Form80::Worded(word) => register8(word),
-        Form80::AtWord(word) => at_pair(word),
-        Form80::Displaced(word, n) => displaced(word, (n % 256) as u8),
-        Form80::Bare(n) => Place8::Number((n % 256) as u8),
-        Form80::AtNumber(n) => Place8::At((n % 65536) as u16),
-    }
-}
-
-fn pair(form: Form80<'_>) -> Pair
-    ensures { result ≡ building.pair (seen form.entry) }
-{
-    pair_of(word_in(form))
-}
-
-fn index(form: Form80<'_>) -> Index
-    ensures { result ≡ building.index (seen form.entry) }
-{
-    index_of(word_in(form))
-}
-
-fn condition(form: Form80<'_>) -> Condition
-    ensures { result ≡ meaning.condition_of (building.word_in (seen form.entry)) }
-{
-    condition_of(word_in(form))
-}
-
-/// The distance of a relative jump of two bytes that stands at an address.
-#[tactic(auto, unfolding(crate::specs::Building::distance))]
-fn distance(at: u16, to: u32) -> u8
-    ensures { result ≡ building.distance at to }
-{
-    ((u64::from(to) + 131_070 - u64::from(at)) % 256) as u8
-}
+use crate::stem::Stem80;
+use crate::words::{bit_of, is_af, is_index, mode_of, special_of};
+use z80_decode::{Op80, Task80};
 
 fn load_pair(first: Form80<'_>, second: Form80<'_>) -> Op80
     ensures { result ≡ building.load_pair (seen first.entry) (seen second.entry) }
@@ -298,7 +179,8 @@ fn output(first: Form80<'_>, second: Form80<'_>) -> Op80
     }
 }
 
-/// The instruction of a name and two operands, at an address.
+/// The instruction of a mnemonic and two operands, at an address. It is total: operands that do not fit give some
+/// instruction, and the round-trip check refuses it.
 #[tactic(auto, unfolding(crate::specs::Building::built))]
 pub(crate) fn built(stem: Stem80, first: Form80<'_>, second: Form80<'_>, at: u16) -> Op80
     ensures { result ≡ building.built stem (seen first.entry) (seen second.entry) at }

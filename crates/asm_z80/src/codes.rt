@@ -199,7 +199,7 @@ pub(crate) fn mode_code(mode: InterruptMode) -> u8
     }
 }
 
-/// The code that stands for (HL) behind a displacement.
+/// The code of (HL) after a displacement.
 pub(crate) fn displaced_code(task: Task80) -> u8
     ensures value { result ≡ encoding.displaced_code task }
     ensures most { result ≤ 6 }
@@ -210,7 +210,7 @@ pub(crate) fn displaced_code(task: Task80) -> u8
     }
 }
 
-/// The code of a place, or what stands for (HL) behind a displacement.
+/// The code of a place, or that of (HL) after a displacement.
 pub(crate) fn changed_code(displaced: u8, place: Place8) -> u8
     requires { displaced ≤ 7 }
     ensures value { result ≡ encoding.changed_code displaced place }

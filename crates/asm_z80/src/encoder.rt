@@ -5,9 +5,9 @@ use crate::opcode::opcode_of;
 use crate::operands::{Bytes, put_operands, put_prefixes};
 use z80_decode::Op80;
 
-/// The bytes of an instruction that some bytes decode to: one to four.
+/// The bytes of an instruction that some bytes decode to: one to four. Zilog UM0080, "Z80 Instruction Description".
 ///
-/// Behind DD CB and FD CB the code of (HL) follows, and 0 for SLL, which the manual leaves out.
+/// After DD CB and FD CB the code of (HL) follows, and 0 for SLL, which the manual leaves out.
 #[tactic(auto, unfolding(crate::specs::Encoding80::encoded))]
 pub fn encode(op: &Op80) -> Bytes
     ensures { result.items ≡ encoded op.now }

@@ -10,14 +10,14 @@ ghost use Rattle.asm_z80.specs.Reading as reading;
 use crate::building::built;
 use crate::reader::read;
 use crate::stems::stem_of;
+use crate::{Bytes, encode};
 use md_asm_text::{Piece, same, split};
 use md_disasm::text80;
 use md_word::NoMemory;
 use std::alloc::Global;
 use z80_decode::{Op80, decode};
-use crate::{Bytes, encode};
 
-/// One to four bytes, filled up with 0.
+/// One to four bytes, with bytes of 0 after them up to four.
 fn padded(bytes: &[u8]) -> [u8; 4]
     ensures { result ≡ judged.padded bytes.now }
 {
@@ -30,7 +30,7 @@ fn padded(bytes: &[u8]) -> [u8; 4]
     }
 }
 
-/// What is made of the pieces of an instruction.
+/// The instruction that is read of tokens, whatever they are; the round-trip check decides whether it is theirs.
 #[tactic(auto, unfolding(crate::specs::Building::meant))]
 fn meant(pieces: &[Piece<'_>], at: u16) -> Op80
     ensures { result ≡ building.meant (reading.read_source (map shown pieces.now)) at }
@@ -39,9 +39,10 @@ fn meant(pieces: &[Piece<'_>], at: u16) -> Op80
     built(stem_of(source.stem), source.first, source.second, at)
 }
 
-/// Whether bytes say the pieces at an address.
+/// The round-trip check: whether bytes decode to an instruction whose text at an address has these tokens. It fails where
+/// memory runs out.
 fn is_said(alloc: Global, bytes: &[u8], pieces: &[Piece<'_>], at: u16) -> Result<bool, NoMemory>
-    ensures { IfOk result (λ said. IsTrue said ↔ (texts.pieces (text_of (instruction_of (judged.padded bytes.now)) at) ≡ map shown pieces.now)) }
+    ensures { IfOk result (λ line_tokens. IsTrue line_tokens ↔ (texts.pieces (text_of (instruction_of (judged.padded bytes.now)) at) ≡ map shown pieces.now)) }
 {
     let decoded = decode(&padded(bytes));
     let text = text80(alloc, &decoded, at)?;
@@ -49,11 +50,11 @@ fn is_said(alloc: Global, bytes: &[u8], pieces: &[Piece<'_>], at: u16) -> Result
     Ok(same(&own, pieces))
 }
 
-/// The bytes of an instruction of the Z80 that is written, at an address, or none where its pieces are
-/// those of no instruction's text there.
+/// The one to four bytes of an instruction of the Z80 that is written, at an address, or `None` where its tokens are those
+/// of no instruction's text there. It fails where memory runs out.
 pub fn bytes_of(alloc: Global, pieces: &[Piece<'_>], at: u16) -> Result<Option<Bytes>, NoMemory>
     ensures some { IfOk result (λ found. IfSome found (λ bytes. bytes.items ≡ judged.tried (map shown pieces.now) at)) }
-    ensures said { IfOk result (λ found. IfSome found (λ bytes. texts.pieces (text_of (instruction_of (judged.padded bytes.items)) at) ≡ map shown pieces.now)) }
+    ensures round_trips { IfOk result (λ found. IfSome found (λ bytes. texts.pieces (text_of (instruction_of (judged.padded bytes.items)) at) ≡ map shown pieces.now)) }
     ensures none { IfOk result (λ found. IfNone found (texts.pieces (text_of (instruction_of (judged.padded (judged.tried (map shown pieces.now) at))) at) ≡ map shown pieces.now → ⊥)) }
 {
     let bytes = encode(&meant(pieces, at));

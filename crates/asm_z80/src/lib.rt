@@ -1,5 +1,5 @@
 //! The assembler's side of the Z80: the bytes of an instruction, the forms of its operands, and the instruction that a
-//! text names.
+//! text names. Tables are those of Zilog UM0080, and for what it leaves out this project's profile.
 #![tactic(auto)]
 
 mod building;
@@ -7,6 +7,7 @@ mod codes;
 mod encoder;
 pub mod encoding_laws;
 mod form;
+mod form_values;
 mod judge;
 mod opcode;
 mod operands;

@@ -126,7 +126,7 @@ fn put_index(bytes: &mut Bytes, index: Index)
     }
 }
 
-/// Appends what stands before an operation on bits.
+/// Appends the bytes before an operation on bits.
 fn put_bits(bytes: &mut Bytes, place: Place8)
     requires { array_vec_len bytes.old ≤ 0 }
     ensures items { bytes.new.items ≡ bytes.old.items ++ encoding.bits_prefix place }
@@ -147,7 +147,7 @@ fn put_bits(bytes: &mut Bytes, place: Place8)
     }
 }
 
-/// Appends what stands before the opcode.
+/// Appends the bytes before the opcode.
 #[tactic(auto, unfolding(crate::specs::Encoding80::prefixes))]
 pub(crate) fn put_prefixes(bytes: &mut Bytes, op: Op80)
     requires { array_vec_len bytes.old ≤ 0 }

@@ -10,12 +10,13 @@ use md_asm_text::{Piece, first_operand, second_operand};
 /// An instruction as it is written.
 #[derive(Clone, Copy)]
 pub(crate) struct Source80<'a> {
+    /// Its mnemonic.
     pub(crate) stem: &'a [u8],
     pub(crate) first: Form80<'a>,
     pub(crate) second: Form80<'a>,
 }
 
-/// Behind a word in brackets.
+/// After a word in brackets.
 fn based<'a>(word: &'a [u8], pieces: &[Piece<'a>]) -> Form80<'a>
     ensures { seen result ≡ reading.based word.now (map shown pieces.now) }
 {
@@ -25,7 +26,7 @@ fn based<'a>(word: &'a [u8], pieces: &[Piece<'a>]) -> Form80<'a>
     }
 }
 
-/// Behind a bracket.
+/// After a bracket.
 fn bracketed<'a>(pieces: &[Piece<'a>]) -> Form80<'a>
     ensures { seen result ≡ reading.bracketed (map shown pieces.now) }
 {
@@ -65,7 +66,8 @@ fn with_operands<'a>(stem: &'a [u8], pieces: &[Piece<'a>]) -> Source80<'a>
     }
 }
 
-/// What is read of an instruction's pieces.
+/// The instruction that is read of tokens. It is total: each text is taken for one of the forms that its kinds of tokens
+/// allow, and the round-trip check refuses what is none.
 #[tactic(auto, unfolding(crate::specs::Reading::read_source))]
 pub(crate) fn read<'a>(pieces: &[Piece<'a>]) -> Source80<'a>
     ensures { source_seen result ≡ reading.read_source (map shown pieces.now) }

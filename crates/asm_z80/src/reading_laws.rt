@@ -1,4 +1,4 @@
-//! Laws of reading, as calls that do nothing and stand for what they ensure.
+//! Laws of reading, each the contract of a call that does nothing.
 
 ghost use Rattle.std.specs.Prelude.{◌≡◌, ◌<◌, ◌≤◌, ◌++◌, ℕ, List, false, length};
 ghost use Rattle.z80_decode.specs.Instructions.{instruction_of};
@@ -14,8 +14,8 @@ ghost use Rattle.asm_z80.specs.Instruction.{is_db};
 pub fn texts_are_read()
     ensures back { (bytes rest : List ℕ) (at : ℕ) → AreBytes bytes → AreBytes rest → at < 65536 → is_db (instruction_of bytes).op ≡ false
         → instruction_of (tried (pieces (text_of (instruction_of bytes) at)) at ++ rest) ≡ instruction_of bytes }
-    ensures said { (bytes more rest : List ℕ) (said : List Piece) (at : ℕ) → AreBytes (bytes ++ more) → AreBytes rest → at < 65536
-        → bytes ≡ tried said at → pieces (text_of (instruction_of (bytes ++ more)) at) ≡ said → instruction_of (bytes ++ rest) ≡ instruction_of (bytes ++ more) }
+    ensures round_trips { (bytes more rest : List ℕ) (line_tokens : List Piece) (at : ℕ) → AreBytes (bytes ++ more) → AreBytes rest → at < 65536
+        → bytes ≡ tried line_tokens at → pieces (text_of (instruction_of (bytes ++ more)) at) ≡ line_tokens → instruction_of (bytes ++ rest) ≡ instruction_of (bytes ++ more) }
 {}
 
 /// The bytes of what bytes decode to are as many as it takes of them, and four at the most.

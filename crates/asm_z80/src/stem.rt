@@ -1,6 +1,6 @@
 use z80_decode::{Op80, Task80};
 
-/// The name of an instruction.
+/// The mnemonic of an instruction. Zilog UM0080, "Z80 Instruction Description".
 #[derive(Clone, Copy)]
 pub(crate) enum Stem80 {
     /// An instruction without operands.

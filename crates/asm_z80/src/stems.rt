@@ -5,11 +5,11 @@ ghost use Rattle.asm_z80.specs.Entered.{entered};
 use crate::stem::Stem80;
 use z80_decode::{Block, Op80, Task80};
 
-/// A name with what it stands for.
+/// A mnemonic as it is written, and its meaning.
 #[derive(Clone, Copy)]
 pub(crate) struct Named(&'static [u8], Stem80);
 
-/// What a text stands for among these names.
+/// The meaning of a text among these mnemonics, else NOP.
 #[tactic(auto, unfolding(crate::specs::Building::stem_in))]
 fn stem_in(names: &[Named], text: &[u8]) -> Stem80
     ensures { result ≡ building.stem_in (map entered names.now) text.now }
@@ -24,7 +24,7 @@ fn stem_in(names: &[Named], text: &[u8]) -> Stem80
     Stem80::Alone(Op80::Nop)
 }
 
-/// The names of the instructions.
+/// The mnemonics of the Z80. Zilog UM0080, "Z80 Instruction Description"; for `sll`, this project's profile.
 static NAMES: [Named; 68] = [
     Named(b"adc", Stem80::AddWithCarry),
     Named(b"add", Stem80::Add),
@@ -120,7 +120,7 @@ static NAMES: [Named; 68] = [
     Named(b"xor", Stem80::Arithmetic(Task80::Xor)),
 ];
 
-/// What a text stands for.
+/// The meaning of a text, else NOP.
 #[tactic(auto, unfolding(crate::specs::Building::stem_of))]
 pub(crate) fn stem_of(text: &[u8]) -> Stem80
     ensures { result ≡ building.stem_of text.now }

@@ -1,4 +1,4 @@
--- The ending where neither a fault nor want of memory comes between.
+-- The outcome without a fault and with enough memory.
 use Rattle.std.proofs.Common.{◌≡◌, ◌∙◌, ◌⊎◌, inl, inr, ℕ, ◌<◌, Bool, cond, List, length, Option, Some, None, ap, sym, refl}
 use Rattle.std.specs.Prelude.{IsSomeAnd}
 use Rattle.std.proofs.lemmas.Bool.{le-ltb, lt-ltb}

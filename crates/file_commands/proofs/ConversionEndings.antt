@@ -1,4 +1,4 @@
--- The ending where neither a fault nor want of memory comes between.
+-- The outcome without a fault and with enough memory.
 use Rattle.std.proofs.Common.{◌≡◌, ◌∙◌, ◌⊎◌, inl, inr, ℕ, ◌<◌, Bool, cond, List, [], length, Option, Some, None, ap, sym, refl}
 use Rattle.std.specs.Prelude.{IsSomeAnd, unwrap_or}
 use Rattle.std.proofs.lemmas.Bool.{le-ltb, lt-ltb}
@@ -13,7 +13,7 @@ use Rattle.file_commands.specs.Conversions.{HasCause, IsFound, IsOutcome, comes_
 use Rattle.file_commands.specs.declared.converted.Converted.{Converted}
 use Rattle.file_commands.specs.declared.converted.Converted.TheVariants.{Made, Unread, TooLong, Refused, Unwritten, NoMemory}
 
--- bytes come to one outcome alone
+-- bytes have one outcome alone
 once : (product : Product) (pal : Bool) (bytes : List ℕ) (first second : Outcome) → comes_to product pal bytes first → comes_to product pal bytes second → first ≡ second
 once Vgm pal bytes first second is is' = made_once pal bytes first second is is'
 once Sound pal bytes first second is is' = played_once pal bytes first second is is'

@@ -11,7 +11,7 @@ use Rattle.md_asm.specs.declared.placed.Placed.{Placed}
 use Rattle.asm_laws.specs.Lines.{SaysLines}
 use Rattle.asm_laws.specs.Fitting.{FitsLines}
 use Rattle.asm_laws.specs.Sources.{KeepsInstruction}
-use Rattle.file_commands.specs.Assemblies.{HoldsParts, IsFound, KeepsSource, LeavesEmpty, LeavesFiles, LeavesParts, SaysSource, WriteCause, WritesFiles, with_both, with_list}
+use Rattle.file_commands.specs.Assemblies.{HoldsParts, IsFound, KeepsSource, LeavesEmpty, LeavesFiles, LeavesParts, SaysSource, WriteCause, WritesFiles, limit, with_both, with_list}
 use Rattle.file_commands.specs.Begun.{IsBegun, with_more}
 use Rattle.file_commands.specs.Lists.{list_of}
 use Rattle.file_commands.specs.declared.comes.Comes.{Comes}
@@ -19,11 +19,11 @@ use Rattle.file_commands.specs.declared.comes.Comes.TheVariants.{Made, Unread, T
 
 -- ---- two files
 
--- the output holds what was begun, whatever list was begun behind it
+-- the output holds what was begun, whatever list was begun after it
 output_kept : (files : Files) (a b x y : List ℕ) → bytes_eq a b ≡ false → bytes_of (with_file (with_file files a x) b y) a ≡ x
 output_kept files a b x y differ = ap (λ (f : Files). bytes_of f a) (with_file-comm files a b x y differ) ∙ bytes_of-with_file (with_file files b y) a x
 
--- a piece is appended to the output, behind which the list was begun
+-- bytes are appended to the output, after which the list was begun
 pub output_more : (files begun new : Files) (output : List ℕ) (list : Option (List ℕ)) (piece : List ℕ) → differ (Some output) list ≡ true
     → begun ≡ with_list list (with_file files output []) [] → new ≡ with_file begun output (bytes_of begun output ++ piece)
     → new ≡ with_list list (with_file files output piece) []
@@ -35,7 +35,7 @@ output_more files begun new output (Some name) piece differ is more =
     ∙ ap (λ (f : Files). with_file f output piece) (with_file-comm files output name [] [] apart)
     ∙ with_file-with_file (with_file files name []) output [] piece ∙ sym (with_file-comm files output name piece [] apart)
 
--- a piece is appended to the list
+-- bytes are appended to the list
 pub list_more : (files written new : Files) (list : Option (List ℕ)) (piece : List ℕ)
     → written ≡ with_list list files [] → new ≡ with_more list written piece → new ≡ with_list list files piece
 list_more files written new None piece is more = more ∙ is
@@ -71,7 +71,7 @@ image_part words old first begun new image list part differ is then_is prefix mo
       output_more old begun new words.output words.list part differ (then_is ∙ ap (λ (f : Files). with_list words.list f []) is) more,
     )
 
--- the image was, and a piece of the list
+-- the image was, and a part of the list
 pub list_piece : (words : Assembling) (old first begun written new : Files) (image piece : List ℕ) → differ (Some words.output) words.list ≡ true
     → first ≡ with_file old words.output [] → begun ≡ with_list words.list first []
     → written ≡ with_file begun words.output (bytes_of begun words.output ++ image) → new ≡ with_more words.list written piece
@@ -129,7 +129,7 @@ line_more old place text behind first second new is is' is'' =
 
 -- the source that was fetched is assembled so
 pub found_in : (files : Files) (words : Assembling) (items bytes image : List ℕ) (lines : List Placed) → files words.source ≡ Some items
-    → length items ≤ 1048576 → bytes ≡ items → assembly bytes ≡ Done image lines → IsFound (files words.source) (Done image lines)
+    → length items ≤ limit → bytes ≡ items → assembly bytes ≡ Done image lines → IsFound (files words.source) (Done image lines)
 found_in files words items bytes image lines held within is done =
     subst (λ (source : Option (List ℕ)). IsFound source (Done image lines)) (sym held) (within, ap assembly (sym is) ∙ done)
 

@@ -1,4 +1,4 @@
--- What the assembling of a file comes to, and what the files hold then.
+-- What the assembling of a file results in, and what the files hold then.
 use Rattle.std.specs.Prelude.{◌≡◌, ◌⊎◌, ℕ, ◌<◌, ◌≤◌, nat_lt, if◌then◌else◌, List, [], length, Option, None, Some, IsSomeAnd}
 use Rattle.md_outer.specs.Outside.{DepotState, Files, IsPrefix, Rose, with_file}
 use Rattle.md_asm.specs.Assembly as assembly
@@ -15,13 +15,13 @@ use Rattle.file_commands.specs.declared.comes.Comes.TheVariants.{Made, Unread, T
 
 -- the greatest length of a source
 abbrev pub limit : ℕ
-limit = 1048576
+limit = assembly.source_limit
 
 -- a source that is held, within its limit, is assembled to this
 abbrev pub IsFound : Option (List ℕ) → AssemblyOutcome → Type 0
 IsFound source outcome = IsSomeAnd source (λ bytes. (length bytes ≤ limit) × (assembly.assembly bytes ≡ outcome))
 
--- a source that is held is assembled to this, and if it is one instruction's that stands there
+-- a source that is held is assembled to this, and if it is one instruction's, that is there
 abbrev pub KeepsSource : Option (List ℕ) → AssemblyOutcome → Type 0
 KeepsSource source outcome = IsSomeAnd source (λ bytes. KeepsInstruction bytes outcome)
 
@@ -30,7 +30,7 @@ abbrev pub IsAtFault : Option (List ℕ) → ℕ → ℕ → Type 0
 IsAtFault source line kind =
     IsFound source (assembly.Failed line kind) × KeepsSource source (assembly.Failed line kind) × IsSomeAnd source (λ bytes. IsFaulty bytes line kind)
 
--- Why each ending may come. What a file holds is spoken of where the depot tells it.
+-- The cause of each outcome. What a file holds is spoken of where the depot's files are observable.
 abbrev pub HasCause : Type 0 → Assembling → DepotState → DepotState → Comes → Type 0
 HasCause told words old new (Made size) =
     told → (image : List ℕ) × (lines : List Placed) × IsFound (old.files words.source) (assembly.Done image lines) × (size ≡ length image)
@@ -66,19 +66,20 @@ LeavesParts words old new =
     (new ≡ old)
     ⊎ ((image : List ℕ) × (lines : List Placed) × IsFound (old words.source) (assembly.Done image lines) × HoldsParts words old new image (list_of image lines))
 
--- memory was wanting: no file changed, or the source is assembled, and the output is empty, with the list's file as it was
+-- out of memory: no file changed, or the source is assembled, and the output is empty, with the list's file as it was
 abbrev pub LeavesEmpty : Assembling → Files → Files → Type 0
 LeavesEmpty words old new =
     (new ≡ old)
     ⊎ ((image : List ℕ) × (lines : List Placed) × IsFound (old words.source) (assembly.Done image lines) × (new ≡ with_file old words.output []))
 
--- an image says the lines of a source that is held, whose numbers are in their ranges, and if it is one instruction's that
--- stands in it
+-- an image says the lines of a source that is held, whose numbers are in their ranges, and if it is one instruction's, that
+-- is in it
 abbrev pub SaysSource : Option (List ℕ) → List ℕ → List Placed → Type 0
 SaysSource source image lines = IsSomeAnd source (λ bytes. SaysLines bytes image lines) × IsSomeAnd source FitsLines × KeepsSource source (assembly.Done image lines)
 
--- What the files hold then: the outputs the image, which says the lines of its source, and its list, where they were written; parts of them, or what
--- they held, where a write failed; what they held, or nothing, where memory was wanting; and all others what they held
+-- What the files hold then. Where they were written, the outputs hold the image, which says the lines of its source, and
+-- its list. Where a write failed, they hold parts of them, or what they held; where memory ran out, what they held, or
+-- nothing. All others hold what they held.
 abbrev pub LeavesFiles : Assembling → Files → Files → Comes → Type 0
 LeavesFiles words old new (Made size) =
     (image : List ℕ) × (lines : List Placed) × IsFound (old words.source) (assembly.Done image lines) × (size ≡ length image)
@@ -90,7 +91,7 @@ LeavesFiles words old new Unread = new ≡ old
 LeavesFiles words old new TooLong = new ≡ old
 LeavesFiles words old new (Refused line kind) = new ≡ old
 
--- The ending where neither a fault nor want of memory comes between, by what the source is assembled to.
+-- The outcome without a fault and with enough memory, by what the source is assembled to.
 abbrev pub made_ending : AssemblyOutcome → Comes
 made_ending (assembly.Done image lines) = Made (length image)
 made_ending (assembly.Failed line kind) = Refused line kind
@@ -99,7 +100,7 @@ abbrev pub right_ending : Option (List ℕ) → Comes
 right_ending None = Unread
 right_ending (Some bytes) = if nat_lt limit (length bytes) then TooLong else made_ending (assembly.assembly bytes)
 
--- why writing an image of this length and its list comes to this
+-- why writing an image of this length and its list results in this
 abbrev pub WriteCause : ℕ → DepotState → DepotState → Comes → Type 0
 WriteCause size old new (Made written) = written ≡ size
 WriteCause size old new Unwritten = Rose old.write_faults new.write_faults

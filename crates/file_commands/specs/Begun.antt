@@ -8,7 +8,7 @@ IsBegun state (Some file) None = ⊥
 IsBegun state None (Some name) = ⊥
 IsBegun state None None = Unit {0}
 
--- the files with a piece at the end of that file
+-- the files with more bytes at the end of that file
 abbrev pub with_more : Option (List ℕ) → Files → List ℕ → Files
 with_more None files piece = files
 with_more (Some name) files piece = with_file files name (bytes_of files name ++ piece)

@@ -1,4 +1,4 @@
--- What a conversion of a file comes to, and what the files hold then.
+-- What a conversion of a file results in, and what the files hold then.
 use Rattle.std.specs.Prelude.{◌≡◌, ◌⊎◌, ℕ, ◌<◌, ◌≤◌, nat_lt, if◌then◌else◌, Bool, List, length, Option, None, Some, IsSomeAnd}
 use Rattle.md_outer.specs.Outside.{DepotState, Files, IsPrefix, Rose, with_file}
 use Rattle.md_vgm.specs.Outcomes as outcomes
@@ -14,7 +14,7 @@ use Rattle.file_commands.specs.declared.converted.Converted.TheVariants.{Made, U
 abbrev pub limit : ℕ
 limit = 67108864
 
--- what bytes come to: a journal by the file of its sound writes, a VGM file by its sound
+-- what bytes result in: a journal by the file of its sound writes, a VGM file by its sound
 abbrev pub comes_to : Product → Bool → List ℕ → Outcome → Type 0
 comes_to Vgm pal bytes outcome = IsMade pal bytes outcome
 comes_to Sound pal bytes outcome = IsPlayed pal bytes outcome
@@ -22,7 +22,7 @@ comes_to Sound pal bytes outcome = IsPlayed pal bytes outcome
 abbrev pub IsOutcome : Conversion → List ℕ → Outcome → Type 0
 IsOutcome conversion bytes outcome = comes_to conversion.product conversion.pal bytes outcome
 
--- what is made of a journal is not refused for its form, nor since writes stand too dense
+-- what is made of a journal is not refused for its form, nor since its writes are too dense
 abbrev pub plays : Product → Bool → List ℕ → Type 0
 plays Vgm pal made = IsPlayable pal made
 plays Sound pal made = Unit {0}
@@ -30,7 +30,7 @@ plays Sound pal made = Unit {0}
 abbrev pub IsPlayableIn : Conversion → List ℕ → Type 0
 IsPlayableIn conversion made = plays conversion.product conversion.pal made
 
--- an input that is held, within its limit, comes to this
+-- an input that is held, within its limit, results in this
 abbrev pub IsFound : Conversion → Option (List ℕ) → Outcome → Type 0
 IsFound conversion input outcome = IsSomeAnd input (λ bytes. (length bytes ≤ limit) × IsOutcome conversion bytes outcome)
 
@@ -38,7 +38,7 @@ IsFound conversion input outcome = IsSomeAnd input (λ bytes. (length bytes ≤ 
 abbrev pub IsMadeOf : Conversion → Option (List ℕ) → List ℕ → Type 0
 IsMadeOf conversion input made = IsFound conversion input (outcomes.Made made) × IsPlayableIn conversion made
 
--- Why each ending may come. What a file holds is spoken of where the depot tells it.
+-- The cause of each outcome. What a file holds is spoken of where the depot's files are observable.
 abbrev pub HasCause : Type 0 → Conversion → DepotState → DepotState → Converted → Type 0
 HasCause told conversion old new (Made size) =
     told → (made : List ℕ) × IsMadeOf conversion (old.files conversion.input) made × (size ≡ length made)
@@ -49,8 +49,8 @@ HasCause told conversion old new Unwritten =
     Rose old.write_faults new.write_faults × (told → (made : List ℕ) × IsMadeOf conversion (old.files conversion.input) made)
 HasCause told conversion old new NoMemory = Unit {0}
 
--- what the files hold then: the output what was made, where it was written; a part of it, or what it held, where a
--- write failed; and all others what they held
+-- What the files hold then. The output holds what was made, where it was written; a part of it, or what it held, where a
+-- write failed. All others hold what they held.
 abbrev pub LeavesFiles : Conversion → Files → Files → Converted → Type 0
 LeavesFiles conversion old new (Made size) =
     (made : List ℕ) × IsMadeOf conversion (old conversion.input) made × (size ≡ length made) × (new ≡ with_file old conversion.output made)
@@ -63,7 +63,7 @@ LeavesFiles conversion old new TooLong = new ≡ old
 LeavesFiles conversion old new (Refused fault) = new ≡ old
 LeavesFiles conversion old new NoMemory = new ≡ old
 
--- The ending where neither a fault nor want of memory comes between, by the outcome of the input.
+-- The outcome without a fault and with enough memory, by the outcome of the input.
 abbrev pub made_ending : Outcome → Converted
 made_ending (outcomes.Made made) = Made (length made)
 made_ending (outcomes.Failed fault) = Refused fault

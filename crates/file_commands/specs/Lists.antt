@@ -4,7 +4,7 @@ use Rattle.md_disasm.specs.Digits.{eight_digits}
 use Rattle.md_asm.specs.declared.placed.Placed.{Placed}
 use Rattle.asm_laws.specs.Places.{text_at}
 
--- a line: where the instruction stands, as eight hexadecimal digits, and behind a space what it is
+-- a line: the instruction's place as eight hexadecimal digits, a space, and its text
 abbrev pub line_of : List ℕ → Placed → List ℕ
 line_of image placed = eight_digits placed.place ++ codes " " ++ text_at placed.z80 image placed.place placed.address ++ codes "\n"
 

@@ -2,21 +2,22 @@ ghost use Rattle.md_outer.specs.Outside.{GoesOn};
 ghost use Rattle.md_args.specs.Shown.{shown_assembling};
 ghost use Rattle.file_commands.specs.Assemblies.{HasCause, LeavesFiles};
 
+use crate::assembly_writing::write_both;
 use crate::comes::Comes;
 use crate::listing::list_of;
-use crate::assembly_writing::write_both;
-use asm_laws::round_trip::{faults_are_right, instructions_are_kept, numbers_are_in_range};
 use asm_laws::assemblies::image_says_its_lines;
+use asm_laws::round_trip::{faults_are_right, instructions_are_kept, numbers_are_in_range};
 use md_args::AsmWords;
 use md_asm::{AsmFault, assemble};
 use md_outer::{Depot, Fetch};
 use std::alloc::Global;
 
-/// The greatest length of a source.
+/// The greatest length of a source, in bytes.
 const LONGEST: u64 = 1_048_576;
 
 /// Assembles a source into the image's file, and lists its instructions in a second one, as the words ask for. The
-/// source, of at most 1,048,576 bytes, is assembled before a file is begun, so that what is refused changes none.
+/// source, of at most 1,048,576 bytes, is assembled before a file is begun, so that what is refused changes none. The
+/// outcome says whether both were written, and else what failed first.
 pub fn assemble_file<D: Depot>(alloc: Global, words: &AsmWords<'_>, depot: &mut D) -> Comes
     ensures cause { HasCause D.told (shown_assembling words.now) (D.state depot.old) (D.state depot.new) result }
     ensures files { D.told → LeavesFiles (shown_assembling words.now) (D.state depot.old).files (D.state depot.new).files result }

@@ -10,7 +10,8 @@ use md_args::AsmWords;
 use md_outer::{Begin, Depot, Failed};
 use std::alloc::Global;
 
-/// Begins the file of this name, if one is given.
+/// Begins the file of this name, if one is given: `None` without a name. It fails where the depot's write fault rises or
+/// memory runs out; then no file has changed.
 pub(crate) fn begin_list<D: Depot>(
     alloc: Global,
     name: Option<&str>,
@@ -31,7 +32,8 @@ pub(crate) fn begin_list<D: Depot>(
     }
 }
 
-/// Appends the list to its file, if one is begun.
+/// Appends the list to its file, if one is begun. It fails where the depot's write fault rises; then a prefix of the list
+/// was written.
 pub(crate) fn append_list<D: Depot>(
     file: Option<u32>,
     list: &[u8],
@@ -51,7 +53,8 @@ pub(crate) fn append_list<D: Depot>(
     }
 }
 
-/// Writes an image and its list, if one is asked for: both files are begun, and then written, the image first.
+/// Writes an image and its list, if one is asked for: both files are begun, and then written, the image first. The
+/// outcome is `Made`, or `Unwritten`, `Unlisted` or `NoMemory`.
 pub(crate) fn write_both<D: Depot>(
     alloc: Global,
     words: &AsmWords<'_>,

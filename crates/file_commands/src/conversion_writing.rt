@@ -4,7 +4,8 @@ ghost use Rattle.md_outer.specs.Outside.{GoesOn, IsPrefix, Rose, with_file};
 use md_outer::{Begin, Depot, Failed};
 use std::alloc::Global;
 
-/// Writes bytes into a file of this name, in place of what it held.
+/// Writes bytes into a file of this name, in place of what it held. It fails where the depot's write fault rises, after
+/// which the file may hold a prefix of the bytes, or where memory runs out, and then no file has changed.
 pub(crate) fn write_file<D: Depot>(
     alloc: Global,
     name: &str,

@@ -11,7 +11,7 @@ use md_word::NoMemory;
 use std::alloc::Global;
 use z80_decode::decode as decode80;
 
-/// The text of the instruction at a place of an image, at its address.
+/// The text of the instruction at a place of an image, at its address. It fails where memory runs out.
 fn text_at(alloc: Global, image: &[u8], placed: &Placed) -> Result<String, NoMemory>
     ensures { IfOk result (λ text. string_bytes text ≡ places.text_at placed.now.z80 image.now placed.now.place placed.now.address) }
 {
@@ -24,7 +24,8 @@ fn text_at(alloc: Global, image: &[u8], placed: &Placed) -> Result<String, NoMem
     }
 }
 
-/// Appends the line of an instruction.
+/// Appends the line of an instruction: its place as eight hexadecimal digits, a space and its text. It fails where memory
+/// runs out.
 fn put_line(alloc: Global, list: &mut String, image: &[u8], placed: &Placed) -> Result<(), NoMemory>
     ensures { Appends result (string_bytes list.old) (string_bytes list.new) (lists.line_of image.now placed.now) }
 {
@@ -35,7 +36,7 @@ fn put_line(alloc: Global, list: &mut String, image: &[u8], placed: &Placed) -> 
     Ok(())
 }
 
-/// The list of an image's instructions.
+/// The list of an image's instructions, a line each. It fails where memory runs out.
 #[tactic(auto, unfolding(crate::specs::Lists::list_of))]
 pub(crate) fn list_of(alloc: Global, image: &[u8], lines: &[Placed]) -> Result<String, NoMemory>
     ensures { IfOk result (λ list. string_bytes list ≡ lists.list_of image.now lines.now) }

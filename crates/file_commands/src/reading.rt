@@ -1,7 +1,7 @@
 ghost use Rattle.std.specs.Prelude.{◌≡◌, ◌<◌, ◌+◌, ◌^◌, slice_index};
 ghost use Rattle.asm_laws.specs.Places as places;
 
-/// The byte of an image at a place; behind its end it is 0.
+/// The byte of an image at a place; after its end it is 0.
 fn byte_at(image: &[u8], place: usize) -> u8
     ensures { result ≡ slice_index image.now place }
 {

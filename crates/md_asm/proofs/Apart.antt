@@ -7,7 +7,7 @@ use Rattle.md_asm_text.specs.Pieces.{pieces}
 use Rattle.md_asm_text.specs.Lines.{Line, line_of}
 use Rattle.md_asm.specs.Contents.{is_unfit, size}
 use Rattle.md_asm.specs.Held.{IsAddress}
-use Rattle.md_asm.specs.Places.{WrittenPlaces, address, any_written, is_sub, is_too_large, with_written}
+use Rattle.md_asm.specs.Places.{WrittenPlaces, address, any_written, image_limit, is_sub, is_too_large, with_written}
 use Rattle.md_asm.specs.Rounds.{On, Outcome, Read, Round, Slot, Step, Stop, behind, fault_of, go_on, has_bytes, is_twice, kept_if, labelled, moved, round_one, sized_step, slot_of, start, line_step, unless, wants_even}
 use Rattle.md_asm.specs.declared.kind.Kind.{Kind}
 use Rattle.md_asm.specs.declared.kind.Kind.TheVariants as kinds
@@ -36,7 +36,7 @@ pub record IsWithin (s : Slot) (k : ℕ) : Type 0 where
 abbrev pub AreApart : Slot → Slot → Type 0
 AreApart s t = (k : ℕ) → IsWithin s k → IsWithin t k → ⊥
 
--- each line is apart from those behind it
+-- each line is apart from those after it
 abbrev pub AllApart : List Slot → Type 0
 AllApart [] = Unit {0}
 AllApart (s ∷ more) = AllSlots (AreApart s) more × AllApart more
@@ -54,7 +54,7 @@ pub record IsPut (written : WrittenPlaces) (end : ℕ) (s : Slot) : Type 0 where
 pub record IsRound (round : Round) : Type 0 where
   pub put : AllSlots (IsPut round.written round.end) round.slots
   pub apart : AllApart round.slots
-  pub low : round.end ≤ 4194304
+  pub low : round.end ≤ image_limit
 
 -- ---- a line more
 
@@ -90,7 +90,7 @@ apart_from round slot s none is k own other =
     let on = is.covered k own in
     cc
 
-address_is : (processor : Processor) (place : ℕ) → place ≤ 4194304 → IsAddress (is_sub processor) (address processor place)
+address_is : (processor : Processor) (place : ℕ) → place ≤ image_limit → IsAddress (is_sub processor) (address processor place)
 address_is processors.Main place low = omega arith
 address_is (processors.Sub at from) place low = omega arith
 

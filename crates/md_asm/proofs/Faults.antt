@@ -6,7 +6,7 @@ use Rattle.md_asm_text.specs.Pieces.{pieces}
 use Rattle.md_asm_text.specs.Lines.{Line}
 use Rattle.md_asm_text.specs.Texts.{lines}
 use Rattle.md_asm.specs.Contents.{is_unfit}
-use Rattle.md_asm.specs.Places.{any_written, is_sub, is_too_large}
+use Rattle.md_asm.specs.Places.{any_written, image_limit, is_sub, is_too_large}
 use Rattle.md_asm.specs.Rounds.{Read, Round, fault_of, has_bytes, is_twice, round_one, wants_even}
 use Rattle.md_asm.specs.declared.kind.Kind.{Kind}
 use Rattle.md_asm.specs.declared.kind.Kind.TheVariants as kinds
@@ -20,12 +20,12 @@ last false false false true e first second third fourth fifth is = cc
 last false false false false true first second third fourth fifth is = cc
 last false false false false false first second third fourth fifth is = refl
 
-low : (b : Bool) (place long : ℕ) → (b && nat_lt 4194304 (place + long)) ≡ false → b ≡ true → place + long ≤ 4194304
+low : (b : Bool) (place long : ℕ) → (b && nat_lt image_limit (place + long)) ≡ false → b ≡ true → place + long ≤ image_limit
 low true place long off is = grind (arith, nat_tests)
 low false place long off is = cc
 
 -- a line at no fault that has bytes ends below 400000h
-pub within : (round : Round) (line : Line) (long : ℕ) → fault_of round line long ≡ None → has_bytes line.body ≡ true → round.place + long ≤ 4194304
+pub within : (round : Round) (line : Line) (long : ℕ) → fault_of round line long ≡ None → has_bytes line.body ≡ true → round.place + long ≤ image_limit
 within round line long none is =
     low (has_bytes line.body) round.place long
     (last (is_unfit (is_sub round.processor) line.body (pieces line.text)) (is_twice round.names line.label)

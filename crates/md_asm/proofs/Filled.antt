@@ -1,4 +1,4 @@
--- What round two puts into a memory stands there at the end.
+-- What round two writes to a memory is there at the end.
 use Rattle.std.proofs.Common.{◌≡◌, ℕ, ◌+◌, ◌<◌, ◌≤◌, ◌⊎◌, inl, inr, List, [], ◌∷◌, length, get_or, refl, sym, ap, ◌∙◌, arith}
 use Rattle.std.proofs.lemmas.Bool.{cases_lt}
 use Rattle.md_asm_text.specs.Pieces.{pieces}
@@ -11,7 +11,7 @@ use Rattle.md_asm.proofs.Slots.{settled_long}
 use Rattle.md_asm.proofs.Memory.{put_leaves, put_long, put_stands}
 use Rattle.md_asm.proofs.Apart.{AllApart, AreApart, AllSlots, IsWithin}
 
--- a line comes to bytes, which stand at its place
+-- a line has bytes, which are at its place
 pub record IsFilled (memory : List ℕ) (names : Names) (slot : Slot) : Type 0 where
   pub bytes : List ℕ
   pub settled : settled_slot names slot ≡ Good bytes
@@ -36,7 +36,7 @@ put_by memory place Unknown next is = cc
 put_by memory place Unfit next is = cc
 put_by memory place Far next is = cc
 
--- in front of it, behind it or within
+-- before it, after it or within
 sides : (s : Slot) (k : ℕ) → IsOutside k s → (k < s.place) ⊎ (s.place + s.long ≤ k)
 sides s k outside = elim (cases_lt k s.place) [
   | inl below ↦ inl below
@@ -53,7 +53,7 @@ outside_by s (t ∷ more) k apart within = (λ other. apart.0 k within other, ou
 low_as : (before after : List ℕ) (slots : List Slot) → length after ≡ length before → AllSlots (λ s. s.place + s.long ≤ length before) slots → AllSlots (λ s. s.place + s.long ≤ length after) slots
 low_as before after slots long low = rw long low
 
--- one line more in front of those that are filled
+-- one line more before those that are filled
 with_front : (names : Names) (memory next last : List ℕ) (slot : Slot) (more : List Slot) (bytes : List ℕ) → slot.place + length bytes ≤ length memory
     → settled_slot names slot ≡ Good bytes → put memory slot.place bytes ≡ next → length bytes ≡ slot.long → AllSlots (AreApart slot) more
     → AreFilled next last names more → AreFilled memory last names (slot ∷ more)

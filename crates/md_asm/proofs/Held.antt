@@ -5,7 +5,7 @@ use Rattle.md_asm_text.specs.Texts.{lines as lines_of}
 use Rattle.md_asm.specs.Numbers.{Names, resolved}
 use Rattle.md_asm.specs.Assembly.{Done, assembly, assembly_of, places_of, second}
 use Rattle.md_asm.specs.Held.{AreHeld, HoldsLines, IsHeld}
-use Rattle.md_asm.specs.Places.{WrittenPlaces, blank}
+use Rattle.md_asm.specs.Places.{WrittenPlaces, blank, image_limit}
 use Rattle.md_asm.specs.Rounds.{Faulty, Filled, Outcome, Read, Refused, Round, Slot, Whole, round_one, round_two, start}
 use Rattle.md_asm.specs.declared.placed.Placed.{Placed}
 use Rattle.md_asm.proofs.Apart.{AllSlots, IsPut, all_slots_by, read_round}
@@ -29,9 +29,9 @@ slots_held names written memory end [] put filled = tt
 slots_held names written memory end (slot ∷ more) put filled =
     (slot_held names written memory end slot put.0 filled.0, slots_held names written memory end more put.1 filled.1)
 
-in_room : (written : WrittenPlaces) (end : ℕ) (slots : List Slot) → end ≤ 4194304 → AllSlots (IsPut written end) slots → AllSlots (λ s. s.place + s.long ≤ length blank) slots
+in_room : (written : WrittenPlaces) (end : ℕ) (slots : List Slot) → end ≤ image_limit → AllSlots (IsPut written end) slots → AllSlots (λ s. s.place + s.long ≤ length blank) slots
 in_room written end slots low put =
-    all_slots_by (IsPut written end) (λ s. s.place + s.long ≤ length blank) (λ s is. let l = is.low in let e = zeros_long 4194304 in omega (arith, l, e, low)) slots put
+    all_slots_by (IsPut written end) (λ s. s.place + s.long ≤ length blank) (λ s is. let l = is.low in let e = zeros_long image_limit in omega (arith, l, e, low)) slots put
 
 round_held : (source image : List ℕ) (lines : List Placed) (round : Round) (memory : List ℕ) → round_one start 1 (lines_of source) ≡ Read round
     → round_two round.names blank round.slots ≡ Whole memory → take round.end memory ≡ image → lines ≡ places_of round.slots → HoldsLines source image lines

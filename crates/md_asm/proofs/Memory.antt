@@ -1,4 +1,4 @@
--- Bytes that are put into a memory stand there, and leave all others.
+-- Bytes that are written to a memory are there, and leave all others.
 use Rattle.std.proofs.Common.{◌≡◌, ℕ, ◌+◌, ◌-◌, ◌<◌, ◌≤◌, ◌⊎◌, inl, inr, List, ◌++◌, length, get_or, take, drop, length-append, length-drop, ap, ◌∙◌, arith}
 use Rattle.std.proofs.lemmas.List.{get_or_append_left, get_or-append_right, get_or-drop, get_or-take, length-replicate, length-take-le}
 use Rattle.md_asm.specs.Held.{StandsAt}
@@ -8,7 +8,7 @@ pub zeros_long : (count : ℕ) → length (zeros count) ≡ count
 unfolding zeros
 zeros_long count = length-replicate count 0
 
--- the length of the front and the bytes
+-- the length of the prefix and the bytes
 front_long : (memory : List ℕ) (place : ℕ) (bytes : List ℕ) → place + length bytes ≤ length memory → length (take place memory ++ bytes) ≡ place + length bytes
 front_long memory place bytes h =
     let front = length-take-le place memory (omega arith) in
@@ -32,7 +32,7 @@ put_stands memory place bytes h k within =
     ∙ get_or-append_right (take place memory) bytes place (place + k) 0 front (omega arith)
     ∙ ap (λ (n : ℕ). get_or bytes n 0) (behind_by place k)
 
--- a place in front of the bytes or behind them is left
+-- a place before the bytes or after them is left
 pub put_leaves : (memory : List ℕ) (place : ℕ) (bytes : List ℕ) (k : ℕ) → place + length bytes ≤ length memory → (k < place) ⊎ (place + length bytes ≤ k)
     → get_or (put memory place bytes) k 0 ≡ get_or memory k 0
 unfolding put
@@ -49,7 +49,7 @@ put_leaves memory place bytes k h (inr above) =
     ∙ get_or-drop (place + length bytes) memory (k - (place + length bytes)) 0
     ∙ ap (λ (n : ℕ). get_or memory n 0) back
 
--- the front of a memory that the bytes end in has them too
+-- the prefix of a memory that the bytes end in has them too
 pub take_stands : (memory : List ℕ) (place end : ℕ) (bytes : List ℕ) → place + length bytes ≤ end → StandsAt memory place bytes → StandsAt (take end memory) place bytes
 take_stands memory place end bytes h stands k within =
     get_or-take end memory (place + k) 0 (omega arith) ∙ stands k within

@@ -1,4 +1,4 @@
--- Lines that are kept, and what a line without names comes to.
+-- Lines that are kept, and what a line without names results in.
 use Rattle.std.proofs.Common.{◌≡◌, ℕ, ◌+◌, ◌≤◌, ◌==◌, Bool, true, false, List, [], ◌∷◌, ◌++◌, length, Option, Some, None, refl, arith, ◌∙◌, ap, if◌then◌else◌}
 use Rattle.std.proofs.lemmas.Bool.{eqb-true}
 use Rattle.md_asm_text.specs.Pieces as pieces
@@ -14,8 +14,8 @@ pub kept_more : (entries : List Entry) (entry : Entry) → AreKept entries → I
 kept_more [] entry kept is = (is, tt)
 kept_more (e ∷ es) entry kept is = (kept.0, kept_more es entry kept.1 is)
 
--- pieces without names are as they are, whatever names mean
-pub resolved_plain : (names : Names) (said : List Piece) → has_name said ≡ false → resolved names said ≡ said
+-- tokens without names are as they are, whatever names mean
+pub resolved_plain : (names : Names) (line_tokens : List Piece) → has_name line_tokens ≡ false → resolved names line_tokens ≡ line_tokens
 unfolding has_name
 resolved_plain names [] none = refl
 resolved_plain names (pieces.Word w ∷ ps) none = ap (λ (l : List Piece). pieces.Word w ∷ l) (resolved_plain names ps none)
@@ -23,13 +23,13 @@ resolved_plain names (pieces.Number n ∷ ps) none = ap (λ (l : List Piece). pi
 resolved_plain names (pieces.Name w ∷ ps) none = cc
 resolved_plain names (pieces.Mark c ∷ ps) none = ap (λ (l : List Piece). pieces.Mark c ∷ l) (resolved_plain names ps none)
 
--- what a line without names comes to does not depend on them
-pub settles_without_names : (sub : Bool) (body : Body) (long : ℕ) (said : List Piece) (at : ℕ) (bytes : List ℕ) → has_name said ≡ false
-    → settled_line sub body long said at ≡ Good bytes → SettlesOn sub body long said at bytes
-settles_without_names sub body long said at bytes none is names =
-    ap (λ (l : List Piece). settled_line sub body long l at) (resolved_plain names said none) ∙ is
+-- what a line without names results in does not depend on them
+pub settles_without_names : (sub : Bool) (body : Body) (long : ℕ) (line_tokens : List Piece) (at : ℕ) (bytes : List ℕ) → has_name line_tokens ≡ false
+    → settled_line sub body long line_tokens at ≡ Good bytes → SettlesOn sub body long line_tokens at bytes
+settles_without_names sub body long line_tokens at bytes none is names =
+    ap (λ (l : List Piece). settled_line sub body long l at) (resolved_plain names line_tokens none) ∙ is
 
--- bytes that a line comes to have its length
+-- the bytes of a line have its length
 sized_by : (long : ℕ) (own bytes : List ℕ) (b : Bool) → (length own == long) ≡ b → (if b then Good own else Far) ≡ Good bytes → length bytes ≡ long
 sized_by long own bytes true same is =
     let e : own ≡ bytes = cc in rw (← e) (eqb-true (length own) long same)
@@ -45,10 +45,10 @@ chosen true c long found bytes is = cc
 chosen false true long found bytes is = cc
 chosen false false long found bytes is = sized_long long found bytes is
 
-pub settled_long : (sub : Bool) (body : Body) (long : ℕ) (said : List Piece) (at : ℕ) (bytes : List ℕ)
-    → settled_line sub body long said at ≡ Good bytes → length bytes ≡ long
-settled_long sub body long said at bytes is =
-    chosen (has_name said) (is_unfit sub body said) long (content sub body said at) bytes is
+pub settled_long : (sub : Bool) (body : Body) (long : ℕ) (line_tokens : List Piece) (at : ℕ) (bytes : List ℕ)
+    → settled_line sub body long line_tokens at ≡ Good bytes → length bytes ≡ long
+settled_long sub body long line_tokens at bytes is =
+    chosen (has_name line_tokens) (is_unfit sub body line_tokens) long (content sub body line_tokens at) bytes is
 
 fits : (place long room : ℕ) (s : Settled) → place + long ≤ room → ((bytes : List ℕ) → s ≡ Good bytes → length bytes ≡ long) → FitsAt s place room
 fits place long room (Good bytes) h own = let e = own bytes refl in omega (arith, e)
@@ -57,11 +57,11 @@ fits place long room Unfit h own = tt
 fits place long room Far h own = tt
 
 -- so they have room where the line has
-pub settled_fits : (sub : Bool) (body : Body) (long : ℕ) (said : List Piece) (at place room : ℕ) → place + long ≤ room
-    → FitsAt (settled_line sub body long said at) place room
-settled_fits sub body long said at place room h =
-    fits place long room (settled_line sub body long said at) h (λ bytes is. settled_long sub body long said at bytes is)
+pub settled_fits : (sub : Bool) (body : Body) (long : ℕ) (line_tokens : List Piece) (at place room : ℕ) → place + long ≤ room
+    → FitsAt (settled_line sub body long line_tokens at) place room
+settled_fits sub body long line_tokens at place room h =
+    fits place long room (settled_line sub body long line_tokens at) h (λ bytes is. settled_long sub body long line_tokens at bytes is)
 
-pub settles_long : (sub : Bool) (body : Body) (long : ℕ) (said : List Piece) (at : ℕ) (bytes : List ℕ) → SettlesOn sub body long said at bytes
+pub settles_long : (sub : Bool) (body : Body) (long : ℕ) (line_tokens : List Piece) (at : ℕ) (bytes : List ℕ) → SettlesOn sub body long line_tokens at bytes
     → length bytes ≡ long
-settles_long sub body long said at bytes settles = settled_long sub body long (resolved (λ name. None) said) at bytes (settles (λ name. None))
+settles_long sub body long line_tokens at bytes settles = settled_long sub body long (resolved (λ name. None) line_tokens) at bytes (settles (λ name. None))

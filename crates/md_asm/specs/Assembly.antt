@@ -21,7 +21,7 @@ number_of kinds.UnknownName = 7
 number_of kinds.DoesNotFit = 8
 number_of kinds.Far = 9
 
--- where a line stands
+-- where a line is
 abbrev pub placed_slot : Slot → Placed
 placed_slot slot = record { place = slot.place; address = slot.address; z80 = slot.sub }
 
@@ -40,7 +40,11 @@ unfoldable pub places_of : List Slot → List Placed
 places_of [] = []
 places_of (slot ∷ more) = if is_instruction slot.body then placed_slot slot ∷ places_of more else places_of more
 
--- an image and where its instructions stand, or the first line that is at fault and its least kind
+-- the greatest length of a source that is assembled, in bytes
+abbrev pub source_limit : ℕ
+source_limit = 1048576
+
+-- an image and where its instructions are, or the first line that is at fault and its least kind
 pub data AssemblyOutcome : Type 0 where
   Done : List ℕ → List Placed → AssemblyOutcome
   Failed : ℕ → ℕ → AssemblyOutcome
@@ -54,6 +58,6 @@ second (Read round) = assembly_of round (round_two round.names blank round.slots
 second (Refused line kind) = Failed line (number_of kind)
 
 -- A source's lines are read in their order, each with its place, its address and its length; then each that has
--- bytes is put at its place, with all names known. The image ends behind the last byte that is written.
+-- bytes is written at its place, with all names known. The image ends after the last byte that is written.
 unfoldable pub assembly : List ℕ → AssemblyOutcome
 assembly source = second (round_one start 1 (lines source))

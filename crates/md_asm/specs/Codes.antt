@@ -1,4 +1,4 @@
--- The bytes of an instruction: those of the encoding of an instruction whose text has its pieces.
+-- The bytes of an instruction: those of the encoding of an instruction whose text has its tokens.
 use Rattle.std.specs.Prelude.{ℕ, ◌/◌, ◌%◌, Bool, true, false, if◌then◌else◌, List, [], ◌∷◌, Option, Some, None, option_map}
 use Rattle.m68k_decode.specs.Instructions as main
 use Rattle.z80_decode.specs.Instructions as sub
@@ -9,20 +9,20 @@ use Rattle.md_asm_text.specs.Pieces.{Piece, pieces}
 use Rattle.asm_m68k.specs.Judged as main_read
 use Rattle.asm_z80.specs.Judged as sub_read
 
--- words of the 68000 decode to an instruction whose text at an address has these pieces
+-- words of the 68000 decode to an instruction whose text at an address has these tokens
 abbrev pub say_words : List ℕ → List Piece → ℕ → Bool
-say_words words said at = all_alike (pieces (main_texts.text_of (main.instruction_of (main_read.padded words)) at)) said
+say_words words line_tokens at = all_alike (pieces (main_texts.text_of (main.instruction_of (main_read.padded words)) at)) line_tokens
 
 -- bytes of the Z80 do so
 abbrev pub say_bytes : List ℕ → List Piece → ℕ → Bool
-say_bytes bytes said at = all_alike (pieces (sub_texts.text_of (sub.instruction_of (sub_read.padded bytes)) at)) said
+say_bytes bytes line_tokens at = all_alike (pieces (sub_texts.text_of (sub.instruction_of (sub_read.padded bytes)) at)) line_tokens
 
--- the words that are read and encoded, where they say the pieces
+-- the words that are read and encoded, where they say the tokens
 unfoldable pub main_code : List Piece → ℕ → Option (List ℕ)
-main_code said at = if say_words (main_read.tried said at) said at then Some (main_read.tried said at) else None
+main_code line_tokens at = if say_words (main_read.tried line_tokens at) line_tokens at then Some (main_read.tried line_tokens at) else None
 
 unfoldable pub sub_code : List Piece → ℕ → Option (List ℕ)
-sub_code said at = if say_bytes (sub_read.tried said at) said at then Some (sub_read.tried said at) else None
+sub_code line_tokens at = if say_bytes (sub_read.tried line_tokens at) line_tokens at then Some (sub_read.tried line_tokens at) else None
 
 -- words as bytes, the high byte first
 unfoldable pub in_bytes : List ℕ → List ℕ
@@ -31,5 +31,5 @@ in_bytes (word ∷ more) = word / 256 ∷ word % 256 ∷ in_bytes more
 
 -- the bytes of an instruction of one processor at an address
 abbrev pub code : Bool → List Piece → ℕ → Option (List ℕ)
-code true said at = sub_code said at
-code false said at = option_map in_bytes (main_code said at)
+code true line_tokens at = sub_code line_tokens at
+code false line_tokens at = option_map in_bytes (main_code line_tokens at)

@@ -7,17 +7,17 @@ use Rattle.md_asm_text.specs.declared.body.Body.TheVariants as bodies
 use Rattle.md_asm.specs.Codes.{code}
 use Rattle.md_asm.specs.Numbers.{alone, any_over, bytes_of, count, filled, has_name, words_of}
 
--- The length of a line, or none where it is no line: its numbers do not matter, so 8 stands for each, at an
+-- The length of a line, or none where it is no line: its numbers do not matter, so each is 8, at an
 -- address from which 8 is in reach of every branch.
 abbrev pub size : Bool → Body → List Piece → Option ℕ
-size z80 bodies.Bad said = None
-size z80 bodies.Words said = Some (2 * count said)
-size z80 bodies.Bytes said = Some (count said)
-size z80 bodies.Instruction said = option_map length (code z80 (filled said) 4)
-size z80 bodies.Nothing said = Some 0
-size z80 (bodies.Org place) said = Some 0
-size z80 bodies.Main said = Some 0
-size z80 (bodies.Sub at) said = Some 0
+size z80 bodies.Bad line_tokens = None
+size z80 bodies.Words line_tokens = Some (2 * count line_tokens)
+size z80 bodies.Bytes line_tokens = Some (count line_tokens)
+size z80 bodies.Instruction line_tokens = option_map length (code z80 (filled line_tokens) 4)
+size z80 bodies.Nothing line_tokens = Some 0
+size z80 (bodies.Org place) line_tokens = Some 0
+size z80 bodies.Main line_tokens = Some 0
+size z80 (bodies.Sub at) line_tokens = Some 0
 
 -- the address 4 below, from which a branch to a number is in its reach
 abbrev pub under : Bool → ℕ → ℕ
@@ -26,37 +26,37 @@ under false n = (n + 4294967292) % 4294967296
 
 -- a number does not fit: with 8 for all others there is no such instruction
 abbrev pub misfit : Bool → List Piece → ℕ → Piece → Bool
-misfit z80 said i (pieces.Number n) = not (is_some (code z80 (alone said i (pieces.Number n)) (under z80 n)))
-misfit z80 said i piece = false
+misfit z80 line_tokens i (pieces.Number n) = not (is_some (code z80 (alone line_tokens i (pieces.Number n)) (under z80 n)))
+misfit z80 line_tokens i piece = false
 
 -- one from a place on does not
 unfoldable pub misfits : Bool → List Piece → ℕ → List Piece → Bool
-misfits z80 said i [] = false
-misfits z80 said i (piece ∷ more) = misfit z80 said i piece || misfits z80 said (i + 1) more
+misfits z80 line_tokens i [] = false
+misfits z80 line_tokens i (piece ∷ more) = misfit z80 line_tokens i piece || misfits z80 line_tokens (i + 1) more
 
 -- a number of a line does not fit
 abbrev pub is_unfit : Bool → Body → List Piece → Bool
-is_unfit z80 (bodies.Sub at) said = nat_le 65536 at
-is_unfit z80 bodies.Words said = any_over 65536 said
-is_unfit z80 bodies.Bytes said = any_over 256 said
-is_unfit z80 bodies.Instruction said = misfits z80 said 0 said
-is_unfit z80 bodies.Bad said = false
-is_unfit z80 bodies.Nothing said = false
-is_unfit z80 (bodies.Org place) said = false
-is_unfit z80 bodies.Main said = false
+is_unfit z80 (bodies.Sub at) line_tokens = nat_le 65536 at
+is_unfit z80 bodies.Words line_tokens = any_over 65536 line_tokens
+is_unfit z80 bodies.Bytes line_tokens = any_over 256 line_tokens
+is_unfit z80 bodies.Instruction line_tokens = misfits z80 line_tokens 0 line_tokens
+is_unfit z80 bodies.Bad line_tokens = false
+is_unfit z80 bodies.Nothing line_tokens = false
+is_unfit z80 (bodies.Org place) line_tokens = false
+is_unfit z80 bodies.Main line_tokens = false
 
 -- the bytes of a line without names, or none where no instruction's text is the line's at its address
 abbrev pub content : Bool → Body → List Piece → ℕ → Option (List ℕ)
-content z80 bodies.Words said at = Some (words_of said)
-content z80 bodies.Bytes said at = Some (bytes_of said)
-content z80 bodies.Instruction said at = code z80 said at
-content z80 bodies.Bad said at = Some []
-content z80 bodies.Nothing said at = Some []
-content z80 (bodies.Org place) said at = Some []
-content z80 bodies.Main said at = Some []
-content z80 (bodies.Sub n) said at = Some []
+content z80 bodies.Words line_tokens at = Some (words_of line_tokens)
+content z80 bodies.Bytes line_tokens at = Some (bytes_of line_tokens)
+content z80 bodies.Instruction line_tokens at = code z80 line_tokens at
+content z80 bodies.Bad line_tokens at = Some []
+content z80 bodies.Nothing line_tokens at = Some []
+content z80 (bodies.Org place) line_tokens at = Some []
+content z80 bodies.Main line_tokens at = Some []
+content z80 (bodies.Sub n) line_tokens at = Some []
 
--- what a line comes to once all names have their values
+-- the outcome of a line once all names have their values
 pub data Settled : Type 0 where
   Good : List ℕ → Settled
   Unknown : Settled
@@ -71,5 +71,5 @@ sized long (Some bytes) = if length bytes == long then Good bytes else Far
 -- A name that has no value is unknown. The line's own numbers fit already, so that a number which does not is a
 -- name's. Else its bytes are those of its length.
 abbrev pub settled_line : Bool → Body → ℕ → List Piece → ℕ → Settled
-settled_line z80 body long said at =
-    if has_name said then Unknown else (if is_unfit z80 body said then Unfit else sized long (content z80 body said at))
+settled_line z80 body long line_tokens at =
+    if has_name line_tokens then Unknown else (if is_unfit z80 body line_tokens then Unfit else sized long (content z80 body line_tokens at))

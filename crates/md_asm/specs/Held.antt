@@ -7,7 +7,7 @@ use Rattle.md_asm.specs.Assembly.{places_of}
 use Rattle.md_asm.specs.Rounds.{Read, Round, Slot, round_one, settled_slot, start}
 use Rattle.md_asm.specs.declared.placed.Placed.{Placed}
 
--- bytes stand at a place of a memory
+-- bytes are at a place of a memory
 abbrev pub StandsAt : List ℕ → ℕ → List ℕ → Type 0
 StandsAt memory place bytes = (k : ℕ) → k < length bytes → slice_index memory (place + k) ≡ slice_index bytes k
 
@@ -16,7 +16,7 @@ abbrev pub IsAddress : Bool → ℕ → Type 0
 IsAddress true at = at < 65536
 IsAddress false at = at < 4294967296
 
--- the bytes that a line comes to, with all names known, stand at its place
+-- the bytes of a line, with all names known, are at its place
 pub record IsHeld (image : List ℕ) (names : Names) (slot : Slot) : Type 0 where
   pub bytes : List ℕ
   pub settled : settled_slot names slot ≡ Good bytes

@@ -6,14 +6,15 @@ use Rattle.md_asm.specs.Contents.{Far, Good, Settled, Unfit, Unknown, settled_li
 use Rattle.md_asm.specs.Numbers.{Names, resolved}
 use Rattle.md_asm.specs.declared.entry.Entry.{Entry}
 use Rattle.md_asm.specs.declared.pass.Pass.{Pass}
+use Rattle.md_asm.specs.Places.{image_limit}
 
--- a line comes to these bytes whatever values names have
+-- a line results in these bytes whatever values names have
 abbrev pub SettlesOn : Bool → Body → ℕ → List Piece → ℕ → List ℕ → Type 0
-SettlesOn sub body long said at bytes = (names : Names) → settled_line sub body long (resolved names said) at ≡ Good bytes
+SettlesOn sub body long line_tokens at bytes = (names : Names) → settled_line sub body long (resolved names line_tokens) at ≡ Good bytes
 
 -- it ends below 400000h, has an address of its processor, and the bytes that it has are its own
 pub record IsKept (entry : Entry) : Type 0 where
-  pub low : entry.place + entry.long ≤ 4194304
+  pub low : entry.place + entry.long ≤ image_limit
   pub addressed : entry.z80 ≡ true → entry.address < 65536
   pub known : IfSome entry.bytes (λ bytes. SettlesOn entry.z80 entry.body entry.long (pieces entry.text.now) entry.address bytes.items)
 
@@ -22,10 +23,10 @@ AreKept [] = Unit {0}
 AreKept (entry ∷ more) = IsKept entry × AreKept more
 
 pub record IsPass (pass : Pass) : Type 0 where
-  pub whole : vec_len pass.cells.marks ≡ 4194304
+  pub whole : vec_len pass.cells.marks ≡ image_limit
   pub kept : AreKept pass.entries.items
 
--- bytes that a line comes to have room at its place
+-- the bytes of a line have room at its place
 abbrev pub FitsAt : Settled → ℕ → ℕ → Type 0
 FitsAt (Good bytes) place room = place + length bytes ≤ room
 FitsAt Unknown place room = Unit {0}

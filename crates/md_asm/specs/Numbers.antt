@@ -1,4 +1,4 @@
--- The numbers and names among the pieces of a line.
+-- The numbers and names among the tokens of a line.
 use Rattle.std.specs.Prelude.{ℕ, ◌+◌, ◌/◌, ◌%◌, Bool, true, false, ◌||◌, nat_le, if◌then◌else◌, List, [], ◌∷◌, ◌++◌, map, slice_set, Option, Some, None}
 use Rattle.md_asm_text.specs.Pieces as pieces
 use Rattle.md_asm_text.specs.Pieces.{Piece}
@@ -12,13 +12,13 @@ abbrev pub valued : List ℕ → Option ℕ → Piece
 valued name None = pieces.Name name
 valued name (Some value) = pieces.Number value
 
--- a name's value stands for it, where it has one
+-- a name's value is in its place, where it has one
 abbrev pub resolved_piece : Names → Piece → Piece
 resolved_piece names (pieces.Name name) = valued name (names name)
 resolved_piece names piece = piece
 
 abbrev pub resolved : Names → List Piece → List Piece
-resolved names said = map (resolved_piece names) said
+resolved names line_tokens = map (resolved_piece names) line_tokens
 
 abbrev pub is_name : Piece → Bool
 is_name (pieces.Name name) = true
@@ -29,18 +29,18 @@ unfoldable pub has_name : List Piece → Bool
 has_name [] = false
 has_name (piece ∷ more) = is_name piece || has_name more
 
--- 8 stands for each number and name: it fits wherever one stands
+-- 8 in place of each number and name: it fits wherever one is
 abbrev pub filled_piece : Piece → Piece
 filled_piece (pieces.Name name) = pieces.Number 8
 filled_piece (pieces.Number n) = pieces.Number 8
 filled_piece piece = piece
 
 abbrev pub filled : List Piece → List Piece
-filled said = map filled_piece said
+filled line_tokens = map filled_piece line_tokens
 
 -- 8 for all but the number at one place
 abbrev pub alone : List Piece → ℕ → Piece → List Piece
-alone said i number = slice_set (filled said) i number
+alone line_tokens i number = slice_set (filled line_tokens) i number
 
 -- how many numbers and names there are
 unfoldable pub count : List Piece → ℕ

@@ -1,4 +1,4 @@
--- Places, addresses, and the memory that an image is the front of.
+-- Places, addresses, and the memory that an image is a prefix of.
 use Rattle.std.specs.Prelude.{ℕ, zero, suc, ◌+◌, ◌-◌, ◌%◌, Bool, true, false, ◌&&◌, ◌||◌, nat_le, nat_lt, List, ◌++◌, length, take, drop, replicate}
 use Rattle.md_asm.specs.declared.processor.Processor.{Processor}
 use Rattle.md_asm.specs.declared.processor.Processor.TheVariants as processors
@@ -26,9 +26,14 @@ any_written written place (suc long) = written place || any_written written (pla
 abbrev pub with_written : WrittenPlaces → ℕ → ℕ → WrittenPlaces
 with_written written place long other = written other || (nat_le place other && nat_lt other (place + long))
 
+-- the places of an image are below this: those of the cartridge in the 68000's address space. Genesis Technical
+-- Overview, the memory map of the 68000.
+abbrev pub image_limit : ℕ
+image_limit = 4194304
+
 -- the last of so many places is too large
 abbrev pub is_too_large : ℕ → ℕ → Bool
-is_too_large place long = nat_lt 4194304 (place + long)
+is_too_large place long = nat_lt image_limit (place + long)
 
 -- a memory of so many bytes, all of them 0
 unfoldable pub zeros : ℕ → List ℕ
@@ -36,7 +41,7 @@ zeros count = replicate count 0
 
 -- a memory in which nothing is written
 abbrev pub blank : List ℕ
-blank = zeros 4194304
+blank = zeros image_limit
 
 -- a memory with these bytes at a place
 unfoldable pub put : List ℕ → ℕ → List ℕ → List ℕ

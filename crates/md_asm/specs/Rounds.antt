@@ -1,4 +1,4 @@
--- The two rounds of an assembler: where each line stands and how long it is, then its bytes.
+-- The two rounds of an assembler: where each line is and how long it is, then its bytes.
 use Rattle.std.specs.Prelude.{ℕ, ◌+◌, ◌%◌, Bool, true, false, not, ◌&&◌, ◌==◌, if◌then◌else◌, List, [], ◌∷◌, ◌++◌, Option, Some, None, is_some, max}
 use Rattle.std.specs.Map.{update}
 use Rattle.std.specs.Str.{bytes_eq}
@@ -14,7 +14,7 @@ use Rattle.md_asm.specs.declared.kind.Kind.TheVariants as kinds
 use Rattle.md_asm.specs.declared.processor.Processor.{Processor}
 use Rattle.md_asm.specs.declared.processor.Processor.TheVariants as processors
 
--- a line that has bytes: its number, where it stands, how long it is, and what it says
+-- a line that has bytes: its number, where it is, how long it is, and its text
 pub record Slot : Type 0 where
   pub line : ℕ
   pub place : ℕ
@@ -24,7 +24,7 @@ pub record Slot : Type 0 where
   pub body : Body
   pub text : List ℕ
 
--- what the lines so far come to
+-- the state after the lines so far
 pub record Round : Type 0 where
   pub place : ℕ
   pub processor : Processor
@@ -55,7 +55,7 @@ has_bytes bodies.Main = false
 has_bytes (bodies.Sub at) = false
 has_bytes bodies.Bad = false
 
--- an instruction of the 68000 and words stand at even places
+-- an instruction of the 68000 and words are at even places
 abbrev pub wants_even : Bool → Body → Bool
 wants_even sub bodies.Words = true
 wants_even sub bodies.Instruction = not sub
@@ -133,14 +133,14 @@ abbrev pub kept_if : Bool → Round → ℕ → Line → ℕ → Round
 kept_if true round number line long = kept round number line long
 kept_if false round number line long = round
 
--- the place and the processor behind a line
+-- the place and the processor after a line
 abbrev pub moved : Round → Body → ℕ → Round
 moved round body long = record round {
   place = place_behind round.place body long;
   processor = processor_behind round.processor round.place body;
 }
 
--- behind a line of this number and length
+-- after a line of this number and length
 abbrev pub behind : Round → ℕ → Line → ℕ → Round
 behind round number line long = moved (kept_if (has_bytes line.body) (labelled round line.label) number line long) line.body long
 
@@ -174,7 +174,7 @@ round_one round number (text ∷ more) = go_on number (line_step round number (l
 
 -- ---- round two
 
--- what a line comes to, with all names known
+-- the outcome of a line, with all names known
 abbrev pub settled_slot : Names → Slot → Settled
 settled_slot names slot = settled_line slot.sub slot.body slot.long (resolved names (pieces slot.text)) slot.address
 

@@ -42,7 +42,7 @@ abbrev pub step_seen : Option Kind → Pass → Step
 step_seen None pass = On (round_seen pass)
 step_seen (Some kind) pass = Stop kind
 
--- a line's bytes were put into a memory, or why not
+-- a line's bytes were written to a memory, or why not
 abbrev pub patched_seen : Option Kind → List ℕ → Patched
 patched_seen None memory = Onto memory
 patched_seen (Some kind) memory = Hit kind
@@ -51,16 +51,16 @@ patched_seen (Some kind) memory = Hit kind
 abbrev pub image_seen : Assembled → List ℕ
 image_seen assembled = assembled.image.items
 
--- where its instructions stand
+-- where its instructions are
 abbrev pub lines_seen : Assembled → List Placed
 lines_seen assembled = assembled.lines.items
 
--- a fault is the definition's, or memory is wanting
+-- a fault is the definition's, or out of memory
 abbrev pub IsFault : AsmFault → AssemblyOutcome → Type 0
 IsFault (faults.Line line kind) outcome = outcome ≡ Failed line kind
 IsFault faults.NoMemory outcome = Unit {0}
 
--- round one refuses a line, or memory is wanting
+-- round one refuses a line, or it is out of memory
 abbrev pub IsRefused : AsmFault → Outcome → Type 0
 IsRefused (faults.Line line kind) outcome = (own : Kind) × (outcome ≡ Refused line own) × (kind ≡ number_of own)
 IsRefused faults.NoMemory outcome = Unit {0}

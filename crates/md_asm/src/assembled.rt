@@ -11,14 +11,14 @@ pub struct Assembled {
 }
 
 impl Assembled {
-    /// The image, up to the last byte that is written.
+    /// The image, up to the last byte that is written; bytes that no line has are 0.
     pub fn image(&self) -> &[u8]
         ensures { result.now ≡ image_seen self.now }
     {
         self.image.as_slice()
     }
 
-    /// Where each instruction stands, in the order of the lines.
+    /// Where each instruction is, in the order of the lines.
     pub fn lines(&self) -> &[Placed]
         ensures { result.now ≡ lines_seen self.now }
     {

@@ -7,6 +7,7 @@ ghost use Rattle.md_asm.specs.Places as places;
 ghost use Rattle.md_asm.specs.Rounds as rounds;
 ghost use Rattle.md_asm.specs.Seen.{IsFault, IsFaulty, IsRefused, image_seen, lines_seen, round_seen, slot_seen};
 
+use crate::Names;
 use crate::assembled::Assembled;
 use crate::cells::{Cells, PLACES};
 use crate::entry::Entry;
@@ -16,12 +17,11 @@ use crate::pass::Pass;
 use crate::patching::patch;
 use crate::placed::Placed;
 use crate::processor::Processor;
-use crate::Names;
 use md_asm_text::{Body, next_line};
 use md_word::NoMemory;
 use std::alloc::Global;
 
-/// No line is read.
+/// A pass that has read no line. It fails where memory runs out.
 fn start<'a>(alloc: Global) -> Result<Pass<'a>, NoMemory>
     ensures seen { IfOk result (λ pass. round_seen pass ≡ rounds.start) }
     ensures pass { IfOk result (λ pass. IsPass pass) }
@@ -37,11 +37,11 @@ fn start<'a>(alloc: Global) -> Result<Pass<'a>, NoMemory>
     })
 }
 
-/// Reads the lines of a source into a pass; or tells the first that is at fault.
+/// Reads the lines of a source into a pass. It fails at the first line that is at fault, or where memory runs out.
 #[tactic(auto, unfolding(crate::specs::Rounds::round_one))]
 fn read_lines<'a>(alloc: Global, pass: &mut Pass<'a>, source: &'a [u8]) -> Result<(), AsmFault>
     requires pass { IsPass pass.old }
-    requires short { length source.now ≤ 1048576 }
+    requires short { length source.now ≤ meaning.source_limit }
     ensures read { OnOk result (rounds.round_one (round_seen pass.old) 1 (lines_of source.now) ≡ rounds.Read (round_seen pass.new)) }
     ensures refused { IfErr result (λ fault. IsRefused fault (rounds.round_one (round_seen pass.old) 1 (lines_of source.now))) }
     ensures pass { OnOk result (IsPass pass.new) }
@@ -62,7 +62,7 @@ fn read_lines<'a>(alloc: Global, pass: &mut Pass<'a>, source: &'a [u8]) -> Resul
     Ok(())
 }
 
-/// A memory of so many bytes, all of them 0.
+/// A memory of so many bytes, all of them 0. It fails where memory runs out.
 #[tactic(auto, unfolding(crate::specs::Places::zeros))]
 fn zeros(alloc: Global, count: usize) -> Result<Vec<u8>, NoMemory>
     ensures items { IfOk result (λ memory. memory.items ≡ places.zeros count) }
@@ -71,7 +71,7 @@ fn zeros(alloc: Global, count: usize) -> Result<Vec<u8>, NoMemory>
     vec![in alloc; 0; count]
 }
 
-/// A memory with the bytes of all lines, or the first that has none.
+/// A memory with the bytes of all lines. It fails at the first that has none, or where memory runs out.
 #[tactic(auto, unfolding(crate::specs::Rounds::round_two))]
 fn written<'a>(alloc: Global, names: &Names<'a>, entries: &[Entry<'a>]) -> Result<Vec<u8>, AsmFault>
     requires { AreKept entries.now }
@@ -107,7 +107,7 @@ fn is_instruction(body: Body) -> bool
     }
 }
 
-/// Where the instructions stand.
+/// Where the instructions are. It fails where memory runs out.
 #[tactic(auto, unfolding(crate::specs::Assembly::places_of))]
 fn places_of(alloc: Global, entries: &[Entry<'_>]) -> Result<Vec<Placed>, NoMemory>
     ensures { IfOk result (λ lines. lines.items ≡ meaning.places_of (map slot_seen entries.now)) }
@@ -127,11 +127,11 @@ fn places_of(alloc: Global, entries: &[Entry<'_>]) -> Result<Vec<Placed>, NoMemo
     Ok(lines)
 }
 
-/// Assembles a source of at most 1,048,576 bytes. Its lines are read in one pass; those that use names are
-/// patched behind it.
+/// Assembles a source of at most 1,048,576 bytes. Its lines are read in one pass; those that use names are patched after
+/// it. It fails at the first line that is at fault, with the least kind of its faults, or where memory runs out.
 #[tactic(auto, unfolding(crate::specs::Assembly::assembly))]
 pub fn assemble(alloc: Global, source: &[u8]) -> Result<Assembled, AsmFault>
-    requires { length source.now ≤ 1048576 }
+    requires { length source.now ≤ meaning.source_limit }
     ensures done { IfOk result (λ done. meaning.assembly source.now ≡ meaning.Done (image_seen done) (lines_seen done)) }
     ensures fault { IfErr result (λ fault. IsFault fault (meaning.assembly source.now)) }
 {

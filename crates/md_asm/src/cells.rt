@@ -5,7 +5,7 @@ ghost use Rattle.md_asm.specs.Seen.{cells_seen};
 use md_word::NoMemory;
 use std::alloc::Global;
 
-/// The number of places: a byte stands below this one.
+/// The number of places: each byte of an image is below this one.
 pub(crate) const PLACES: usize = 4_194_304;
 
 /// The places that were written.
@@ -14,7 +14,7 @@ pub(crate) struct Cells {
     pub(crate) marks: Vec<bool>,
 }
 
-/// So many places that are not written.
+/// So many places that are not written. It fails where memory runs out.
 #[tactic(auto, using(crate::proofs::Places::none_marked))]
 fn unwritten(alloc: Global, count: usize) -> Result<Vec<bool>, NoMemory>
     ensures marks { IfOk result (λ marks. (k : ℕ) → slice_index_or marks.items k false ≡ false) }
@@ -24,10 +24,10 @@ fn unwritten(alloc: Global, count: usize) -> Result<Vec<bool>, NoMemory>
 }
 
 impl Cells {
-    /// No place is written.
+    /// No place is written. It fails where memory runs out.
     pub(crate) fn new(alloc: Global) -> Result<Self, NoMemory>
         ensures seen { IfOk result (λ cells. cells_seen cells ≡ (λ _. false)) }
-        ensures long { IfOk result (λ cells. vec_len cells.marks ≡ 4194304) }
+        ensures long { IfOk result (λ cells. vec_len cells.marks ≡ places.image_limit) }
     {
         let marks = unwritten(alloc, PLACES)?;
         Ok(Cells { marks })
@@ -35,7 +35,7 @@ impl Cells {
 
     /// Whether one of so many places was written.
     pub(crate) fn any(&self, place: u32, long: usize) -> bool
-        requires { vec_len self.now.marks ≡ 4194304 }
+        requires { vec_len self.now.marks ≡ places.image_limit }
         ensures { result ≡ places.any_written (cells_seen self.now) place long }
     {
         let mut at = place as usize;
@@ -52,10 +52,10 @@ impl Cells {
 
     /// Marks so many places as written.
     pub(crate) fn mark(&mut self, place: u32, long: usize)
-        requires whole { vec_len self.old.marks ≡ 4194304 }
-        requires within { place + long ≤ 4194304 }
+        requires whole { vec_len self.old.marks ≡ places.image_limit }
+        requires within { place + long ≤ places.image_limit }
         ensures seen { cells_seen self.new ≡ places.with_written (cells_seen self.old) place long }
-        ensures whole { vec_len self.new.marks ≡ 4194304 }
+        ensures whole { vec_len self.new.marks ≡ places.image_limit }
     {
         let start = place as usize;
         for k in start..start + long {

@@ -3,12 +3,12 @@ ghost use Rattle.md_asm_text.specs.Shown.{shown};
 ghost use Rattle.md_asm.specs.Codes as codes;
 
 use asm_m68k::words_of;
+use asm_z80::bytes_of;
 use md_asm_text::Piece;
 use md_word::NoMemory;
 use std::alloc::Global;
-use asm_z80::bytes_of;
 
-/// Words as bytes, the high byte first.
+/// Words as bytes, the high byte first. It fails where memory runs out.
 #[tactic(auto, unfolding(crate::specs::Codes::in_bytes))]
 fn in_bytes(alloc: Global, words: &[u16]) -> Result<Vec<u8>, NoMemory>
     ensures { IfOk result (λ bytes. bytes.items ≡ codes.in_bytes words.now) }
@@ -23,8 +23,9 @@ fn in_bytes(alloc: Global, words: &[u16]) -> Result<Vec<u8>, NoMemory>
     Ok(bytes)
 }
 
-/// The bytes of an instruction of the 68000 at an address.
-#[tactic(auto, using(crate::proofs::Told::main_said, crate::proofs::Told::main_none))]
+/// The bytes of an instruction of the 68000 at an address, or `None` where no instruction has these tokens there. It fails
+/// where memory runs out.
+#[tactic(auto, using(crate::proofs::Checks::main_said, crate::proofs::Checks::main_none))]
 fn main_code(alloc: Global, pieces: &[Piece<'_>], at: u32) -> Result<Option<Vec<u8>>, NoMemory>
     ensures { IfOk result (λ found. option_map (λ bytes. bytes.items) found ≡ codes.code false (map shown pieces.now) at) }
 {
@@ -37,8 +38,9 @@ fn main_code(alloc: Global, pieces: &[Piece<'_>], at: u32) -> Result<Option<Vec<
     }
 }
 
-/// The bytes of an instruction of the Z80 at an address.
-#[tactic(auto, using(crate::proofs::Told::sub_said, crate::proofs::Told::sub_none))]
+/// The bytes of an instruction of the Z80 at an address, or `None` where no instruction has these tokens there. It fails
+/// where memory runs out.
+#[tactic(auto, using(crate::proofs::Checks::sub_said, crate::proofs::Checks::sub_none))]
 fn sub_code(alloc: Global, pieces: &[Piece<'_>], at: u16) -> Result<Option<Vec<u8>>, NoMemory>
     ensures { IfOk result (λ found. option_map (λ bytes. bytes.items) found ≡ codes.code true (map shown pieces.now) at) }
 {
@@ -51,7 +53,8 @@ fn sub_code(alloc: Global, pieces: &[Piece<'_>], at: u16) -> Result<Option<Vec<u
     }
 }
 
-/// The bytes of an instruction of one processor at an address, which for the Z80 is below 10000h.
+/// The bytes of an instruction of one processor at an address, which for the Z80 is below 10000h, or `None` where no
+/// instruction has these tokens there. It fails where memory runs out.
 pub(crate) fn code(
     alloc: Global,
     z80: bool,

@@ -8,12 +8,12 @@ use crate::data::{any_over, bytes_of, count, words_of};
 use crate::fitting::misfits;
 use crate::numbers::{fill, has_name};
 use crate::settled::Settled;
-use md_asm_text::Body;
-use md_asm_text::Piece;
+use md_asm_text::{Body, Piece};
 use md_word::NoMemory;
 use std::alloc::Global;
 
-/// The length of an instruction of one processor, or none where it is none.
+/// The length in bytes of an instruction of one processor, or `None` where no instruction has this form. It fails where
+/// memory runs out.
 fn instruction_size(
     alloc: Global,
     z80: bool,
@@ -28,7 +28,7 @@ fn instruction_size(
     }
 }
 
-/// The length of a line in bytes, or none where it is no line.
+/// The length of a line in bytes, or `None` where it is no line. It fails where memory runs out.
 pub fn size(
     alloc: Global,
     z80: bool,
@@ -46,7 +46,7 @@ pub fn size(
     }
 }
 
-/// Whether a number of a line does not fit.
+/// Whether a number of a line does not fit: it is out of the range of its place. It fails where memory runs out.
 pub fn is_unfit(
     alloc: Global,
     z80: bool,
@@ -64,7 +64,8 @@ pub fn is_unfit(
     }
 }
 
-/// The bytes of a line without names at an address, or none where no instruction's text is the line's there.
+/// The bytes of a line without names at an address, or `None` where no instruction's text is the line's there. It fails
+/// where memory runs out.
 pub(crate) fn content(
     alloc: Global,
     z80: bool,
@@ -91,7 +92,7 @@ pub(crate) fn content(
     }
 }
 
-/// What bytes of a line are worth that has this length.
+/// The outcome of a line of this length: its bytes, if they are as many, else `Far`.
 fn sized(found: Option<Vec<u8>>, long: usize) -> Settled
     ensures { settled_seen result ≡ contents.sized long (option_map (λ bytes. bytes.items) found) }
 {
@@ -107,7 +108,8 @@ fn sized(found: Option<Vec<u8>>, long: usize) -> Settled
     }
 }
 
-/// What a line of a length comes to at an address, with its names resolved.
+/// The outcome of a line of this length, with its names resolved, at an address, which for the Z80 is below 10000h. It
+/// fails where memory runs out.
 pub fn settle(
     alloc: Global,
     z80: bool,

@@ -41,7 +41,7 @@ pub(crate) fn any_over(limit: u32, pieces: &[Piece<'_>]) -> bool
     false
 }
 
-/// Appends a number as a byte.
+/// Appends a number as a byte. It fails where memory runs out.
 fn put_byte(bytes: &mut Vec<u8>, piece: &Piece<'_>) -> Result<(), NoMemory>
     ensures { OnOk result (bytes.new.items ≡ bytes.old.items ++ numbers.byte_of (shown piece.now)) }
 {
@@ -51,7 +51,7 @@ fn put_byte(bytes: &mut Vec<u8>, piece: &Piece<'_>) -> Result<(), NoMemory>
     Ok(())
 }
 
-/// Appends a number as a word, the high byte first.
+/// Appends a number as a word, the high byte first. It fails where memory runs out.
 fn put_word(bytes: &mut Vec<u8>, piece: &Piece<'_>) -> Result<(), NoMemory>
     ensures { OnOk result (bytes.new.items ≡ bytes.old.items ++ numbers.word_of (shown piece.now)) }
 {
@@ -62,7 +62,7 @@ fn put_word(bytes: &mut Vec<u8>, piece: &Piece<'_>) -> Result<(), NoMemory>
     Ok(())
 }
 
-/// The numbers as bytes.
+/// The numbers as bytes. It fails where memory runs out.
 #[tactic(auto, unfolding(crate::specs::Numbers::bytes_of))]
 pub(crate) fn bytes_of(alloc: Global, pieces: &[Piece<'_>]) -> Result<Vec<u8>, NoMemory>
     ensures { IfOk result (λ bytes. bytes.items ≡ numbers.bytes_of (map shown pieces.now)) }
@@ -76,7 +76,7 @@ pub(crate) fn bytes_of(alloc: Global, pieces: &[Piece<'_>]) -> Result<Vec<u8>, N
     Ok(bytes)
 }
 
-/// The numbers as words, the high byte first.
+/// The numbers as words, the high byte first. It fails where memory runs out.
 #[tactic(auto, unfolding(crate::specs::Numbers::words_of))]
 pub(crate) fn words_of(alloc: Global, pieces: &[Piece<'_>]) -> Result<Vec<u8>, NoMemory>
     ensures { IfOk result (λ bytes. bytes.items ≡ numbers.words_of (map shown pieces.now)) }

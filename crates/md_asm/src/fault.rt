@@ -3,9 +3,10 @@ use md_word::NoMemory;
 /// Why a source is not assembled.
 #[derive(Clone, Copy, PartialEq, Eq, Debug, Drop)]
 pub enum AsmFault {
-    /// A line, from 1 on, is at fault. The kinds are 1 bad line, 2 bad number, 3 twice, 4 odd, 5 overlap,
-    /// 6 too large, 7 unknown name, 8 does not fit, 9 far.
+    /// A line, counted from 1, is at fault. The kinds are 1 bad line, 2 bad number, 3 twice, 4 odd, 5 overlap, 6 too large,
+    /// 7 unknown name, 8 does not fit, 9 far.
     Line { line: u32, kind: u8 },
+    /// Memory ran out.
     NoMemory,
 }
 

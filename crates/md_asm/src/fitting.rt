@@ -22,7 +22,7 @@ fn under(z80: bool, n: u32) -> u32
     }
 }
 
-/// The pieces with 8 for each number and name, and a number at one place.
+/// The tokens with 8 for each number and name, and a number at one place. It fails where memory runs out.
 fn alone<'a>(
     alloc: Global,
     pieces: &[Piece<'a>],
@@ -37,7 +37,7 @@ fn alone<'a>(
     Ok(tried)
 }
 
-/// Whether a piece at a place among pieces is a number that does not fit.
+/// Whether a token at a place among tokens is a number that does not fit. It fails where memory runs out.
 fn misfit(
     alloc: Global,
     z80: bool,
@@ -58,7 +58,7 @@ fn misfit(
     }
 }
 
-/// Whether a number of an instruction does not fit.
+/// Whether a number of an instruction does not fit. It fails where memory runs out.
 #[tactic(auto, unfolding(crate::specs::Contents::misfits))]
 pub(crate) fn misfits(alloc: Global, z80: bool, pieces: &[Piece<'_>]) -> Result<bool, NoMemory>
     ensures { IfOk result (λ misfits. misfits ≡ contents.misfits z80 (map shown pieces.now) 0 (map shown pieces.now)) }

@@ -10,11 +10,11 @@ pub(crate) enum Kind {
     BadNumber,
     /// Its label was defined before.
     Twice,
-    /// An instruction of the 68000 or `dc.w` stands at an odd place.
+    /// An instruction of the 68000 or `dc.w` is at an odd place.
     Odd,
-    /// A byte stands at a place that was written before.
+    /// A byte is at a place that was written before.
     Overlap,
-    /// A byte stands at 400000h or above.
+    /// A byte is at 400000h or above.
     TooLarge,
     /// A name is defined in no line.
     UnknownName,

@@ -1,4 +1,4 @@
-//! An assembler of sources for the 68000 and the Z80: an image and where its instructions stand, or the first
+//! An assembler of sources for the 68000 and the Z80: an image and where its instructions are, or the first
 //! line that is at fault.
 #![tactic(auto)]
 

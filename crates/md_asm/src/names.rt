@@ -23,14 +23,14 @@ impl<'a> Names<'a> {
         }
     }
 
-    /// The value of a name.
+    /// The value of a name, or `None` where none was defined.
     pub fn value_of(&self, name: &'a [u8]) -> Option<u32>
         ensures { result ≡ names_seen self.now name.now }
     {
         self.values.get(&name).copied()
     }
 
-    /// Gives a name a value.
+    /// Gives a name a value. It fails where memory runs out.
     pub fn define(&mut self, name: &'a [u8], value: u32) -> Result<(), NoMemory>
         ensures { OnOk result (names_seen self.new ≡ update bytes_eq (names_seen self.old) name.now (Some value)) }
     {

@@ -8,7 +8,7 @@ use md_asm_text::Piece;
 use md_word::NoMemory;
 use std::alloc::Global;
 
-/// A piece with the value of its name, where there is one.
+/// A token with the value of its name, where it is a name that has one.
 fn resolve_piece<'a>(names: &Names<'a>, piece: Piece<'a>) -> Piece<'a>
     ensures { shown result ≡ numbers.resolved_piece (names_seen names.now) (shown piece.entry) }
 {
@@ -21,7 +21,7 @@ fn resolve_piece<'a>(names: &Names<'a>, piece: Piece<'a>) -> Piece<'a>
     }
 }
 
-/// The pieces with the values of names.
+/// The tokens with the values of names; a name without one stays. It fails where memory runs out.
 pub fn resolve<'a>(
     alloc: Global,
     names: &Names<'a>,
@@ -45,7 +45,7 @@ fn is_name(piece: &Piece<'_>) -> bool
     }
 }
 
-/// Whether a name is left.
+/// Whether a name is among the tokens.
 #[tactic(auto, unfolding(crate::specs::Numbers::has_name))]
 pub fn has_name(pieces: &[Piece<'_>]) -> bool
     ensures { result ≡ numbers.has_name (map shown pieces.now) }
@@ -69,7 +69,7 @@ fn fill_piece<'a>(piece: Piece<'a>) -> Piece<'a>
     }
 }
 
-/// The pieces with 8 for each number and name.
+/// The tokens with 8 for each number and name. It fails where memory runs out.
 pub(crate) fn fill<'a>(alloc: Global, pieces: &[Piece<'a>]) -> Result<Vec<Piece<'a>>, NoMemory>
     ensures { IfOk result (λ v. map shown v.items ≡ numbers.filled (map shown pieces.now)) }
 {

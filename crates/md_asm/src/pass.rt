@@ -1,9 +1,9 @@
+use crate::Names;
 use crate::cells::Cells;
 use crate::entry::Entry;
 use crate::processor::Processor;
-use crate::Names;
 
-/// What the lines so far come to.
+/// The state after the lines so far.
 #[derive(Drop)]
 pub(crate) struct Pass<'a> {
     pub(crate) place: u32,
@@ -11,6 +11,6 @@ pub(crate) struct Pass<'a> {
     pub(crate) names: Names<'a>,
     pub(crate) cells: Cells,
     pub(crate) entries: Vec<Entry<'a>>,
-    /// The place behind the last byte.
+    /// The place after the last byte.
     pub(crate) end: u32,
 }

@@ -21,7 +21,7 @@ fn put(memory: &mut [u8], place: usize, bytes: &[u8])
     memory[place..place + bytes.len()].copy_from_slice(bytes);
 }
 
-/// What a line comes to, with all names known.
+/// The outcome of a line, with all names known. It fails where memory runs out.
 fn settled_entry<'a>(
     alloc: Global,
     names: &Names<'a>,
@@ -30,8 +30,8 @@ fn settled_entry<'a>(
     requires { entry.now.z80 ≡ true → entry.now.address < 65536 }
     ensures { IfOk result (λ settled. settled_seen settled ≡ rounds.settled_slot (names_seen names.now) (slot_seen entry.now)) }
 {
-    let said = split(alloc, entry.text)?;
-    let resolved = resolve(alloc, names, said.as_slice())?;
+    let line_tokens = split(alloc, entry.text)?;
+    let resolved = resolve(alloc, names, line_tokens.as_slice())?;
     settle(
         alloc,
         entry.z80,
@@ -42,7 +42,7 @@ fn settled_entry<'a>(
     )
 }
 
-/// Puts what a line comes to at its place, or tells why it has no bytes.
+/// Writes the bytes of a line at its place, `None`; or the kind of fault for which it has none.
 fn put_settled(settled: Settled, place: u32, memory: &mut [u8]) -> Option<Kind>
     requires { FitsAt (settled_seen settled) place (length memory.old) }
     ensures { patched_seen result memory.new ≡ rounds.put_settled memory.old place (settled_seen settled) }
@@ -58,8 +58,8 @@ fn put_settled(settled: Settled, place: u32, memory: &mut [u8]) -> Option<Kind>
     }
 }
 
-/// Puts the bytes of a line into a memory, of which those are patched that wait for a name; or tells why it has
-/// none.
+/// Writes the bytes of a line into a memory, and patches them first if they depend on a name: `None`, or the kind of fault
+/// for which it has none. It fails where memory runs out.
 pub(crate) fn patch<'a>(
     alloc: Global,
     names: &Names<'a>,
@@ -67,7 +67,7 @@ pub(crate) fn patch<'a>(
     memory: &mut [u8],
 ) -> Result<Option<Kind>, NoMemory>
     requires kept { IsKept entry.now }
-    requires whole { length memory.old ≡ 4194304 }
+    requires whole { length memory.old ≡ places.image_limit }
     ensures { IfOk result (λ fault. patched_seen fault memory.new ≡ rounds.with_slot (names_seen names.now) memory.old (slot_seen entry.now)) }
 {
     if let Some(bytes) = &entry.bytes {

@@ -1,4 +1,4 @@
-/// Where an instruction of an image stands.
+/// Where an instruction of an image is.
 #[derive(Clone, Copy, PartialEq, Eq, Debug, Drop)]
 pub struct Placed {
     /// Its place in the image, from 0.

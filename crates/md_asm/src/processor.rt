@@ -6,7 +6,7 @@ ghost use Rattle.md_asm.specs.Places as places;
 pub(crate) enum Processor {
     /// The 68000.
     Main,
-    /// The Z80, which has the first address at the second place.
+    /// The Z80, which has the first address at the second place: from there both rise, the address modulo 10000h.
     Sub(u32, u32),
 }
 
@@ -19,7 +19,7 @@ pub(crate) fn is_sub(processor: Processor) -> bool
     }
 }
 
-/// The address at a place.
+/// The address at a place, which for the Z80 is below 10000h.
 pub(crate) fn address(processor: Processor, place: u32) -> u32
     ensures value { result ≡ places.address processor place }
     ensures low { places.is_sub processor ≡ true → result < 65536 }

@@ -15,8 +15,7 @@ use crate::kind::Kind;
 use crate::pass::Pass;
 use crate::processor::{Processor, address, is_sub};
 use crate::{Names, Settled, has_name, is_unfit, settle, size};
-use md_asm_text::{Body, Line, read_line};
-use md_asm_text::Piece;
+use md_asm_text::{Body, Line, Piece, read_line};
 use md_word::NoMemory;
 use std::alloc::Global;
 
@@ -30,7 +29,7 @@ fn has_bytes(body: Body) -> bool
     }
 }
 
-/// Whether a line stands at an even place alone.
+/// Whether a line is allowed at even places alone.
 fn wants_even(z80: bool, body: Body) -> bool
     ensures { result ≡ rounds.wants_even z80 body }
 {
@@ -58,9 +57,9 @@ fn is_too_large(place: u32, long: usize) -> bool
     long > PLACES || place as usize > PLACES - long
 }
 
-/// The place behind a line.
+/// The place after a line.
 fn place_behind(place: u32, body: Body, long: usize) -> u32
-    requires { rounds.has_bytes body ≡ true → place + long ≤ 4194304 }
+    requires { rounds.has_bytes body ≡ true → place + long ≤ places.image_limit }
     ensures { result ≡ rounds.place_behind place body long }
 {
     match body {
@@ -70,7 +69,7 @@ fn place_behind(place: u32, body: Body, long: usize) -> u32
     }
 }
 
-/// The processor behind a line.
+/// The processor after a line.
 fn processor_behind(processor: Processor, place: u32, body: Body) -> Processor
     ensures { result ≡ rounds.processor_behind processor place body }
 {
@@ -82,7 +81,7 @@ fn processor_behind(processor: Processor, place: u32, body: Body) -> Processor
     }
 }
 
-/// The bytes of a line without names.
+/// The bytes of a line without names; `None` where it has names or is at fault. It fails where memory runs out.
 fn known(
     alloc: Global,
     z80: bool,
@@ -104,14 +103,15 @@ fn known(
 }
 
 impl<'a> Pass<'a> {
-    /// The least kind of fault of a line that has a form, of this length.
+    /// The least kind of fault of a line that has a form, of this length, or `None` without one. It fails where memory runs
+    /// out.
     fn fault_of(
         &self,
         alloc: Global,
         line: &Line<'a>,
         long: usize,
     ) -> Result<Option<Kind>, NoMemory>
-        requires whole { vec_len self.now.cells.marks ≡ 4194304 }
+        requires whole { vec_len self.now.cells.marks ≡ places.image_limit }
         requires pieces { map shown line.now.pieces.items ≡ texts.pieces line.now.text.now }
         ensures { IfOk result (λ fault. fault ≡ rounds.fault_of (round_seen self.now) (line_seen line.now) long) }
     {
@@ -134,7 +134,7 @@ impl<'a> Pass<'a> {
         Ok(None)
     }
 
-    /// Keeps a line that has bytes.
+    /// Keeps a line that has bytes. It fails where memory runs out.
     fn keep(
         &mut self,
         alloc: Global,
@@ -144,7 +144,7 @@ impl<'a> Pass<'a> {
     ) -> Result<(), NoMemory>
         requires pass { IsPass self.old }
         requires pieces { map shown line.now.pieces.items ≡ texts.pieces line.now.text.now }
-        requires within { self.old.place + long ≤ 4194304 }
+        requires within { self.old.place + long ≤ places.image_limit }
         ensures seen { OnOk result (round_seen self.new ≡ rounds.kept (round_seen self.old) number (line_seen line.now) long) }
         ensures pass { OnOk result (IsPass self.new) }
     {
@@ -166,7 +166,7 @@ impl<'a> Pass<'a> {
         Ok(())
     }
 
-    /// Gives a label its value.
+    /// Gives a label its value. It fails where memory runs out.
     fn label(&mut self, label: Option<&'a [u8]>) -> Result<(), NoMemory>
         requires { IsPass self.old }
         ensures seen { OnOk result (round_seen self.new ≡ rounds.labelled (round_seen self.old) (option_map (λ name. name.now) label.entry)) }
@@ -179,7 +179,7 @@ impl<'a> Pass<'a> {
         Ok(())
     }
 
-    /// Goes on behind a line.
+    /// Continues after a line. It fails where memory runs out.
     fn go_on(
         &mut self,
         alloc: Global,
@@ -189,7 +189,7 @@ impl<'a> Pass<'a> {
     ) -> Result<(), NoMemory>
         requires pass { IsPass self.old }
         requires pieces { map shown line.now.pieces.items ≡ texts.pieces line.now.text.now }
-        requires within { rounds.has_bytes line.now.body ≡ true → self.old.place + long ≤ 4194304 }
+        requires within { rounds.has_bytes line.now.body ≡ true → self.old.place + long ≤ places.image_limit }
         ensures seen { OnOk result (round_seen self.new ≡ rounds.behind (round_seen self.old) number (line_seen line.now) long) }
         ensures pass { OnOk result (IsPass self.new) }
     {
@@ -202,7 +202,7 @@ impl<'a> Pass<'a> {
         Ok(())
     }
 
-    /// Reads a line of this number, or tells why not.
+    /// Reads a line of this number: `None`, or its least kind of fault. It fails where memory runs out.
     pub(crate) fn read(
         &mut self,
         alloc: Global,

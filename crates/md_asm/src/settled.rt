@@ -1,6 +1,7 @@
-/// What a line comes to once all names have their values.
+/// The outcome of a line once all names have their values.
 #[derive(Drop)]
 pub enum Settled {
+    /// Its bytes.
     Good(Vec<u8>),
     /// A name is defined in no line.
     Unknown,

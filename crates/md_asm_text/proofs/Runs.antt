@@ -1,4 +1,4 @@
--- The pieces of a text are that of the word in front and those behind it.
+-- The tokens of a text are that of the word at the start and those after it.
 use Rattle.std.proofs.Common.{◌≡◌, ℕ, ◌+◌, ◌-◌, ◌≤◌, Bool, true, false, List, [], ◌∷◌, ◌++◌, length, take, drop, append_assoc, append-nil, refl, ap, ◌∙◌, sym, arith, if◌then◌else◌}
 use Rattle.std.proofs.lemmas.Grind.{common_steps}
 use Rattle.md_asm_text.specs.Pieces.{Piece, closed, is_worded, opened, split, Word}

@@ -1,31 +1,38 @@
--- How texts fall into pieces: words, the numbers of md_disasm, and what stands between them.
-use Rattle.std.proofs.Common.{◌≡◌, ℕ, ◌+◌, ◌-◌, ◌*◌, ◌/◌, ◌%◌, ◌<◌, ◌==◌, Bool, true, false, not, ◌||◌, List, [], ◌∷◌, ◌++◌, nat_lt, length, append_assoc, append-nil, refl, ap, ◌∙◌, sym, arith, if◌then◌else◌}
+-- How texts fall into tokens: words, the numbers of md_disasm, and what is between them.
+use Rattle.std.proofs.Common.{◌≡◌, ℕ, ◌+◌, ◌-◌, ◌*◌, ◌/◌, ◌%◌, ◌<◌, ◌==◌, Bool, true, false, not, List, [], ◌∷◌, ◌++◌, nat_lt, length, append_assoc, append-nil, refl, ap, ◌∙◌, sym, arith, if◌then◌else◌}
 use Rattle.std.specs.Fmt.{digit_glyph}
 use Rattle.std.proofs.lemmas.Bool.Decides.{nat_tests}
 use Rattle.std.proofs.lemmas.Bool.{not-true, and_parts}
 use Rattle.md_disasm.specs.Digits.{one_digit, two_digits, four_digits, eight_digits}
-use Rattle.md_asm_text.specs.Pieces.{Piece, Word, Number, Mark, are_digits, closed, digit_value, every, is_hexadecimal, is_name, is_worded, opened, split, told, value_behind}
+use Rattle.md_asm_text.specs.Pieces.{Piece, Word, Number, Mark, are_digits, closed, digit_value, every, is_hexadecimal, is_name, is_worded, opened, split, token_of, value_behind}
 
 -- a text that does not go on with a word
 abbrev pub is_end : List ℕ → Bool
 is_end [] = true
 is_end (c ∷ cs) = not (is_worded c)
 
+-- a token before others, and three texts before a fourth
+pub behind : (p : Piece) (xs ys : List Piece) → xs ≡ ys → p ∷ xs ≡ p ∷ ys
+behind p xs ys e = ap (λ (l : List Piece). p ∷ l) e
+
+pub apart : (a b c e : List ℕ) → ((a ++ b) ++ c) ++ e ≡ a ++ (b ++ (c ++ e))
+apart a b c e = append_assoc (a ++ b) c e ∙ append_assoc a b (c ++ e)
+
 -- ---- one digit
 
 hexadecimal-glyph : (d : ℕ) → d < 16 → is_hexadecimal (digit_glyph false d) ≡ true
-hexadecimal-glyph d few = told_by (nat_lt d 10) refl
+hexadecimal-glyph d few = by_test (nat_lt d 10) refl
   where
-    told_by : (b : Bool) → nat_lt d 10 ≡ b → is_hexadecimal (if b then 48 + d else (if false then 55 + d else 87 + d)) ≡ true
-    told_by true is = grind (arith, nat_tests)
-    told_by false is = grind (arith, nat_tests)
+    by_test : (b : Bool) → nat_lt d 10 ≡ b → is_hexadecimal (if b then 48 + d else (if false then 55 + d else 87 + d)) ≡ true
+    by_test true is = grind (arith, nat_tests)
+    by_test false is = grind (arith, nat_tests)
 
 value-glyph : (d : ℕ) → d < 16 → digit_value (digit_glyph false d) ≡ d
-value-glyph d few = told_by (nat_lt d 10) refl
+value-glyph d few = by_test (nat_lt d 10) refl
   where
-    told_by : (b : Bool) → nat_lt d 10 ≡ b → digit_value (if b then 48 + d else (if false then 55 + d else 87 + d)) ≡ d
-    told_by true is = grind (arith, nat_tests)
-    told_by false is = grind (arith, nat_tests)
+    by_test : (b : Bool) → nat_lt d 10 ≡ b → digit_value (if b then 48 + d else (if false then 55 + d else 87 + d)) ≡ d
+    by_test true is = grind (arith, nat_tests)
+    by_test false is = grind (arith, nat_tests)
 
 worded-hexadecimal : (c : ℕ) → is_hexadecimal c ≡ true → is_worded c ≡ true
 unfolding is_worded
@@ -90,7 +97,7 @@ name_opens name e all ends = openeds_on name [] e all ends
 
 pub register_split : (c n : ℕ) (e : List ℕ) → is_worded c ≡ true → (c == 36) ≡ false → is_end e ≡ true
     → split [] (c ∷ (one_digit n ++ e)) ≡ Word (c ∷ one_digit n) ∷ split [] e
-unfolding one_digit told is_name
+unfolding one_digit token_of is_name
 register_split c n e is dollar ends =
     word_on [] c (digit_glyph false (n % 16) ∷ e) is ∙ word_on (c ∷ []) (digit_glyph false (n % 16)) e (worded n)
     ∙ word_ends (c ∷ digit_glyph false (n % 16) ∷ []) e ends ∙ rw dollar refl
@@ -107,7 +114,7 @@ one_all : (n : ℕ) → every is_hexadecimal (one_digit n) ≡ true
 unfolding one_digit
 one_all n = rw (hexadecimal n) refl
 
-every_both : (test : ℕ → Bool) (xs ys : List ℕ) → every test xs ≡ true → every test ys ≡ true → every test (xs ++ ys) ≡ true
+pub every_both : (test : ℕ → Bool) (xs ys : List ℕ) → every test xs ≡ true → every test ys ≡ true → every test (xs ++ ys) ≡ true
 every_both test [] ys h k = k
 every_both test (x ∷ xs) ys h k =
     let parts = and_parts (test x) (every test xs) h in
@@ -182,9 +189,9 @@ all_worded (c ∷ cs) h =
     let parts = and_parts (is_hexadecimal c) (every is_hexadecimal cs) h in
     rw (worded-hexadecimal c parts.0, all_worded cs parts.1) refl
 
-number_told : (count n : ℕ) (digits : List ℕ) → 0 < count → count < 9 → AreDigitsOf count n digits → told (36 ∷ digits) ≡ Number n
-unfolding told
-number_told count n digits some few are =
+number_token : (count n : ℕ) (digits : List ℕ) → 0 < count → count < 9 → AreDigitsOf count n digits → token_of (36 ∷ digits) ≡ Number n
+unfolding token_of
+number_token count n digits some few are =
     let tested : are_digits digits ≡ true = rw (are.all, are.long) (grind (arith, nat_tests)) in
     rw (tested, are.value) refl
 
@@ -192,7 +199,7 @@ number_split : (count n : ℕ) (digits e : List ℕ) → 0 < count → count < 9
     → split [] (36 ∷ (digits ++ e)) ≡ Number n ∷ split [] e
 unfolding is_worded
 number_split count n digits e some few are ends =
-    word_split (36 ∷ digits) e (all_worded digits are.all) ends ∙ ap (λ (p : Piece). p ∷ split [] e) (number_told count n digits some few are)
+    word_split (36 ∷ digits) e (all_worded digits are.all) ends ∙ ap (λ (p : Piece). p ∷ split [] e) (number_token count n digits some few are)
 
 -- the numbers of texts
 pub number_1 : (n : ℕ) (e : List ℕ) → n < 16 → is_end e ≡ true → split [] (36 ∷ (one_digit n ++ e)) ≡ Number n ∷ split [] e

@@ -41,7 +41,7 @@ rest_hexadecimal c cs h = (and_parts (is_hexadecimal c) (every is_hexadecimal cs
 tail_taken : (c : ℕ) (cs : List ℕ) → take (length (c ∷ cs) - 1) (drop 1 (c ∷ cs)) ≡ cs
 tail_taken c cs = grind (arith, common_steps)
 
--- what holds behind a digit
+-- what holds after a digit
 pub record Grows (text rest : List ℕ) (before : ℕ) : Type 0 where
   pub fits : before * 16 + digit_value (get_or text 0 0) < 4294967296
   pub few : length rest ≤ 8

@@ -1,4 +1,4 @@
--- Whether texts have the same pieces, as a test.
+-- Whether texts have the same tokens, as a test.
 use Rattle.std.specs.Prelude.{Bool, true, false, ◌&&◌, ◌==◌, List, [], ◌∷◌}
 use Rattle.std.specs.Str.{bytes_eq}
 use Rattle.md_asm_text.specs.Pieces.{Piece, Word, Number, Name, Mark}

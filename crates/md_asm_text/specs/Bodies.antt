@@ -1,27 +1,28 @@
--- What the pieces of a line are: a directive, or else what has to be an instruction.
+-- What the tokens of a line are: a directive, or else what has to be an instruction.
 use Rattle.std.specs.Prelude.{ℕ, Bool, true, false, ◌&&◌, ◌==◌, if◌then◌else◌, List, [], ◌∷◌, codes}
 use Rattle.std.specs.Str.{bytes_eq}
+use Rattle.md_asm_text.specs.Operands.{is_comma}
 use Rattle.md_asm_text.specs.Pieces as pieces
 use Rattle.md_asm_text.specs.Pieces.{Piece}
 use Rattle.md_asm_text.specs.declared.body.Body.{Body}
 use Rattle.md_asm_text.specs.declared.body.Body.TheVariants.{Org, Main, Sub, Words, Bytes, Instruction}
 
--- the pieces behind a space, or none
+-- the tokens after a space, or none
 abbrev pub spaced : List Piece → List Piece
 spaced (pieces.Mark c ∷ ps) = if c == 32 then ps else []
 spaced ps = []
 
--- behind `org`: a number
+-- after `org`: a number
 abbrev pub org : List Piece → Body
 org (pieces.Number n ∷ []) = Org n
 org ps = Instruction
 
--- behind `cpu z80`: a number
+-- after `cpu z80`: a number
 abbrev pub sub : List Piece → Body
 sub (pieces.Number n ∷ []) = Sub n
 sub ps = Instruction
 
--- behind `cpu`: which processor
+-- after `cpu`: which processor
 abbrev pub cpu : List Piece → Body
 cpu (pieces.Word word ∷ []) = if bytes_eq word (codes "68000") then Main else Instruction
 cpu (pieces.Name word ∷ ps) = if bytes_eq word (codes "z80") then sub (spaced ps) else Instruction
@@ -32,27 +33,23 @@ is_value (pieces.Number n) = true
 is_value (pieces.Name name) = true
 is_value piece = false
 
-abbrev pub is_comma : Piece → Bool
-is_comma (pieces.Mark c) = c == 44
-is_comma piece = false
-
 -- numbers and names with commas between, one at least
 unfoldable pub are_values : List Piece → Bool
 are_values [] = false
 are_values (p ∷ []) = is_value p
 are_values (p ∷ q ∷ ps) = is_value p && is_comma q && are_values ps
 
--- behind `dc`
+-- after `dc`
 abbrev pub dc : List Piece → Body
 dc (pieces.Mark c ∷ pieces.Word word ∷ ps) =
     if c == 46 && bytes_eq word (codes "w") && are_values (spaced ps) then Words else Instruction
 dc ps = Instruction
 
--- behind `db`
+-- after `db`
 abbrev pub db : List Piece → Body
 db ps = if are_values (spaced ps) then Bytes else Instruction
 
--- behind the first word
+-- after the first word
 abbrev pub named : List ℕ → List Piece → Body
 named word ps =
     if bytes_eq word (codes "org") then org (spaced ps)
@@ -60,6 +57,6 @@ named word ps =
     else (if bytes_eq word (codes "dc") then dc ps
     else (if bytes_eq word (codes "db") then db ps else Instruction)))
 
-unfoldable pub told : List Piece → Body
-told (pieces.Word word ∷ ps) = named word ps
-told ps = Instruction
+unfoldable pub directive_of : List Piece → Body
+directive_of (pieces.Word word ∷ ps) = named word ps
+directive_of ps = Instruction

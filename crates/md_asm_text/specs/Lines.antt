@@ -1,12 +1,12 @@
 -- What a line of a source is.
 use Rattle.std.specs.Prelude.{ℕ, if◌then◌else◌, List, [], ◌∷◌, Option, Some, None}
 use Rattle.md_asm_text.specs.Pieces.{is_name, pieces}
-use Rattle.md_asm_text.specs.Bodies.{told}
+use Rattle.md_asm_text.specs.Bodies.{directive_of}
 use Rattle.md_asm_text.specs.Texts.{before, behind, cut_back, has, unblanked}
 use Rattle.md_asm_text.specs.declared.body.Body.{Body}
 use Rattle.md_asm_text.specs.declared.body.Body.TheVariants.{Nothing, Bad}
 
--- a label, if any; the text behind it, without blanks at either end; and what this is
+-- a label, if any; the text after it, without blanks at either end; and what this is
 pub record Line : Type 0 where
   pub label : Option (List ℕ)
   pub text : List ℕ
@@ -15,7 +15,7 @@ pub record Line : Type 0 where
 -- what a text without blanks at either end is
 abbrev pub body_of : List ℕ → Body
 body_of [] = Nothing
-body_of (c ∷ cs) = told (pieces (c ∷ cs))
+body_of (c ∷ cs) = directive_of (pieces (c ∷ cs))
 
 abbrev pub with_body : Option (List ℕ) → List ℕ → Line
 with_body label text = record { label = label; text = text; body = body_of text }
@@ -23,7 +23,7 @@ with_body label text = record { label = label; text = text; body = body_of text 
 abbrev pub bad : Line
 bad = record { label = None; text = []; body = Bad }
 
--- in front of the first colon stands a name
+-- before the first colon is a name
 abbrev pub labelled : List ℕ → Line
 labelled text =
     if has 58 text then (if is_name (before 58 text) then with_body (Some (before 58 text)) (unblanked (behind 58 text)) else bad)

@@ -1,9 +1,9 @@
--- The pieces of an instruction's text: words, numbers, names and single characters.
+-- The tokens of an instruction's text: words, numbers, names and single characters.
 use Rattle.std.specs.Prelude.{ℕ, ◌+◌, ◌-◌, ◌*◌, Bool, true, false, ◌&&◌, ◌||◌, ◌==◌, not, nat_le, nat_lt, if◌then◌else◌, List, [], ◌∷◌, ◌++◌, length, codes}
 use Rattle.std.specs.Str.{bytes_eq}
 
--- a word is as many letters, digits, underscores and dollar signs as stand together. A word that is
--- a number or a name stands for that; every other one is itself
+-- a word is the longest run of letters, digits, underscores and dollar signs. A word that is a number
+-- or a name is that token; every other one is itself
 pub data Piece : Type 0 where
   Word : List ℕ → Piece
   Number : ℕ → Piece
@@ -36,7 +36,7 @@ abbrev pub every : (ℕ → Bool) → List ℕ → Bool
 every test [] = true
 every test (c ∷ cs) = test c && every test cs
 
--- the value of digits, behind those that have a value already
+-- the value of digits, after those that have a value already
 abbrev pub value_behind : ℕ → List ℕ → ℕ
 value_behind before [] = before
 value_behind before (c ∷ cs) = value_behind (before * 16 + digit_value c) cs
@@ -45,7 +45,7 @@ value_behind before (c ∷ cs) = value_behind (before * 16 + digit_value c) cs
 abbrev pub are_digits : List ℕ → Bool
 are_digits cs = every is_hexadecimal cs && nat_le 1 (length cs) && nat_le (length cs) 8
 
--- the words of texts that no name may be
+-- the words of instructions' texts that are no names
 abbrev pub is_reserved : List ℕ → Bool
 is_reserved word =
     bytes_eq word (codes "usp") || bytes_eq word (codes "ccr") || bytes_eq word (codes "ixh") || bytes_eq word (codes "ixl")
@@ -56,21 +56,21 @@ unfoldable pub is_name : List ℕ → Bool
 is_name [] = false
 is_name (c ∷ cs) = nat_le 2 (length cs) && nat_le (length cs) 31 && is_letter c && every is_named cs && not (is_reserved (c ∷ cs))
 
--- what a word that is no number stands for
+-- the token of a word that is no number
 abbrev pub plain : List ℕ → Piece
 plain word = if is_name word then Name word else Word word
 
--- what a word stands for
-unfoldable pub told : List ℕ → Piece
-told [] = Word []
-told (c ∷ cs) = if c == 36 && are_digits cs then Number (value_behind 0 cs) else plain (c ∷ cs)
+-- the token of a word
+unfoldable pub token_of : List ℕ → Piece
+token_of [] = Word []
+token_of (c ∷ cs) = if c == 36 && are_digits cs then Number (value_behind 0 cs) else plain (c ∷ cs)
 
--- the piece of a word, where there is one
+-- the token of a word, where there is one
 abbrev pub closed : List ℕ → List Piece
 closed [] = []
-closed (c ∷ cs) = told (c ∷ cs) ∷ []
+closed (c ∷ cs) = token_of (c ∷ cs) ∷ []
 
--- the pieces of a text, behind the characters of a word that goes on
+-- the tokens of a text, after the characters of a word that continues
 unfoldable pub split : List ℕ → List ℕ → List Piece
 split word [] = closed word
 split word (c ∷ cs) = if is_worded c then split (word ++ c ∷ []) cs else closed word ++ (Mark c ∷ split [] cs)
@@ -80,6 +80,6 @@ unfoldable pub opened : List ℕ → List ℕ → List Piece
 opened word [] = Word word ∷ []
 opened word (c ∷ cs) = if is_worded c then opened (word ++ c ∷ []) cs else Word word ∷ Mark c ∷ split [] cs
 
--- the pieces of an instruction's text
+-- the tokens of an instruction's text
 abbrev pub pieces : List ℕ → List Piece
 pieces text = opened [] text

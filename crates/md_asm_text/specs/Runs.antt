@@ -1,4 +1,4 @@
--- A text behind the word that it begins with.
+-- A text after the word that it begins with.
 use Rattle.std.specs.Prelude.{ℕ, ◌+◌, List, [], ◌∷◌, if◌then◌else◌}
 use Rattle.md_asm_text.specs.Pieces.{Piece, Mark, is_worded, split}
 
@@ -7,7 +7,7 @@ abbrev pub run : List ℕ → ℕ
 run [] = 0
 run (c ∷ cs) = if is_worded c then 1 + run cs else 0
 
--- the pieces from a character on that belongs to no word
+-- the tokens from a character on that belongs to no word
 abbrev pub marks : List ℕ → List Piece
 marks [] = []
 marks (c ∷ cs) = Mark c ∷ split [] cs

@@ -1,4 +1,4 @@
--- A piece without where its text lies in memory.
+-- A token without where its text lies in memory.
 use Rattle.md_asm_text.specs.Pieces as pieces
 use Rattle.md_asm_text.specs.declared.piece.Piece.{Piece}
 use Rattle.md_asm_text.specs.declared.piece.Piece.TheVariants as variants

@@ -1,13 +1,13 @@
--- Parts of a text: its lines, what stands in front of a character and behind it, and what is left
+-- Parts of a text: its lines, what is before a character and after it, and what is left
 -- without blanks at either end.
 use Rattle.std.specs.Prelude.{ℕ, Bool, false, ◌||◌, ◌==◌, if◌then◌else◌, List, [], ◌∷◌, reverse}
 
--- the text in front of the first such character
+-- the text before the first such character
 unfoldable pub before : ℕ → List ℕ → List ℕ
 before mark [] = []
 before mark (c ∷ cs) = if c == mark then [] else c ∷ before mark cs
 
--- the text behind it
+-- the text after it
 unfoldable pub behind : ℕ → List ℕ → List ℕ
 behind mark [] = []
 behind mark (c ∷ cs) = if c == mark then cs else behind mark cs
@@ -17,7 +17,7 @@ unfoldable pub has : ℕ → List ℕ → Bool
 has mark [] = false
 has mark (c ∷ cs) = c == mark || has mark cs
 
--- a character more in front of the first line
+-- a character more before the first line
 abbrev pub with_character : ℕ → List (List ℕ) → List (List ℕ)
 with_character c [] = (c ∷ []) ∷ []
 with_character c (line ∷ more) = (c ∷ line) ∷ more
@@ -31,7 +31,7 @@ lines (c ∷ cs) = if c == 10 then [] ∷ lines cs else with_character c (lines 
 abbrev pub is_blank : ℕ → Bool
 is_blank c = c == 32 || c == 9
 
--- a text without the blanks in front
+-- a text without the blanks at the start
 unfoldable pub unblanked : List ℕ → List ℕ
 unblanked [] = []
 unblanked (c ∷ cs) = if is_blank c then unblanked cs else c ∷ cs

@@ -13,7 +13,7 @@ pub(crate) fn is_letter(c: u8) -> bool
     (c >= 97 && c <= 122) || (c >= 65 && c <= 90)
 }
 
-/// Whether a character may stand in a name.
+/// Whether a character is allowed in a name.
 pub(crate) fn is_named(c: u8) -> bool
     ensures { result ≡ meaning.is_named c }
 {

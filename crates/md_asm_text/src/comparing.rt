@@ -3,7 +3,7 @@ ghost use Rattle.md_asm_text.specs.Shown.{shown};
 
 use crate::piece::Piece;
 
-/// Whether two pieces are the same.
+/// Whether two tokens are the same.
 fn alike(x: &Piece<'_>, y: &Piece<'_>) -> bool
     ensures { IsTrue result ↔ (shown x.now ≡ shown y.now) }
 {
@@ -16,7 +16,7 @@ fn alike(x: &Piece<'_>, y: &Piece<'_>) -> bool
     }
 }
 
-/// Whether two texts have the same pieces.
+/// Whether two texts have the same tokens.
 pub fn same(a: &[Piece<'_>], b: &[Piece<'_>]) -> bool
     ensures { IsTrue result ↔ (map shown a.now ≡ map shown b.now) }
 {

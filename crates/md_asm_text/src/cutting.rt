@@ -1,7 +1,7 @@
 ghost use Rattle.std.specs.Prelude.{◌≡◌, ◌<◌, ◌≤◌, ◌+◌, ◌∷◌, length, take, drop, nat_lt};
 ghost use Rattle.md_asm_text.specs.Texts as meaning;
 
-/// How many characters stand in front of the first one like this.
+/// The count of characters before the first one like this; of all of them without one.
 #[tactic(auto, unfolding(crate::specs::Texts::before, crate::specs::Texts::behind, crate::specs::Texts::has))]
 fn index_of(text: &[u8], mark: u8) -> usize
     ensures within { result ≤ length text.now }
@@ -24,7 +24,7 @@ pub(crate) fn has(text: &[u8], mark: u8) -> bool
     index_of(text, mark) < text.len()
 }
 
-/// The text in front of the first such character.
+/// The text before the first such character; the whole text without one.
 pub(crate) fn before(text: &[u8], mark: u8) -> &[u8]
     ensures { result.now ≡ meaning.before mark text.now }
 {
@@ -32,7 +32,7 @@ pub(crate) fn before(text: &[u8], mark: u8) -> &[u8]
     &text[..count]
 }
 
-/// The text behind the first such character.
+/// The text after the first such character; the empty text without one.
 pub(crate) fn behind(text: &[u8], mark: u8) -> &[u8]
     ensures { result.now ≡ meaning.behind mark text.now }
 {
@@ -44,7 +44,7 @@ pub(crate) fn behind(text: &[u8], mark: u8) -> &[u8]
     }
 }
 
-/// The first line of a text, and what stands behind it.
+/// The first line of a text that has bytes, without its line feed, and the text after it.
 pub fn next_line(text: &[u8]) -> (&[u8], &[u8])
     requires { 0 < length text.now }
     ensures lines { meaning.lines text.now ≡ result.0.now ∷ meaning.lines result.1.now }

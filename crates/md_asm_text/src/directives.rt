@@ -2,10 +2,11 @@ ghost use Rattle.std.specs.Prelude.{◌≡◌, map, length};
 ghost use Rattle.md_asm_text.specs.Shown.{shown};
 ghost use Rattle.md_asm_text.specs.Bodies as bodies;
 
-use crate::body::Body;
 use crate::Piece;
+use crate::body::Body;
+use crate::operands::is_comma;
 
-/// The pieces behind a space, or none.
+/// The tokens after a space, or none where there is no space.
 fn spaced<'a, 'b>(pieces: &'b [Piece<'a>]) -> &'b [Piece<'a>]
     ensures { map shown result.now ≡ bodies.spaced (map shown pieces.now) }
 {
@@ -15,7 +16,7 @@ fn spaced<'a, 'b>(pieces: &'b [Piece<'a>]) -> &'b [Piece<'a>]
     }
 }
 
-/// What stands behind `org`: a number.
+/// What follows `org`: a number.
 fn org(pieces: &[Piece<'_>]) -> Body
     ensures { result ≡ bodies.org (map shown pieces.now) }
 {
@@ -25,7 +26,7 @@ fn org(pieces: &[Piece<'_>]) -> Body
     }
 }
 
-/// What stands behind `cpu z80`: a number.
+/// What follows `cpu z80`: a number.
 fn sub(pieces: &[Piece<'_>]) -> Body
     ensures { result ≡ bodies.sub (map shown pieces.now) }
 {
@@ -35,7 +36,7 @@ fn sub(pieces: &[Piece<'_>]) -> Body
     }
 }
 
-/// What stands behind `cpu`: which processor.
+/// What follows `cpu`: which processor.
 fn cpu(pieces: &[Piece<'_>]) -> Body
     ensures { result ≡ bodies.cpu (map shown pieces.now) }
 {
@@ -51,15 +52,6 @@ fn is_value(piece: &Piece<'_>) -> bool
 {
     match piece {
         Piece::Number(_) | Piece::Name(_) => true,
-        _ => false,
-    }
-}
-
-fn is_comma(piece: &Piece<'_>) -> bool
-    ensures { result ≡ bodies.is_comma (shown piece.now) }
-{
-    match piece {
-        Piece::Mark(c) => *c == 44,
         _ => false,
     }
 }
@@ -82,7 +74,7 @@ fn are_values(pieces: &[Piece<'_>]) -> bool
     }
 }
 
-/// What stands behind `dc`.
+/// What follows `dc`.
 fn dc(pieces: &[Piece<'_>]) -> Body
     ensures { result ≡ bodies.dc (map shown pieces.now) }
 {
@@ -93,7 +85,7 @@ fn dc(pieces: &[Piece<'_>]) -> Body
     }
 }
 
-/// What stands behind `db`.
+/// What follows `db`.
 fn db(pieces: &[Piece<'_>]) -> Body
     ensures { result ≡ bodies.db (map shown pieces.now) }
 {
@@ -104,7 +96,7 @@ fn db(pieces: &[Piece<'_>]) -> Body
     }
 }
 
-/// What stands behind the first word.
+/// What follows the first word.
 fn named(word: &[u8], pieces: &[Piece<'_>]) -> Body
     ensures { result ≡ bodies.named word.now (map shown pieces.now) }
 {
@@ -121,10 +113,10 @@ fn named(word: &[u8], pieces: &[Piece<'_>]) -> Body
     }
 }
 
-/// What the pieces of a line are: a directive, or else what has to be an instruction.
-#[tactic(auto, unfolding(crate::specs::Bodies::told))]
-pub(crate) fn told(pieces: &[Piece<'_>]) -> Body
-    ensures { result ≡ bodies.told (map shown pieces.now) }
+/// What the tokens of a line are: a directive, or else what has to be an instruction.
+#[tactic(auto, unfolding(crate::specs::Bodies::directive_of))]
+pub(crate) fn directive_of(pieces: &[Piece<'_>]) -> Body
+    ensures { result ≡ bodies.directive_of (map shown pieces.now) }
 {
     match pieces {
         [Piece::Word(word), rest @ ..] => named(word, rest),

@@ -1,4 +1,4 @@
-//! The lines of a source and the texts in them: what a line holds, its pieces, its operands, and whether two texts are
+//! The lines of a source and the texts in them: what a line holds, its tokens, its operands, and whether two texts are
 //! the same.
 #![tactic(auto)]
 

@@ -6,7 +6,7 @@ ghost use Rattle.md_asm_text.specs.Seen.{line_seen};
 
 use crate::body::Body;
 use crate::cutting::{before, behind, has};
-use crate::directives::told;
+use crate::directives::directive_of;
 use crate::trimming::{cut_back, unblanked};
 use crate::{Piece, is_name, split};
 use md_word::NoMemory;
@@ -15,16 +15,17 @@ use std::alloc::Global;
 /// A line of a source.
 #[derive(Drop)]
 pub struct Line<'a> {
-    /// A name in front of a colon.
+    /// The name before the first colon; `None` without a colon, or where the text before it is no name.
     pub label: Option<&'a [u8]>,
-    /// What stands behind it, without blanks at either end.
+    /// The text after it, without blanks at either end.
     pub text: &'a [u8],
-    /// The pieces of this text.
+    /// The tokens of this text.
     pub pieces: Vec<Piece<'a>>,
+    /// What this text is.
     pub body: Body,
 }
 
-/// What a text without blanks at either end is, by its pieces.
+/// What a text without blanks at either end is, by its tokens.
 fn body_of(text: &[u8], pieces: &[Piece<'_>]) -> Body
     requires { map shown pieces.now ≡ texts.pieces text.now }
     ensures { result ≡ lines.body_of text.now }
@@ -32,11 +33,11 @@ fn body_of(text: &[u8], pieces: &[Piece<'_>]) -> Body
     if text.is_empty() {
         Body::Nothing
     } else {
-        told(pieces)
+        directive_of(pieces)
     }
 }
 
-/// A line with this label, which says this text.
+/// A line with this label and this text. It fails where memory runs out.
 fn with_body<'a>(
     alloc: Global,
     label: Option<&'a [u8]>,
@@ -45,17 +46,17 @@ fn with_body<'a>(
     ensures line { IfOk result (λ line. line_seen line ≡ lines.with_body (option_map (λ name. name.now) label.entry) text.now) }
     ensures pieces { IfOk result (λ line. map shown line.pieces.items ≡ texts.pieces line.text.now) }
 {
-    let said = split(alloc, text)?;
-    let body = body_of(text, said.as_slice());
+    let line_tokens = split(alloc, text)?;
+    let body = body_of(text, line_tokens.as_slice());
     Ok(Line {
         label,
         text,
-        pieces: said,
+        pieces: line_tokens,
         body,
     })
 }
 
-/// What a text without a comment and blanks at either end is.
+/// The line of a text without a comment and blanks at either end. It fails where memory runs out.
 fn labelled<'a>(alloc: Global, text: &'a [u8]) -> Result<Line<'a>, NoMemory>
     ensures line { IfOk result (λ line. line_seen line ≡ lines.labelled text.now) }
     ensures pieces { IfOk result (λ line. map shown line.pieces.items ≡ texts.pieces line.text.now) }
@@ -68,11 +69,11 @@ fn labelled<'a>(alloc: Global, text: &'a [u8]) -> Result<Line<'a>, NoMemory>
         with_body(alloc, Some(name), unblanked(behind(text, 58)))
     } else {
         let nothing: &'a [u8] = &[];
-        let said = split(alloc, nothing)?;
+        let line_tokens = split(alloc, nothing)?;
         Ok(Line {
             label: None,
             text: nothing,
-            pieces: said,
+            pieces: line_tokens,
             body: Body::Bad,
         })
     }
@@ -80,8 +81,9 @@ fn labelled<'a>(alloc: Global, text: &'a [u8]) -> Result<Line<'a>, NoMemory>
 
 /// A line of a source, of its text without the line feed.
 ///
-/// What stands from a semicolon on is a comment. Spaces and tabs at either end and behind the label's colon are left
-/// out. A directive has one space behind its name and none elsewhere.
+/// The text from a semicolon on is a comment. Spaces and tabs at either end and after the label's colon are left out. A
+/// directive has one space after its name and none elsewhere. It fails only where memory runs out: a line that is none
+/// has the body `Bad` or `Instruction`.
 #[tactic(auto, unfolding(crate::specs::Lines::line_of))]
 pub fn read_line<'a>(alloc: Global, text: &'a [u8]) -> Result<Line<'a>, NoMemory>
     ensures line { IfOk result (λ line. line_seen line ≡ lines.line_of text.now) }

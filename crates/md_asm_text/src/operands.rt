@@ -4,7 +4,7 @@ ghost use Rattle.md_asm_text.specs.Shown.{shown};
 
 use crate::piece::Piece;
 
-/// Whether brackets are open behind a piece.
+/// Whether brackets are open after a token.
 fn opens(inside: bool, piece: &Piece<'_>) -> bool
     ensures { result ≡ meaning.opens inside (shown piece.now) }
 {
@@ -15,7 +15,8 @@ fn opens(inside: bool, piece: &Piece<'_>) -> bool
     }
 }
 
-fn is_comma(piece: &Piece<'_>) -> bool
+/// Whether a token is a comma.
+pub(crate) fn is_comma(piece: &Piece<'_>) -> bool
     ensures { result ≡ meaning.is_comma (shown piece.now) }
 {
     match piece {
@@ -24,7 +25,7 @@ fn is_comma(piece: &Piece<'_>) -> bool
     }
 }
 
-/// How many pieces stand before the first comma outside brackets.
+/// The count of tokens before the first comma outside brackets; of all of them without one.
 #[tactic(auto, unfolding(crate::specs::Operands::operands_of))]
 fn before_comma(pieces: &[Piece<'_>]) -> usize
     ensures within { result ≤ length pieces.now }
@@ -41,7 +42,7 @@ fn before_comma(pieces: &[Piece<'_>]) -> usize
     pieces.len()
 }
 
-/// The pieces of an instruction's first operand.
+/// The tokens of an instruction's first operand: those before the first comma outside brackets.
 pub fn first_operand<'a, 'b>(pieces: &'b [Piece<'a>]) -> &'b [Piece<'a>]
     ensures { map shown result.now ≡ (meaning.operands_of false (map shown pieces.now)).0 }
 {
@@ -49,7 +50,7 @@ pub fn first_operand<'a, 'b>(pieces: &'b [Piece<'a>]) -> &'b [Piece<'a>]
     &pieces[..count]
 }
 
-/// The pieces behind the comma of an instruction's first operand.
+/// The tokens of an instruction's second operand: those after the first comma outside brackets, none without one.
 pub fn second_operand<'a, 'b>(pieces: &'b [Piece<'a>]) -> &'b [Piece<'a>]
     ensures { map shown result.now ≡ (meaning.operands_of false (map shown pieces.now)).1 }
 {

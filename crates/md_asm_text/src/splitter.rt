@@ -5,16 +5,16 @@ ghost use Rattle.md_asm_text.specs.Shown.{shown};
 
 use crate::characters::is_worded;
 use crate::piece::Piece;
-use crate::words::told;
+use crate::words::token_of;
 use md_word::NoMemory;
 use std::alloc::Global;
 
-/// Appends the piece of a word, where there is one.
+/// Appends the token of a word, unless the word is empty. It fails where memory runs out.
 fn put_word<'a>(pieces: &mut Vec<Piece<'a>>, word: &'a [u8]) -> Result<(), NoMemory>
     ensures { OnOk result (map shown pieces.new.items ≡ map shown pieces.old.items ++ meaning.closed word.now) }
 {
     if !word.is_empty() {
-        pieces.push(told(word))?;
+        pieces.push(token_of(word))?;
     }
     Ok(())
 }
@@ -36,7 +36,8 @@ fn run_of(text: &[u8]) -> usize
     count
 }
 
-/// Appends the piece of the word that a text begins with, if any, and hands out what is behind it.
+/// Appends the token of the word that a text begins with, if any, and hands out what follows it. It fails where memory
+/// runs out.
 #[tactic(auto, using(crate::proofs::Runs::split_front))]
 fn put_front<'a>(pieces: &mut Vec<Piece<'a>>, text: &'a [u8]) -> Result<&'a [u8], NoMemory>
     ensures split { IfOk result (λ rest. map shown pieces.new.items ++ marks rest.now ≡ map shown pieces.old.items ++ meaning.split [] text.now) }
@@ -47,7 +48,7 @@ fn put_front<'a>(pieces: &mut Vec<Piece<'a>>, text: &'a [u8]) -> Result<&'a [u8]
     Ok(&text[count..])
 }
 
-/// Appends the pieces from a character on that belongs to no word.
+/// Appends the tokens from a character on that belongs to no word. It fails where memory runs out.
 fn put_marks<'a>(pieces: &mut Vec<Piece<'a>>, text: &'a [u8]) -> Result<(), NoMemory>
     ensures { OnOk result (map shown pieces.new.items ≡ map shown pieces.old.items ++ marks text.now) }
 {
@@ -59,7 +60,8 @@ fn put_marks<'a>(pieces: &mut Vec<Piece<'a>>, text: &'a [u8]) -> Result<(), NoMe
     Ok(())
 }
 
-/// The pieces of an instruction's text.
+/// The tokens of an instruction's text, of which the first is the word that it begins with. It fails where memory runs
+/// out.
 #[tactic(auto, using(crate::proofs::Runs::opened_front))]
 pub fn split<'a>(alloc: Global, text: &'a [u8]) -> Result<Vec<Piece<'a>>, NoMemory>
     ensures { IfOk result (λ v. map shown v.items ≡ meaning.pieces text.now) }

@@ -8,7 +8,7 @@ fn is_blank(c: u8) -> bool
     c == 32 || c == 9
 }
 
-/// A text without the blanks in front.
+/// A text without the blanks at the start.
 #[tactic(auto, unfolding(crate::specs::Texts::unblanked))]
 pub(crate) fn unblanked(text: &[u8]) -> &[u8]
     ensures { result.now ≡ meaning.unblanked text.now }

@@ -27,7 +27,7 @@ fn are_hexadecimal(text: &[u8]) -> bool
     true
 }
 
-/// Whether all characters may stand in a name.
+/// Whether all characters are allowed in a name.
 fn are_named(text: &[u8]) -> bool
     ensures { result ≡ meaning.every meaning.is_named text.now }
 {
@@ -54,7 +54,7 @@ fn digit_value(c: u8) -> u8
     }
 }
 
-/// The value of digits behind those that have a value already.
+/// The value of digits after those that have a value already.
 fn value_behind(before: u32, text: &[u8]) -> u32
     requires few { length text.now ≤ 8 }
     requires digits { meaning.every meaning.is_hexadecimal text.now ≡ true }
@@ -118,7 +118,7 @@ fn are_digits(text: &[u8]) -> bool
     are_hexadecimal(text) && text.len() >= 1 && text.len() <= 8
 }
 
-/// What a word that is no number stands for.
+/// The token of a word that is no number.
 fn plain<'a>(word: &'a [u8]) -> Piece<'a>
     ensures { shown result ≡ meaning.plain word.now }
 {
@@ -129,10 +129,10 @@ fn plain<'a>(word: &'a [u8]) -> Piece<'a>
     }
 }
 
-/// What a word stands for.
-#[tactic(auto, unfolding(crate::specs::Pieces::told))]
-pub(crate) fn told<'a>(word: &'a [u8]) -> Piece<'a>
-    ensures { shown result ≡ meaning.told word.now }
+/// The token of a word.
+#[tactic(auto, unfolding(crate::specs::Pieces::token_of))]
+pub(crate) fn token_of<'a>(word: &'a [u8]) -> Piece<'a>
+    ensures { shown result ≡ meaning.token_of word.now }
 {
     match word {
         [36, digits @ ..] if are_digits(digits) => Piece::Number(value(digits)),

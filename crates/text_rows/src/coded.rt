@@ -1,11 +1,11 @@
 use asm_m68k::words_of;
+use asm_z80::bytes_of;
 use md_asm_text::split;
 use md_disasm::{text68, text80};
 use row_lines::{RowError, long, word};
 use std::alloc::{AllocError, Global};
-use asm_z80::bytes_of;
 
-/// An instruction of either processor at an address: its words, or its bytes, and how many of them are told.
+/// An instruction of either processor at an address: its words, or its bytes, and how many of them are given.
 #[derive(Clone, Copy)]
 pub struct Coded {
     pub is_z80: bool,
@@ -20,7 +20,7 @@ fn low_bytes(values: [u16; 5]) -> [u8; 4] {
     [a, b, c, d]
 }
 
-/// `PROCESSOR ADDRESS`, and what stands behind it.
+/// `PROCESSOR ADDRESS`, and what follows it. It fails where there is none.
 pub fn begun(rest: &str) -> Result<(Coded, &str), RowError> {
     let (processor, rest) = rest.split_once(' ').ok_or(RowError::NoSuchLine)?;
     let (at, behind) = rest.split_once(' ').ok_or(RowError::NoSuchLine)?;
@@ -69,6 +69,7 @@ impl Coded {
         }
     }
 
+    /// Its text. It fails where memory runs out.
     pub fn text(&self, alloc: Global) -> Result<String, AllocError> {
         if self.is_z80 {
             let decoded = z80_decode::decode(&low_bytes(self.values));
@@ -78,7 +79,7 @@ impl Coded {
         }
     }
 
-    /// Its bytes.
+    /// Its length in bytes.
     pub fn length(&self) -> usize {
         if self.is_z80 {
             usize::from(z80_decode::decode(&low_bytes(self.values)).length)
@@ -87,7 +88,7 @@ impl Coded {
         }
     }
 
-    /// Appends its bytes.
+    /// Appends its bytes. It fails where memory runs out.
     pub fn put_bytes(&self, to: &mut Vec<u8>) -> Result<(), AllocError> {
         let end = to.len().wrapping_add(self.length());
         for value in self.values {
@@ -101,7 +102,8 @@ impl Coded {
         Ok(())
     }
 
-    /// The instruction that a text is read as at its address, behind which all is 0.
+    /// The instruction that a text is read as at its address, with 0 after it, or `None` where it is no instruction. It
+    /// fails where memory runs out.
     pub fn read(&self, alloc: Global, text: &str) -> Result<Option<Coded>, AllocError> {
         let pieces = split(alloc, text.as_bytes())?;
         if self.is_z80 {
@@ -143,7 +145,8 @@ impl Coded {
         }
     }
 
-    /// Whether its text is read as what has the same text; what is no instruction is not read.
+    /// Whether its text is read as what has the same text; what is no instruction is not read. It fails where memory runs
+    /// out.
     pub fn is_read_back(&self, alloc: Global) -> Result<bool, AllocError> {
         let text = self.text(alloc)?;
         match self.read(alloc, text.as_str())? {
@@ -152,7 +155,7 @@ impl Coded {
         }
     }
 
-    /// Appends the words or bytes that are told.
+    /// Appends the words or bytes that are given.
     fn put_values(&self, text: &mut String) -> Result<(), AllocError> {
         for value in self.values.iter().take(self.count) {
             if self.is_z80 {
@@ -165,17 +168,17 @@ impl Coded {
     }
 
     /// The words or bytes that a text is read as, or `none`.
-    fn read_told(&self, alloc: Global, text: &str) -> Result<String, AllocError> {
-        let mut told = String::new(alloc);
+    fn read_values(&self, alloc: Global, text: &str) -> Result<String, AllocError> {
+        let mut values = String::new(alloc);
         match self.read(alloc, text)? {
-            Some(found) => found.put_values(&mut told)?,
-            None => told.push_str("none")?,
+            Some(found) => found.put_values(&mut values)?,
+            None => values.push_str("none")?,
         }
-        String::from_str(alloc, told.as_str().trim_start())
+        String::from_str(alloc, values.as_str().trim_start())
     }
 
-    /// Its text, and its bytes where they are not as many as are told.
-    fn text_told(&self, alloc: Global) -> Result<String, AllocError> {
+    /// Its text, and its length where it is not what is given.
+    fn text_with_length(&self, alloc: Global) -> Result<String, AllocError> {
         let text = self.text(alloc)?;
         let length = self.length();
         let size = if self.is_z80 { 1 } else { 2 };
@@ -187,26 +190,27 @@ impl Coded {
     }
 }
 
-/// `disassemble PROCESSOR ADDRESS VALUES`
+/// `disassemble PROCESSOR ADDRESS VALUES`. It fails where the question has another form, or where memory runs out.
 pub fn disassembled(alloc: Global, rest: &str) -> Result<String, RowError> {
     let (mut coded, values) = begun(rest)?;
     coded.take(values)?;
-    Ok(coded.text_told(alloc)?)
+    Ok(coded.text_with_length(alloc)?)
 }
 
-/// `assemble PROCESSOR ADDRESS TEXT`
+/// `assemble PROCESSOR ADDRESS TEXT`. It fails where the question has another form, or where memory runs out.
 pub fn encoded(alloc: Global, rest: &str) -> Result<String, RowError> {
     let (coded, text) = begun(rest)?;
-    Ok(coded.read_told(alloc, text)?)
+    Ok(coded.read_values(alloc, text)?)
 }
 
-/// `PROCESSOR ADDRESS VALUES`: their text, where the text that is wanted is read as these.
+/// `PROCESSOR ADDRESS VALUES`: their text, where the text that is wanted is read as these. It fails where the question has
+/// another form, or where memory runs out.
 pub fn both(alloc: Global, asked: &str, wanted: &str) -> Result<String, RowError> {
     let (mut coded, values) = begun(asked)?;
-    let read = coded.read_told(alloc, wanted)?;
+    let read = coded.read_values(alloc, wanted)?;
     if read.as_str() == values {
         coded.take(values)?;
-        Ok(coded.text_told(alloc)?)
+        Ok(coded.text_with_length(alloc)?)
     } else {
         Ok(format!(in alloc; "read as {}", read.as_str())?)
     }

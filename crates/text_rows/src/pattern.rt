@@ -14,7 +14,7 @@ pub struct Pattern {
 
 impl Pattern {
     /// Of a text: words or bytes, none of which is greater than `most`, and `FIRST-LAST` or `FIRST-LAST/STEP` in the
-    /// place of one.
+    /// place of one. It fails where the text has another form.
     pub fn of(text: &str, most: u16) -> Result<Pattern, RowError> {
         let mut pattern = Pattern {
             values: [0; 5],

@@ -4,7 +4,7 @@ use crate::sources::{assembled_bytes, fault_of};
 use row_lines::RowError;
 use std::alloc::{AllocError, Global};
 
-/// The answer to a question that goes through a range.
+/// The answer to a question that goes through a range. It fails where it is none, or where memory runs out.
 pub fn ranged(alloc: Global, verb: &str, rest: &str) -> Result<String, RowError> {
     let (coded, patterns) = begun(rest)?;
     match verb {
@@ -71,7 +71,7 @@ fn first_other(alloc: Global, coded: Coded, pattern: &Pattern) -> Result<Option<
     Ok(None)
 }
 
-/// A source of instructions that stand one behind the other, and their bytes.
+/// A source of instructions one after the other, and their bytes.
 #[derive(Drop)]
 struct Trip {
     source: String,

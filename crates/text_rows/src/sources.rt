@@ -2,7 +2,7 @@ use md_asm::{AsmFault, assemble};
 use row_lines::{RowError, hexadecimal, number};
 use std::alloc::{AllocError, Global};
 
-/// The byte that a letter behind a backslash stands for.
+/// The byte of a letter after a backslash.
 fn escaped(letter: u8) -> u8 {
     match letter {
         b'n' => b'\n',
@@ -29,7 +29,8 @@ fn source_of(alloc: Global, text: &str) -> Result<Vec<u8>, AllocError> {
     Ok(source)
 }
 
-/// Appends the image of a source, or tells the line at fault and the kind.
+/// Appends the image of a source: `None`, or the line at fault and the kind. It fails where the source is longer than
+/// 1,048,576 bytes, or where memory runs out.
 pub fn assembled_bytes(
     alloc: Global,
     source: &[u8],
@@ -48,7 +49,7 @@ pub fn assembled_bytes(
     }
 }
 
-/// The same of a source of one line.
+/// The same of a source of one line: `None`, or the line at fault and the kind. It fails likewise.
 pub fn assembled(
     alloc: Global,
     text: &str,
@@ -58,13 +59,13 @@ pub fn assembled(
     assembled_bytes(alloc, source.as_slice(), image)
 }
 
-/// A fault in words.
+/// A fault in words. It fails where memory runs out.
 pub fn fault_of(alloc: Global, fault: (u32, u8)) -> Result<String, RowError> {
     let (line, kind) = fault;
     Ok(format!(in alloc; "line {line}, kind {kind}")?)
 }
 
-/// `PLACE COUNT`: bytes of an image.
+/// `PLACE COUNT`: bytes of an image. It fails where it does not have them, or where memory runs out.
 pub fn piece(alloc: Global, image: &[u8], rest: &str) -> Result<String, RowError> {
     let (place, count) = rest.split_once(' ').ok_or(RowError::NoSuchLine)?;
     let place = hexadecimal(place)? % 0x1_0000_0000;

@@ -4,5 +4,5 @@ use Rattle.asm_m68k.proofs.reading_laws.texts_are_read.Goals as goal
 pub returns-clause-back : goal.returns-clause-back
 returns-clause-back c = tried_again
 
-pub returns-clause-said : goal.returns-clause-said
-returns-clause-said c = said_again
+pub returns-clause-round_trips : goal.returns-clause-round_trips
+returns-clause-round_trips c = said_again

@@ -1,6 +1,7 @@
 use Rattle.std.proofs.Common.{◌∙◌, ◌<◌, ◌≤◌, false, length, sym, arith}
 use Rattle.std.proofs.lemmas.List.{get_or_past}
 use Rattle.md_asm.specs.Seen.{cells_seen}
+use Rattle.md_asm.specs.Places.{image_limit}
 use Rattle.md_asm.proofs.Places.{any_on, mark_at, none_above}
 use Rattle.md_asm.proofs.cells.Cells.any.Goals as goal
 
@@ -12,6 +13,6 @@ loop-left-preserved c =
 
 pub returns-else-at-lt-PLACES : goal.returns-else-at-lt-PLACES
 returns-else-at-lt-PLACES c =
-    sym (none_above (cells_seen c.args.self.now) 4194304
+    sym (none_above (cells_seen c.args.self.now) image_limit
     (λ k h. let past : length c.args.self.now.marks.items ≤ k = omega arith in get_or_past c.args.self.now.marks.items k false past)
     c.loop-left.left c.loop-left.at (omega arith)) ∙ c.loop-left.invariant

@@ -17,7 +17,7 @@ returns-clause-pass c =
             low = c.requires.within;
             addressed = λ is. c.address-at.ensures.low (sym c.is_sub-z80.ensures ∙ is);
             known =
-                subst (λ (said : List Piece). IfSome c.in_ok-bytes.bytes (λ bytes. SettlesOn c.is_sub-z80.result c.args.line.now.body c.args.long said c.address-at.result bytes.items))
+                subst (λ (line_tokens : List Piece). IfSome c.in_ok-bytes.bytes (λ bytes. SettlesOn c.is_sub-z80.result c.args.line.now.body c.args.long line_tokens c.address-at.result bytes.items))
                 (ap (map shown) c.as_slice.ensures.value ∙ c.requires.pieces) c.in_ok-bytes.ensures;
           }));
     }
