@@ -71,27 +71,6 @@ pub data Command : Type 0 where
   Debug : Debugging → Command
   Rollback : Rolling → Command
 
--- the name of the first file that is read: the cartridge, the input of a conversion, or a source; a demonstration
--- cartridge has none
-abbrev pub rom_of : Command → List ℕ
-rom_of (Info rom) = rom
-rom_of (RunCart run) = run.rom
-rom_of (RunDemo demo) = []
-rom_of (Convert conversion) = conversion.input
-rom_of (Assemble assembling) = assembling.source
-rom_of (Debug debugging) = debugging.rom
-rom_of (Rollback rolling) = rolling.rom
-
--- the name of the file that a conversion or an assembly makes; none where none is asked for
-abbrev pub output_of : Command → List ℕ
-output_of (Info rom) = []
-output_of (RunCart run) = []
-output_of (RunDemo demo) = []
-output_of (Convert conversion) = conversion.output
-output_of (Assemble assembling) = assembling.output
-output_of (Debug debugging) = []
-output_of (Rollback rolling) = []
-
 -- the conversion, if one is asked for
 abbrev pub conversion_in : Command → Option Conversion
 conversion_in (Info rom) = None
@@ -111,16 +90,6 @@ assembling_in (Convert conversion) = None
 assembling_in (Assemble assembling) = Some assembling
 assembling_in (Debug debugging) = None
 assembling_in (Rollback rolling) = None
-
--- the name of the list of an assembly, if it is asked for
-abbrev pub list_name : Command → Option (List ℕ)
-list_name (Info rom) = None
-list_name (RunCart run) = None
-list_name (RunDemo demo) = None
-list_name (Convert conversion) = None
-list_name (Assemble assembling) = assembling.list
-list_name (Debug debugging) = None
-list_name (Rollback rolling) = None
 
 -- the session of the debugger, if one is asked for
 abbrev pub debugging_in : Command → Option Debugging
@@ -142,16 +111,6 @@ rolling_in (Assemble assembling) = None
 rolling_in (Debug debugging) = None
 rolling_in (Rollback rolling) = Some rolling
 
--- the name of the debugger's script, or of what two players press, if one is asked for
-abbrev pub script_name : Command → Option (List ℕ)
-script_name (Info rom) = None
-script_name (RunCart run) = None
-script_name (RunDemo demo) = None
-script_name (Convert conversion) = None
-script_name (Assemble assembling) = None
-script_name (Debug debugging) = Some debugging.script
-script_name (Rollback rolling) = Some rolling.inputs
-
 -- the run of a cartridge that is named, if one is asked for
 abbrev pub run_in : Command → Option Run
 run_in (Info rom) = None
@@ -171,66 +130,6 @@ end_of (Convert conversion) = 0
 end_of (Assemble assembling) = 0
 end_of (Debug debugging) = 0
 end_of (Rollback rolling) = 0
-
--- the name of the recording, if one is given
-abbrev pub recording_name : Command → Option (List ℕ)
-recording_name (Info rom) = None
-recording_name (RunCart run) = run.recording
-recording_name (RunDemo demo) = None
-recording_name (Convert conversion) = None
-recording_name (Assemble assembling) = None
-recording_name (Debug debugging) = None
-recording_name (Rollback rolling) = None
-
--- the name of the saved state to go on from, if one is given
-abbrev pub load_name : Command → Option (List ℕ)
-load_name (Info rom) = None
-load_name (RunCart run) = run.load
-load_name (RunDemo demo) = None
-load_name (Convert conversion) = None
-load_name (Assemble assembling) = None
-load_name (Debug debugging) = None
-load_name (Rollback rolling) = None
-
--- the name of the state to save, if it is asked for
-abbrev pub save_name : Command → Option (List ℕ)
-save_name (Info rom) = None
-save_name (RunCart run) = run.save
-save_name (RunDemo demo) = None
-save_name (Convert conversion) = None
-save_name (Assemble assembling) = None
-save_name (Debug debugging) = None
-save_name (Rollback rolling) = None
-
--- the name of the frames file, if one is asked for
-abbrev pub frames_name : Command → Option (List ℕ)
-frames_name (Info rom) = None
-frames_name (RunCart run) = run.frames
-frames_name (RunDemo demo) = None
-frames_name (Convert conversion) = None
-frames_name (Assemble assembling) = None
-frames_name (Debug debugging) = None
-frames_name (Rollback rolling) = None
-
--- the name of the sound file, if one is asked for
-abbrev pub sound_name : Command → Option (List ℕ)
-sound_name (Info rom) = None
-sound_name (RunCart run) = run.sound
-sound_name (RunDemo demo) = None
-sound_name (Convert conversion) = None
-sound_name (Assemble assembling) = None
-sound_name (Debug debugging) = None
-sound_name (Rollback rolling) = None
-
--- the name of the journal, if one is asked for
-abbrev pub journal_name : Command → Option (List ℕ)
-journal_name (Info rom) = None
-journal_name (RunCart run) = run.journal
-journal_name (RunDemo demo) = None
-journal_name (Convert conversion) = None
-journal_name (Assemble assembling) = None
-journal_name (Debug debugging) = None
-journal_name (Rollback rolling) = None
 
 -- how many workers make it; 1 where none is asked for
 abbrev pub workers_in : Command → ℕ
