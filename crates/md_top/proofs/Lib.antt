@@ -6,6 +6,7 @@ pub mod Counts
 pub mod Debuggings
 pub mod Demos
 pub mod Ends
+pub mod Exact
 pub mod Fetched
 pub mod Heard
 pub mod Kept

@@ -7,16 +7,18 @@ use Rattle.rom_header.specs.declared.cart.CartFault.{CartFault}
 use Rattle.rom_header.specs.declared.cart.CartFault.TheVariants as fault
 use Rattle.md_outer.specs.Outside.{DepotState, Files, Rose}
 use Rattle.md_pads.specs.Recording.{GoesWrongAt, Recorded, Spells}
-use Rattle.md_top.specs.Endings.{accepted_ending, asked_ending, cart_ending, file_ending, kept_ending, loaded_ending, recorded_ending, recording_ending, run_ending, state_ending, status_of, verdict_ending}
-use Rattle.md_top.specs.Inputs.{AreInputs, CartCause, IsAccepted, IsJudged, IsVerdict, Spelled, RecordingCause, Records, Verdict, WrongAt, cart_limit, cart_of, recording_limit}
+use Rattle.md_top.specs.Endings.{status_of}
+use Rattle.md_top.specs.Refusals.{accepted_ending, asked_ending, cart_ending, file_ending, kept_ending, loaded_ending, recorded_ending, recording_ending, run_ending, state_ending, verdict_ending}
+use Rattle.md_top.specs.Inputs.{AreInputs, CartCause, IsAccepted, IsJudged, IsTooLong, IsUnread, IsVerdict, Spelled, RecordingCause, Records, Verdict, WrongAt, cart_limit, cart_of, recording_limit}
 use Rattle.md_word.specs.Clock.{last_cycle}
 use Rattle.md_top.specs.Loads.{Begins, BeginsWith, IsFound, IsFoundIn, IsLoadJudged, IsStateJudged, LoadCause, StateCause, inputs_by, recording_by, state_limit}
 use Rattle.state_laws.specs.Verdicts.{Keeps, OfOther, StateVerdict, StateWrongAt}
 use Rattle.md_top.specs.Runs.{entries_from, halted_from, media_from, powered_on}
 use Rattle.md_machine.specs.Starts.{Start}
 use Rattle.md_args.specs.Words.{Run}
+use Rattle.md_args.specs.declared.files.Input.TheVariants.{First, Recording, State}
 use Rattle.md_top.specs.declared.ending.Ending.{Ending}
-use Rattle.md_top.specs.declared.ending.Ending.TheVariants.{Shown, Done, TooFar, ReadFault, TooLong, Short, NoMark, RecordingFault, RecordingTooLong, RecordingWrong, LoadFault, StateTooLong, StateWrong, OtherCart, Behind, Memory}
+use Rattle.md_top.specs.declared.ending.Ending.TheVariants.{Shown, Done, ReadFault, Short, NoMark, RecordingWrong, StateWrong, OtherCart, Behind, Memory, TooFar, TooLong}
 use Rattle.md_top.specs.declared.inputs.Inputs.{Inputs}
 use Rattle.md_pads.proofs.Whole.{one_recording}
 use Rattle.state_laws.proofs.Whole.{one_verdict}
@@ -37,29 +39,29 @@ long_is_long bytes within why =
 pub right_accepted : (file : Option (List ℕ)) (rest : Ending) → IsAccepted file → file_ending file rest ≡ rest
 right_accepted None rest accepted = absurd accepted
 right_accepted (Some bytes) rest (within, ok) =
-    ap (λ (long : Bool). cond long TooLong (cart_ending (fault_of bytes) rest)) (le-ltb cart_limit (length bytes) within)
+    ap (λ (long : Bool). cond long (TooLong First) (cart_ending (fault_of bytes) rest)) (le-ltb cart_limit (length bytes) within)
     ∙ ap (λ (fault : Option CartFault). cart_ending fault rest) ok
 
-right_long : (file : Option (List ℕ)) (rest : Ending) → IsSomeAnd file (λ bytes. cart_limit < length bytes) → file_ending file rest ≡ TooLong
+right_long : (file : Option (List ℕ)) (rest : Ending) → IsSomeAnd file (λ bytes. cart_limit < length bytes) → file_ending file rest ≡ TooLong First
 right_long None rest long = absurd long
-right_long (Some bytes) rest long = ap (λ (too_long : Bool). cond too_long TooLong (cart_ending (fault_of bytes) rest)) (lt-ltb cart_limit (length bytes) long)
+right_long (Some bytes) rest long = ap (λ (too_long : Bool). cond too_long (TooLong First) (cart_ending (fault_of bytes) rest)) (lt-ltb cart_limit (length bytes) long)
 
 right_refused : (file : Option (List ℕ)) (rest : Ending) (why : CartFault)
     → IsSomeAnd file (λ bytes. (length bytes ≤ cart_limit) × (fault_of bytes ≡ Some why)) → file_ending file rest ≡ cart_ending (Some why) rest
 right_refused None rest why refused = absurd refused
 right_refused (Some bytes) rest why (within, is) =
-    ap (λ (long : Bool). cond long TooLong (cart_ending (fault_of bytes) rest)) (le-ltb cart_limit (length bytes) within)
+    ap (λ (long : Bool). cond long (TooLong First) (cart_ending (fault_of bytes) rest)) (le-ltb cart_limit (length bytes) within)
     ∙ ap (λ (refused : Option CartFault). cart_ending refused rest) is
 
-right_missing : (file : Option (List ℕ)) (rest : Ending) → file ≡ None → file_ending file rest ≡ ReadFault
+right_missing : (file : Option (List ℕ)) (rest : Ending) → file ≡ None → file_ending file rest ≡ ReadFault First
 right_missing file rest missing = ap (λ (file : Option (List ℕ)). file_ending file rest) missing
 
 -- without a fault the ending is the right one, or memory is wanting
 pub cart_right : (told : Type 0) (rom : List ℕ) (old new : DepotState) (rest ending : Ending) → CartCause told rom old new ending
     → ¬ Rose old.read_faults new.read_faults → told → (status_of ending ≡ status_of (file_ending (old.files rom) rest)) ⊎ (status_of ending ≡ 10)
-cart_right told rom old new rest ReadFault (inl rose) clean t = absurd (clean rose)
-cart_right told rom old new rest ReadFault (inr missing) clean t = inl (sym (ap status_of (right_missing (old.files rom) rest missing.1)))
-cart_right told rom old new rest TooLong cause clean t = inl (sym (ap status_of (right_long (old.files rom) rest (cause t))))
+cart_right told rom old new rest (ReadFault First) (inl rose) clean t = absurd (clean rose)
+cart_right told rom old new rest (ReadFault First) (inr missing) clean t = inl (sym (ap status_of (right_missing (old.files rom) rest missing.1)))
+cart_right told rom old new rest (TooLong First) cause clean t = inl (sym (ap status_of (right_long (old.files rom) rest (cause t))))
 cart_right told rom old new rest Short cause clean t = inl (sym (ap status_of (right_refused (old.files rom) rest fault.Short (cause t))))
 cart_right told rom old new rest NoMark cause clean t = inl (sym (ap status_of (right_refused (old.files rom) rest fault.NoMark (cause t))))
 cart_right told rom old new rest Memory cause clean t = inr refl
@@ -85,7 +87,7 @@ file_recorded : (file : Option (List ℕ)) (verdict : Verdict) (recording : Reco
     → recording_ending file verdict ready ≡ ready recording
 file_recorded None verdict recording ready is judged = absurd is
 file_recorded (Some bytes) (Spelled found) recording ready (within, spells) judged =
-    ap (λ (long : Bool). cond long RecordingTooLong (ready found)) (le-ltb recording_limit (length bytes) within)
+    ap (λ (long : Bool). cond long (TooLong Recording) (ready found)) (le-ltb recording_limit (length bytes) within)
     ∙ ap ready (one_recording bytes found recording judged spells)
 file_recorded (Some bytes) (WrongAt place) recording ready (within, spells) judged = absurd (judged.none (recording, spells))
 
@@ -95,10 +97,10 @@ right_recorded None files verdict recording ready is judged = ap ready (sym is)
 right_recorded (Some name) files verdict recording ready is judged = file_recorded (files name) verdict recording ready is judged
 
 file_long : (file : Option (List ℕ)) (verdict : Verdict) (ready : Recorded → Ending) → IsSomeAnd file (λ bytes. recording_limit < length bytes)
-    → recording_ending file verdict ready ≡ RecordingTooLong
+    → recording_ending file verdict ready ≡ TooLong Recording
 file_long None verdict ready long = absurd long
 file_long (Some bytes) verdict ready long =
-    ap (λ (too_long : Bool). cond too_long RecordingTooLong (verdict_ending verdict ready)) (lt-ltb recording_limit (length bytes) long)
+    ap (λ (too_long : Bool). cond too_long (TooLong Recording) (verdict_ending verdict ready)) (lt-ltb recording_limit (length bytes) long)
 
 -- whatever the verdict, there is a place at which the bytes go wrong
 file_wrong : (file : Option (List ℕ)) (verdict : Verdict) (place : ℕ) (ready : Recorded → Ending)
@@ -107,16 +109,16 @@ file_wrong : (file : Option (List ℕ)) (verdict : Verdict) (place : ℕ) (ready
 file_wrong None verdict place ready is judged = absurd is
 file_wrong (Some bytes) (Spelled recording) place ready (within, wrong) judged = absurd (wrong.none (recording, judged))
 file_wrong (Some bytes) (WrongAt other) place ready (within, wrong) judged =
-    ap (λ (long : Bool). status_of (cond long RecordingTooLong (RecordingWrong other))) (le-ltb recording_limit (length bytes) within)
+    ap (λ (long : Bool). status_of (cond long (TooLong Recording) (RecordingWrong other))) (le-ltb recording_limit (length bytes) within)
 
 pub recording_right : (told : Type 0) (name : Option (List ℕ)) (old new : DepotState) (verdict : Verdict) (ready : Recorded → Ending) (ending : Ending)
     → RecordingCause told name old new ending → IsJudged name old.files verdict → ¬ Rose old.read_faults new.read_faults → told
     → (status_of ending ≡ status_of (recorded_ending name old.files verdict ready)) ⊎ (status_of ending ≡ 10)
 recording_right told None old new verdict ready ending cause judged clean t = absurd cause
-recording_right told (Some name) old new verdict ready RecordingFault (inl rose) judged clean t = absurd (clean rose)
-recording_right told (Some name) old new verdict ready RecordingFault (inr missing) judged clean t =
+recording_right told (Some name) old new verdict ready (ReadFault Recording) (inl rose) judged clean t = absurd (clean rose)
+recording_right told (Some name) old new verdict ready (ReadFault Recording) (inr missing) judged clean t =
     inl (sym (ap (λ (file : Option (List ℕ)). status_of (recording_ending file verdict ready)) missing.1))
-recording_right told (Some name) old new verdict ready RecordingTooLong cause judged clean t =
+recording_right told (Some name) old new verdict ready (TooLong Recording) cause judged clean t =
     inl (sym (ap status_of (file_long (old.files name) verdict ready (cause t))))
 recording_right told (Some name) old new verdict ready (RecordingWrong place) cause judged clean t =
     inl (sym (file_wrong (old.files name) verdict place ready (cause t) judged))
@@ -137,13 +139,13 @@ file_kept : (file : Option (List ℕ)) (inputs : Inputs) (verdict state : StateV
     → IsFound inputs (unwrap_or file []) state → state_ending file state end ≡ kept_ending verdict end
 file_kept None inputs verdict state end found judged = absurd found
 file_kept (Some bytes) inputs verdict state end (within, found) judged =
-    ap (λ (long : Bool). cond long StateTooLong (kept_ending state end)) (le-ltb state_limit (length bytes) within)
+    ap (λ (long : Bool). cond long (TooLong State) (kept_ending state end)) (le-ltb state_limit (length bytes) within)
     ∙ ap (λ (s : StateVerdict). kept_ending s end) (one_verdict inputs.cart inputs.recording bytes state verdict judged found)
 
-file_state_long : (file : Option (List ℕ)) (state : StateVerdict) (end : ℕ) → IsSomeAnd file (λ bytes. state_limit < length bytes) → state_ending file state end ≡ StateTooLong
+file_state_long : (file : Option (List ℕ)) (state : StateVerdict) (end : ℕ) → IsSomeAnd file (λ bytes. state_limit < length bytes) → state_ending file state end ≡ TooLong State
 file_state_long None state end long = absurd long
 file_state_long (Some bytes) state end long =
-    ap (λ (too_long : Bool). cond too_long StateTooLong (kept_ending state end)) (lt-ltb state_limit (length bytes) long)
+    ap (λ (too_long : Bool). cond too_long (TooLong State) (kept_ending state end)) (lt-ltb state_limit (length bytes) long)
 
 -- where a run begins
 loaded_run : (load : Option (List ℕ)) (files : Files) (inputs : Inputs) (state : StateVerdict) (start : Start) (end : ℕ) → BeginsWith load files inputs start
@@ -157,16 +159,16 @@ loaded_run (Some name) files inputs state start end begins judged =
 load_right : (told : Type 0) (load : Option (List ℕ)) (inputs : Inputs) (old new : DepotState) (state : StateVerdict) (end : ℕ) (ending : Ending)
     → StateCause told load inputs old new ending → IsLoadJudged load inputs old.files state → ¬ Rose old.read_faults new.read_faults → told
     → (status_of ending ≡ status_of (loaded_ending load old.files state inputs end)) ⊎ (status_of ending ≡ 10)
-load_right told None inputs old new state end LoadFault cause judged clean t = absurd cause
-load_right told None inputs old new state end StateTooLong cause judged clean t = absurd cause
+load_right told None inputs old new state end (ReadFault State) cause judged clean t = absurd cause
+load_right told None inputs old new state end (TooLong State) cause judged clean t = absurd cause
 load_right told None inputs old new state end (StateWrong place) cause judged clean t = absurd cause
 load_right told None inputs old new state end (OtherCart kept given) cause judged clean t = absurd cause
 load_right told None inputs old new state end Memory cause judged clean t = inr refl
 load_right told None inputs old new state end _ cause judged clean t = absurd cause
-load_right told (Some name) inputs old new state end LoadFault (inl rose) judged clean t = absurd (clean rose)
-load_right told (Some name) inputs old new state end LoadFault (inr missing) judged clean t =
+load_right told (Some name) inputs old new state end (ReadFault State) (inl rose) judged clean t = absurd (clean rose)
+load_right told (Some name) inputs old new state end (ReadFault State) (inr missing) judged clean t =
     inl (sym (ap (λ (file : Option (List ℕ)). status_of (state_ending file state end)) missing.1))
-load_right told (Some name) inputs old new state end StateTooLong cause judged clean t = inl (sym (ap status_of (file_state_long (old.files name) state end (cause t))))
+load_right told (Some name) inputs old new state end (TooLong State) cause judged clean t = inl (sym (ap status_of (file_state_long (old.files name) state end (cause t))))
 load_right told (Some name) inputs old new state end (StateWrong place) cause judged clean t =
     inl (sym (ap status_of (file_kept (old.files name) inputs (StateWrongAt place) state end (cause t) judged)))
 load_right told (Some name) inputs old new state end (OtherCart kept given) cause judged clean t =
@@ -284,9 +286,9 @@ right_with run files verdict state status judged (inr memory) = inr memory
 -- a cartridge that is refused is so whatever stands behind it
 pub cart_always : (told : Type 0) (rom : List ℕ) (old new : DepotState) (ending : Ending) → CartCause told rom old new ending → ¬ Rose old.read_faults new.read_faults → told
     → ((right : Ending) × ((rest : Ending) → file_ending (old.files rom) rest ≡ right) × (status_of ending ≡ status_of right)) ⊎ (status_of ending ≡ 10)
-cart_always told rom old new ReadFault (inl rose) clean t = absurd (clean rose)
-cart_always told rom old new ReadFault (inr missing) clean t = inl (ReadFault, (λ rest. right_missing (old.files rom) rest missing.1), refl)
-cart_always told rom old new TooLong cause clean t = inl (TooLong, (λ rest. right_long (old.files rom) rest (cause t)), refl)
+cart_always told rom old new (ReadFault First) (inl rose) clean t = absurd (clean rose)
+cart_always told rom old new (ReadFault First) (inr missing) clean t = inl (ReadFault First, (λ rest. right_missing (old.files rom) rest missing.1), refl)
+cart_always told rom old new (TooLong First) cause clean t = inl (TooLong First, (λ rest. right_long (old.files rom) rest (cause t)), refl)
 cart_always told rom old new Short cause clean t = inl (Short, (λ rest. right_refused (old.files rom) rest fault.Short (cause t)), refl)
 cart_always told rom old new NoMark cause clean t = inl (NoMark, (λ rest. right_refused (old.files rom) rest fault.NoMark (cause t)), refl)
 cart_always told rom old new Memory cause clean t = inr refl
@@ -318,33 +320,33 @@ wrong_always : (file : Option (List ℕ)) (verdict : Verdict) (place : ℕ)
 wrong_always None verdict place is judged = absurd is
 wrong_always (Some bytes) (Spelled recording) place (within, wrong) judged = absurd (wrong.none (recording, judged))
 wrong_always (Some bytes) (WrongAt other) place (within, wrong) judged =
-    (RecordingWrong other, (λ ready. ap (λ (long : Bool). cond long RecordingTooLong (RecordingWrong other)) (le-ltb recording_limit (length bytes) within)), refl)
+    (RecordingWrong other, (λ ready. ap (λ (long : Bool). cond long (TooLong Recording) (RecordingWrong other)) (le-ltb recording_limit (length bytes) within)), refl)
 
 -- and so is a recording
 pub recording_always : (told : Type 0) (name : Option (List ℕ)) (old new : DepotState) (verdict : Verdict) (ending : Ending)
     → RecordingCause told name old new ending → IsJudged name old.files verdict → ¬ Rose old.read_faults new.read_faults → told
     → ((right : Ending) × ((ready : Recorded → Ending) → recorded_ending name old.files verdict ready ≡ right) × (status_of ending ≡ status_of right)) ⊎ (status_of ending ≡ 10)
 recording_always told None old new verdict ending cause judged clean t = absurd cause
-recording_always told (Some name) old new verdict RecordingFault (inl rose) judged clean t = absurd (clean rose)
-recording_always told (Some name) old new verdict RecordingFault (inr missing) judged clean t =
-    inl (RecordingFault, (λ ready. ap (λ (file : Option (List ℕ)). recording_ending file verdict ready) missing.1), refl)
-recording_always told (Some name) old new verdict RecordingTooLong cause judged clean t =
-    inl (RecordingTooLong, (λ ready. file_long (old.files name) verdict ready (cause t)), refl)
+recording_always told (Some name) old new verdict (ReadFault Recording) (inl rose) judged clean t = absurd (clean rose)
+recording_always told (Some name) old new verdict (ReadFault Recording) (inr missing) judged clean t =
+    inl (ReadFault Recording, (λ ready. ap (λ (file : Option (List ℕ)). recording_ending file verdict ready) missing.1), refl)
+recording_always told (Some name) old new verdict (TooLong Recording) cause judged clean t =
+    inl (TooLong Recording, (λ ready. file_long (old.files name) verdict ready (cause t)), refl)
 recording_always told (Some name) old new verdict (RecordingWrong place) cause judged clean t = inl (wrong_always (old.files name) verdict place (cause t) judged)
 recording_always told (Some name) old new verdict Memory cause judged clean t = inr refl
 recording_always told (Some name) old new verdict _ cause judged clean t = absurd cause
 
 -- and a saved state that is not read
 load_always : (told : Type 0) (load : Option (List ℕ)) (inputs : Inputs) (old new : DepotState) (end : ℕ)
-    → IsSomeAnd load (λ name. Rose old.read_faults new.read_faults ⊎ (told × (old.files name ≡ None))) → ¬ Rose old.read_faults new.read_faults
-    → (state : StateVerdict) → loaded_ending load old.files state inputs end ≡ LoadFault
+    → IsSomeAnd load (λ name. IsUnread told name old new) → ¬ Rose old.read_faults new.read_faults
+    → (state : StateVerdict) → loaded_ending load old.files state inputs end ≡ ReadFault State
 load_always told None inputs old new end cause clean state = absurd cause
 load_always told (Some name) inputs old new end (inl rose) clean state = absurd (clean rose)
 load_always told (Some name) inputs old new end (inr missing) clean state = ap (λ (file : Option (List ℕ)). state_ending file state end) missing.1
 
 long_always : (told : Type 0) (load : Option (List ℕ)) (inputs : Inputs) (old : DepotState) (end : ℕ)
-    → IsSomeAnd load (λ name. told → IsSomeAnd (old.files name) (λ bytes. state_limit < length bytes)) → told
-    → (state : StateVerdict) → loaded_ending load old.files state inputs end ≡ StateTooLong
+    → IsSomeAnd load (λ name. IsTooLong told state_limit name old) → told
+    → (state : StateVerdict) → loaded_ending load old.files state inputs end ≡ TooLong State
 long_always told None inputs old end cause t state = absurd cause
 long_always told (Some name) inputs old end cause t state = file_state_long (old.files name) state end (cause t)
 
@@ -357,11 +359,11 @@ found_judged told (Some name) inputs files verdict cause t = file_state (files n
 pub load_right_with : (told : Type 0) (run : Run) (old new : DepotState) (verdict : Verdict) (ending : Ending) → run.cycles ≤ last_cycle
     → LoadCause told run old new ending → IsJudged run.recording old.files verdict → ¬ Rose old.read_faults new.read_faults → told
     → IsRunRight run old.files verdict (status_of ending) ⊎ (status_of ending ≡ 10)
-load_right_with told run old new verdict LoadFault near (inputs, are, cause) is clean t =
-    inl (right_without run old.files verdict LoadFault LoadFault
+load_right_with told run old new verdict (ReadFault State) near (inputs, are, cause) is clean t =
+    inl (right_without run old.files verdict (ReadFault State) (ReadFault State)
     (λ state. right_inputs run old.files verdict state inputs near (are t) is ∙ load_always told run.load inputs old new run.cycles cause clean state) refl)
-load_right_with told run old new verdict StateTooLong near (inputs, are, cause) is clean t =
-    inl (right_without run old.files verdict StateTooLong StateTooLong
+load_right_with told run old new verdict (TooLong State) near (inputs, are, cause) is clean t =
+    inl (right_without run old.files verdict (TooLong State) (TooLong State)
     (λ state. right_inputs run old.files verdict state inputs near (are t) is ∙ long_always told run.load inputs old run.cycles cause t state) refl)
 load_right_with told run old new verdict (StateWrong place) near (inputs, are, cause) is clean t =
     let judged = found_judged told run.load inputs old.files (StateWrongAt place) cause t in

@@ -1,16 +1,17 @@
 -- How a session of the debugger ends: its causes and what is put.
-use Rattle.std.specs.Prelude.{◌≡◌, ◌≢◌, ◌⊎◌, ℕ, ◌<◌, ◌≤◌, List, ◌++◌, length, codes, decimal, Option, Some, None, IsSomeAnd}
-use Rattle.md_outer.specs.Outside.{DepotState, Files, Rose, SinkState, bytes_of}
+use Rattle.std.specs.Prelude.{◌≡◌, ◌≢◌, ℕ, ◌≤◌, List, ◌++◌, length, codes, decimal, Option, Some, None, IsSomeAnd}
+use Rattle.md_outer.specs.Outside.{DepotState, Files, SinkState, bytes_of}
 use Rattle.md_args.specs.Words.{Debugging}
+use Rattle.md_args.specs.declared.files.Input.TheVariants.{Script}
 use Rattle.md_debug.specs.declared.fault.DebugFault.{DebugFault}
 use Rattle.md_debug.specs.declared.fault.DebugFault.TheVariants.{BadNumber, NoMemory, NotKept, UnknownWord}
 use Rattle.md_debug.specs.declared.script.Ending.{Ending as ScriptEnding}
 use Rattle.md_debug.specs.declared.script.Ending.TheVariants.{Obeyed, OutOfMemory, Refused}
 use Rattle.md_debug.specs.Scripts.{FailsWithin, PutsWhole}
 use Rattle.md_debug.specs.Opened.{PlaysScript, StopsScript}
-use Rattle.md_top.specs.Inputs.{CartCause, IsAccepted, cart_of}
+use Rattle.md_top.specs.Inputs.{CartCause, IsAccepted, IsTooLong, IsUnread, cart_of}
 use Rattle.md_top.specs.declared.ending.Ending.{Ending}
-use Rattle.md_top.specs.declared.ending.Ending.TheVariants.{Played, ReplyFault, ScriptFault, ScriptMemory, ScriptRefused, ScriptTooLong}
+use Rattle.md_top.specs.declared.ending.Ending.TheVariants.{Played, ReadFault, ReplyFault, ScriptMemory, ScriptRefused, TooLong}
 
 -- the greatest length of a script
 abbrev pub script_limit : ℕ
@@ -44,7 +45,7 @@ IsStopped told words held out out' =
     IsAccepted (held words.rom) × IsSomeAnd (held words.script) (λ script. (length script ≤ script_limit) × StopsScript told (cart_of words.rom held) script out out')
 
 -- What was put when a session ends so: the replies to the lines that were obeyed, each when its line was; where one
--- of them could not be put, those before it and a front part of it.
+-- of them could not be put, those before it and a prefix of it.
 abbrev pub ShowsReplies : Type 0 → Type 0 → Debugging → Files → Ending → SinkState → SinkState → Type 0
 ShowsReplies told sink words held Played out out' = (replies : List ℕ) × (told → IsPlayed words held replies Obeyed) × PutsWhole sink replies out out'
 ShowsReplies told sink words held (ScriptRefused line fault) out out' =
@@ -60,10 +61,8 @@ DebugEnds told words old new (ScriptRefused line fault) = (replies : List ℕ) �
 DebugEnds told words old new ScriptMemory = (replies : List ℕ) × (told → IsPlayed words old.files replies OutOfMemory)
 DebugEnds told words old new ReplyFault =
     told → IsAccepted (old.files words.rom) × IsSomeAnd (old.files words.script) (λ script. length script ≤ script_limit)
-DebugEnds told words old new ScriptFault =
-    (told → IsAccepted (old.files words.rom)) × (Rose old.read_faults new.read_faults ⊎ (told × (old.files words.script ≡ None)))
-DebugEnds told words old new ScriptTooLong =
-    (told → IsAccepted (old.files words.rom)) × (told → IsSomeAnd (old.files words.script) (λ script. script_limit < length script))
+DebugEnds told words old new (ReadFault Script) = (told → IsAccepted (old.files words.rom)) × IsUnread told words.script old new
+DebugEnds told words old new (TooLong Script) = (told → IsAccepted (old.files words.rom)) × IsTooLong told script_limit words.script old
 DebugEnds told words old new ending = CartCause told words.rom old new ending
 
 -- the cartridge is accepted, the script is held, and each of its lines is obeyed

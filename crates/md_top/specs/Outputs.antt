@@ -1,9 +1,12 @@
 -- What the output files of a run hold.
 use Rattle.std.specs.Prelude.{◌≡◌, ℕ, List, [], ◌++◌, Option, Some, None, IsSome}
 use Rattle.md_outer.specs.Outside.{DepotState, Files, IsPrefix, Rose, with_file}
+use Rattle.md_args.specs.Files.{run_output}
 use Rattle.md_args.specs.Words.{Run}
+use Rattle.md_args.specs.declared.files.Output.{Output}
+use Rattle.md_args.specs.declared.files.Output.TheVariants.{Frames, Journal, Listing, Save, Sound, Target}
 use Rattle.md_top.specs.declared.ending.Ending.{Ending}
-use Rattle.md_top.specs.declared.ending.Ending.TheVariants.{FramesFault, SoundFault, JournalFault, SaveFault, Memory}
+use Rattle.md_top.specs.declared.ending.Ending.TheVariants.{WriteFault, Memory}
 use Rattle.md_top.specs.declared.outputs.Outputs.{Outputs}
 
 -- bytes of the four outputs
@@ -16,6 +19,15 @@ pub record Pieces : Type 0 where
 -- the four outputs before any byte
 abbrev pub nothing : Pieces
 nothing = record { frames = []; sound = []; journal = []; state = [] }
+
+-- bytes of one output alone
+abbrev pub only : Output → List ℕ → Pieces
+only Frames piece = record nothing { frames = piece }
+only Sound piece = record nothing { sound = piece }
+only Journal piece = record nothing { journal = piece }
+only Save piece = record nothing { state = piece }
+only Target piece = nothing
+only Listing piece = nothing
 
 -- bytes, and behind them more
 abbrev pub lengthened : Pieces → Pieces → Pieces
@@ -74,10 +86,7 @@ LeavesOthers run old new = (parts : Parts) × (new ≡ written run old parts)
 
 -- an output that is asked for could not be written: a count of faults rose
 abbrev pub IsWriteFault : Run → DepotState → DepotState → Ending → Type 0
-IsWriteFault run old new FramesFault = IsSome run.frames × Rose old.write_faults new.write_faults
-IsWriteFault run old new SoundFault = IsSome run.sound × Rose old.write_faults new.write_faults
-IsWriteFault run old new JournalFault = IsSome run.journal × Rose old.write_faults new.write_faults
-IsWriteFault run old new SaveFault = IsSome run.save × Rose old.write_faults new.write_faults
+IsWriteFault run old new (WriteFault which) = IsSome (run_output run which) × Rose old.write_faults new.write_faults
 IsWriteFault run old new ending = ⊥
 
 -- or memory was wanting
@@ -90,12 +99,18 @@ abbrev pub IsBegun : (ℕ → Option (List ℕ)) → Option ℕ → Option (List
 IsBegun begun None name = name ≡ None
 IsBegun begun (Some file) name = IsSome name × (begun file ≡ name)
 
+-- the number of an output that is begun, if it is
+abbrev pub number_in : Outputs → Output → Option ℕ
+number_in outputs Frames = outputs.frames
+number_in outputs Sound = outputs.sound
+number_in outputs Journal = outputs.journal
+number_in outputs Save = outputs.save
+number_in outputs Target = None
+number_in outputs Listing = None
+
 -- the outputs that are asked for were begun, and these are their numbers
-pub record AreBegun (run : Run) (begun : ℕ → Option (List ℕ)) (outputs : Outputs) : Type 0 where
-  pub frames : IsBegun begun outputs.frames run.frames
-  pub sound : IsBegun begun outputs.sound run.sound
-  pub journal : IsBegun begun outputs.journal run.journal
-  pub save : IsBegun begun outputs.save run.save
+abbrev pub AreBegun : Run → (ℕ → Option (List ℕ)) → Outputs → Type 0
+AreBegun run begun outputs = (which : Output) → IsBegun begun (number_in outputs which) (run_output run which)
 
 -- whatever the outputs held before, they hold these pieces behind it
 abbrev pub Adds : Run → Files → Files → Pieces → Type 0

@@ -100,8 +100,8 @@ fn finish_stage<F: Fn(&mut Machine, u64), D: Depot, S: Sink>(
     ensures memory { Runs stage.entry → result ≢ 10 }
 {
     match stage {
-        Stage::Usage => refuse(out, 2, "refused: usage\n", "", ""),
-        Stage::Memory => refuse(out, 10, "refused: memory\n", "", ""),
+        Stage::Usage => refuse(out, Ending::Usage, "refused: usage\n"),
+        Stage::Memory => refuse(out, Ending::Memory, "refused: memory\n"),
         Stage::Ended(command, ending) => report(&command, ending, out),
         Stage::Run(run, begun) => finish_run(go_on, &run, begun, depot, out),
         Stage::Demo(demo, course) => finish_demo(go_on, &demo, course, out),
