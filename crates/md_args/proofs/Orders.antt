@@ -61,7 +61,7 @@ fewer_with name value (first ∷ arguments) = go (has_name name first.0) (bytes_
     go true false later = omega (arith, later)
     go false d later = omega (arith, later)
 
--- no argument stands twice exactly where no name has two
+-- no argument comes twice exactly where no name has two
 abbrev AtMostOnce : List Argument → Type 0
 AtMostOnce arguments = (name : Text) → named name arguments ≤ 1
 

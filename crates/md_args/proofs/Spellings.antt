@@ -138,7 +138,7 @@ module _ (options flags : List Text) (readable : AreReadable options) (raisable 
       ∙ ap (with_value (codes "rom") name) (given_written false written are.1) ∙ with_cond (codes "rom") name (fits false written) (map argument_of written)
   given_written false (rom name ∷ written) are = sym (given_stray options flags [] name (all_words written) (plain_word name are.0).no_end are.0)
 
--- a second name of the cartridge stands twice
+-- a second name of the cartridge comes twice
 fits_no_other : (written : List Written) → fits false written ≡ false → stands (codes "rom") (map argument_of written) ≡ true
 fits_no_other [] many = absurd (true≢false many)
 fits_no_other (apart name value ∷ written) many = or_right _ _ (fits_no_other written many)

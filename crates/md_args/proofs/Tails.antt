@@ -20,7 +20,7 @@ pub record Stays (Rel : Option (List Argument) → Option (List Argument) → Ty
 
 module _ (options flags : List Text) (Rel : Option (List Argument) → Option (List Argument) → Type 0) (stays : Stays Rel) (first second : List Text)
     (here : (free : Bool) (place : Place) → Rel (given (left_of free) options flags place first) (given (left_of free) options flags place second)) where
-  -- it holds of what two lists of words give, as they stand behind these
+  -- it holds of what two lists of words give, as they stand after these
   abbrev Behind : List Text → Type 0
   Behind before =
       (free : Bool) (place : Place) → Rel (given (left_of free) options flags place (before ++ first)) (given (left_of free) options flags place (before ++ second))

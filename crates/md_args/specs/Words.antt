@@ -53,7 +53,7 @@ pub record Debugging : Type 0 where
   pub rom : List ℕ
   pub script : List ℕ
 
--- a session of two players: the names of the cartridge and of what they press, and how many frames it goes on without
+-- a session of two players: the names of the cartridge and of what they press, and how many frames it continues without
 -- the buttons of a player
 pub record Rolling : Type 0 where
   pub rom : List ℕ
@@ -220,7 +220,7 @@ info_from None = None
 abbrev pub info_by : (Text → Option Text) → Option Text
 info_by value = info_from (value (codes "rom"))
 
--- the cartridge's name that the words behind `info` give
+-- the cartridge's name that the words after `info` give
 abbrev pub info_of : List Text → Option Text
 info_of words = option_and_then (meant_by info_by) (given (codes "rom" ∷ []) [] [] between words)
 
@@ -268,7 +268,7 @@ run_flags = codes "pal" ∷ []
 abbrev pub run_of_arguments : List Argument → Option Run
 run_of_arguments = meant_by run_by
 
--- the run that the words behind `run` give
+-- the run that the words after `run` give
 abbrev pub run_of : List Text → Option Run
 run_of words = option_and_then run_of_arguments (given (codes "rom" ∷ []) run_options run_flags between words)
 
@@ -282,7 +282,7 @@ conversion_given product input output pal = None
 abbrev pub conversion_by : Product → (Text → Option Text) → Option Conversion
 conversion_by product value = conversion_given product (value (codes "input")) (value (codes "output")) (is_some (value (codes "pal")))
 
--- the conversion that the words behind `vgm` or `play` give
+-- the conversion that the words after `vgm` or `play` give
 abbrev pub conversion_of : Product → List Text → Option Conversion
 conversion_of product words =
     option_and_then (meant_by (conversion_by product)) (given (codes "input" ∷ codes "output" ∷ []) [] (codes "pal" ∷ []) between words)
@@ -297,7 +297,7 @@ assembling_given source output list = None
 abbrev pub assembling_by : (Text → Option Text) → Option Assembling
 assembling_by value = assembling_given (value (codes "source")) (value (codes "output")) (value (codes "list"))
 
--- the assembly that the words behind `asm` give
+-- the assembly that the words after `asm` give
 abbrev pub assembling_of : List Text → Option Assembling
 assembling_of words =
     option_and_then (meant_by assembling_by) (given (codes "source" ∷ codes "output" ∷ []) (codes "list" ∷ []) [] between words)
@@ -312,7 +312,7 @@ debugging_given rom script = None
 abbrev pub debugging_by : (Text → Option Text) → Option Debugging
 debugging_by value = debugging_given (value (codes "rom")) (value (codes "script"))
 
--- the session that the words behind `debug` give
+-- the session that the words after `debug` give
 abbrev pub debugging_of : List Text → Option Debugging
 debugging_of words = option_and_then (meant_by debugging_by) (given (codes "rom" ∷ codes "script" ∷ []) [] [] between words)
 
@@ -338,7 +338,7 @@ demo_given number cycles workers pal = demo_from (wanted_number number) (wanted_
 abbrev pub demo_by : (Text → Option Text) → Option Demo
 demo_by value = demo_given (value (codes "number")) (value (codes "cycles")) (value (codes "workers")) (is_some (value (codes "pal")))
 
--- the run that the words behind `demo` give
+-- the run that the words after `demo` give
 abbrev pub demo_of : List Text → Option Demo
 demo_of words = option_and_then (meant_by demo_by) (given (codes "number" ∷ []) (codes "cycles" ∷ codes "workers" ∷ []) (codes "pal" ∷ []) between words)
 
@@ -363,7 +363,7 @@ rolling_given rom inputs window = rolling_from rom inputs (wanted_window window)
 abbrev pub rolling_by : (Text → Option Text) → Option Rolling
 rolling_by value = rolling_given (value (codes "rom")) (value (codes "inputs")) (value (codes "window"))
 
--- the session that the words behind `rollback` give
+-- the session that the words after `rollback` give
 abbrev pub rolling_of : List Text → Option Rolling
 rolling_of words =
     option_and_then (meant_by rolling_by) (given (codes "rom" ∷ codes "inputs" ∷ []) (codes "window" ∷ []) [] between words)

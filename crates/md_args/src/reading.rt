@@ -23,7 +23,7 @@ use crate::verb::Verb;
 use clap::ArgMatches;
 use std::alloc::{AllocError, Global};
 
-/// Reads the words of the command line, those behind the program's name; none: they ask for nothing
+/// Reads the words of the command line, those after the program's name; none: they ask for nothing
 /// that there is.
 ///
 /// They are `info ROM`, `run ROM --cycles N` with `--in P`, `--load S`, `--save S`, `--frames F`,
@@ -50,7 +50,7 @@ pub fn read_words<'a>(
     }
 }
 
-/// Reads the words behind a verb.
+/// Reads the words after a verb.
 fn read_behind<'a>(
     alloc: Global,
     verb: Verb,

@@ -1,4 +1,4 @@
--- What the outputs hold behind appends.
+-- What the outputs hold after appends.
 use Rattle.std.proofs.Common.{◌≡◌, ℕ, List, [], ◌++◌, Option, Some, None, refl, sym, ap, subst, ◌∙◌, append-nil, append_assoc}
 use Rattle.std.specs.Prelude.{IsSome}
 use Rattle.md_outer.specs.Outside.{Files, IsPrefix, bytes_of, with_file}
@@ -47,7 +47,7 @@ lengthened-assoc held more rest = λ i. record {
   state = append_assoc held.state more.state rest.state i;
 }
 
--- a second piece behind one that was appended
+-- a second piece after one that was appended
 pub adds-on : (run : Run) (old mid new : Files) (more rest : Pieces) → Adds run old mid more → Adds run mid new rest → Adds run old new (lengthened more rest)
 adds-on run old mid new more rest one two first held holds =
     subst (Holds run first new) (lengthened-assoc held more rest) (two first (lengthened held more) (one first held holds))
@@ -59,7 +59,7 @@ parts-on run old mid new more rest one two first held holds =
 front-longer : (more rest : Pieces) → AreFront more (lengthened more rest)
 front-longer more rest = record { frames = prefix-front more.frames rest.frames; sound = prefix-front more.sound rest.sound; journal = prefix-front more.journal rest.journal; state = prefix-front more.state rest.state }
 
--- no second piece behind a part of one
+-- no second piece after a part of one
 pub parts-stop : (run : Run) (old new : Files) (more rest : Pieces) → AddsParts run old new more → AddsParts run old new (lengthened more rest)
 parts-stop run old new more rest one first held holds =
     subst (LeavesParts run first new) (lengthened-assoc held more rest)

@@ -34,7 +34,7 @@ module _ (told : Type 0) (words : Assembling) (old new : DepotState) where
   asm_says Memory cause = tt
   asm_says _ cause = absurd cause
 
-  -- without a fault the ending is the right one, or memory is wanting
+  -- without a fault the ending is the right one, or memory runs out
   as_right : (ends : Comes) → (ends ≡ files.right_ending (old.files words.source)) ⊎ (ends ≡ comes.NoMemory)
       → (status_of (as_ending ends) ≡ status_of (asm_ending words old.files)) ⊎ (status_of (as_ending ends) ≡ 10)
   as_right ends (inl is) = inl (ap (λ (c : Comes). status_of (as_ending c)) is)

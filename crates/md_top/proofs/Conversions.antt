@@ -33,7 +33,7 @@ module _ (told : Type 0) (conversion : Conversion) (old new : DepotState) where
   convert_says Memory cause = tt
   convert_says _ cause = absurd cause
 
-  -- without a fault the ending is the right one, or memory is wanting
+  -- without a fault the ending is the right one, or memory runs out
   as_right : (outcome : Outcome) (comes : Comes) → (comes ≡ files.right_ending (old.files conversion.input) outcome) ⊎ (comes ≡ converted.NoMemory)
       → (status_of (as_ending comes) ≡ status_of (convert_ending conversion old.files outcome)) ⊎ (status_of (as_ending comes) ≡ 10)
   as_right outcome comes (inl is) = inl (ap (λ (c : Comes). status_of (as_ending c)) is)

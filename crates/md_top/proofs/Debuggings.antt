@@ -33,7 +33,7 @@ debug_says told words old new other cause = cart_says told (Debug words) words.r
 
 -- ---- without a fault
 
--- what a session comes to hangs on what its script comes to, or not
+-- what a session results in depends on what its script results in, or not
 abbrev pub IsDebugRight : Debugging → Files → ℕ → Type 0
 IsDebugRight words files status =
     (script : Scripted)
@@ -130,7 +130,7 @@ debug_done told words old new other ready cause whole clean t = cart_there told 
 
 -- ---- what was fetched
 
--- why a session ends behind its cartridge
+-- why a session ends after its cartridge
 played_files : (told : Type 0) (words : Debugging) (files : Files) (cart script : List ℕ) (P : List ℕ → List ℕ → Type 0)
     → (told → IsAccepted (files words.rom) × (cart ≡ cart_of words.rom files)) → (told → files words.script ≡ Some script) → length script ≤ script_limit → P cart script
     → told → IsAccepted (files words.rom) × IsSomeAnd (files words.script) (λ s. (length s ≤ script_limit) × P (cart_of words.rom files) s)

@@ -36,7 +36,7 @@ have-none start hashers is laws small frames samples journal = record {
   journal = subst (λ (l : List Entry). Holds256 hashers.journal (journal_bytes l)) (sym (no-entries start is laws small)) journal;
 }
 
--- behind a segment
+-- after a segment
 pub have-more : (start : Start) (at to : ℕ) (old new : Hashers) (frames samples journal : List ℕ) → HaveUntil start at old
     → ((bytes : List ℕ) → Holds256 old.frames bytes → Holds256 new.frames (bytes ++ frames))
     → ((bytes : List ℕ) → Holds256 old.samples bytes → Holds256 new.samples (bytes ++ samples))
@@ -98,7 +98,7 @@ pub right_demo_done : (demo : Demo) (files : Files) (verdict : Verdict) (found :
 right_demo_done demo files verdict found outcome end =
     ap status_of (right_demo_near demo files verdict found outcome end.1 ∙ demo_ending_done demo (omega (arith, end.0)))
 
--- the ending is the right one, or memory is wanting
+-- the ending is the right one, or memory runs out
 pub demo_right : (demo : Demo) (files : Files) (verdict : Verdict) (found : Findings) (outcome : Outcome) (ending : Ending) → DemoEnds demo ending
     → (status_of ending ≡ status_of (right_ending (Some (RunDemo demo)) files verdict found outcome)) ⊎ (status_of ending ≡ 10)
 demo_right demo files verdict found outcome TooFar ends = inl (sym (ap status_of (right_demo_far demo files verdict found outcome ends)))

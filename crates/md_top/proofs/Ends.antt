@@ -64,7 +64,7 @@ segment-parts run start first old new at to more from laws within small is adds 
     (subst (LeavesParts run first new) is (adds first (pieces_until start run.cycles at) holds))
     (pieces-front start run.cycles to from laws small within)
 
--- the state behind the last segment
+-- the state after the last segment
 with-state : (start : Start) (end : ℕ) (state : List ℕ) → state ≡ state_to start end → lengthened (pieces_until start end end) (record nothing { state = state }) ≡ pieces_of start end
 with-state start end state is = λ i. record {
   frames = append-nil (frames_to start end) i;

@@ -15,21 +15,21 @@ use Rattle.md_top.specs.declared.ending.Ending.{Ending}
 use Rattle.md_top.specs.declared.ending.Ending.TheVariants.{Shown, Done, ReadFault, WriteFault, RecordingWrong, StateWrong, OtherCart, Behind, Memory, TooFar, TooLong}
 use Rattle.md_top.proofs.Right.{IsRunRight, cart_always, cart_right, load_right_with, recording_always, recording_right, right_accepted, right_behind, right_behind_cart, right_done, right_far, right_load, right_near, right_with, right_without, state_judged}
 
--- the ending is the right one, or memory is wanting
+-- the ending is the right one, or memory runs out
 pub info_right : (told : Type 0) (rom : List ℕ) (old new : DepotState) (verdict : Verdict) (found : Findings) (outcome : Outcome) (ending : Ending) → InfoEnds told rom old new ending
     → ¬ Rose old.read_faults new.read_faults → told → (status_of ending ≡ status_of (right_ending (Some (Info rom)) old.files verdict found outcome)) ⊎ (status_of ending ≡ 10)
 info_right told rom old new verdict found outcome (Shown lines) cause clean t =
     inl (sym (ap status_of (right_accepted (old.files rom) (Shown (header_lines (cart_of rom old.files))) (cause t).0)))
 info_right told rom old new verdict found outcome other cause clean t = cart_right told rom old new (Shown (header_lines (cart_of rom old.files))) other cause clean t
 
--- behind the cartridge's file
+-- after the cartridge's file
 run_near : (run : Run) (files : Files) (verdict : Verdict) (state : StateVerdict) (ending : Ending) → run.cycles ≤ last_cycle
     → (status_of ending ≡ status_of (file_ending (files run.rom) (accepted_ending run files verdict state))) ⊎ (status_of ending ≡ 10)
     → (status_of ending ≡ status_of (asked_ending run files verdict state)) ⊎ (status_of ending ≡ 10)
 run_near run files verdict state ending near (inl is) = inl (is ∙ sym (ap status_of (right_near run files verdict state near)))
 run_near run files verdict state ending near (inr memory) = inr memory
 
--- behind the recording's file
+-- after the recording's file
 run_recorded : (told : Type 0) (run : Run) (old new : DepotState) (verdict : Verdict) (state : StateVerdict) (ending : Ending) → run.cycles ≤ last_cycle → IsAccepted (old.files run.rom)
     → RecordingCause told run.recording old new ending → IsJudged run.recording old.files verdict → ¬ Rose old.read_faults new.read_faults → told
     → (status_of ending ≡ status_of (asked_ending run old.files verdict state)) ⊎ (status_of ending ≡ 10)
@@ -64,7 +64,7 @@ run_right told run old new verdict state Memory cause is judged reads writes t =
 run_right told run old new verdict state other cause is judged reads writes t =
     run_near run old.files verdict state other cause.0 (cart_right told run.rom old new (accepted_ending run old.files verdict state) other cause.1 reads t)
 
--- the same, with the verdict on its saved state that it hangs on
+-- the same, with the verdict on its saved state that it depends on
 run_recorded_with : (told : Type 0) (run : Run) (old new : DepotState) (verdict : Verdict) (ending : Ending) → run.cycles ≤ last_cycle → IsAccepted (old.files run.rom)
     → RecordingCause told run.recording old new ending → IsJudged run.recording old.files verdict → ¬ Rose old.read_faults new.read_faults → told
     → IsRunRight run old.files verdict (status_of ending) ⊎ (status_of ending ≡ 10)

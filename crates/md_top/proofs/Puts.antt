@@ -1,4 +1,4 @@
--- Texts that are put one behind the other.
+-- Texts that are put one after the other.
 use Rattle.std.proofs.Common.{◌≡◌, ℕ, ◌≤◌, List, [], ◌++◌, Result, Ok, Err, Option, ◌⊎◌, inl, inr, ap, ◌∙◌, sym, subst, append_assoc, arith}
 use Rattle.std.specs.Prelude.{OnErr, OnOk}
 use Rattle.md_top.specs.Answers.{PutsAll, PutsEnding, PutsLine, PutsPart, Reports}
@@ -18,7 +18,7 @@ prefix_longer front first second (rest, is) = (rest ++ second, sym (append_assoc
 pub rose_later : (before mid now : ℕ) → before ≤ mid → Rose mid now → Rose before now
 rose_later before mid now later rose = omega arith
 
--- a second text behind one that was put
+-- a second text after one that was put
 pub puts_on : {E F : Type 0} (told : Type 0) (first second : List ℕ) (old mid new : SinkState) (result : Result (Unit {0}) F)
     → PutsText {E = E} told first old mid (Ok tt) → PutsText told second mid new result → PutsText told (first ++ second) old new result
 puts_on told first second old mid new (Ok done) one two = puts_more told first second old mid new one two
@@ -33,7 +33,7 @@ puts_on told first second old mid new (Err fault) one two = record {
   );
 }
 
--- no second text behind one that failed
+-- no second text after one that failed
 pub puts_stop : {E F : Type 0} (told : Type 0) (first second : List ℕ) (old new : SinkState) (e : E) (f : F)
     → PutsText told first old new (Err e) → PutsText told (first ++ second) old new (Err f)
 puts_stop told first second old new e f one = record {

@@ -1,4 +1,4 @@
--- The ending where neither a fault nor want of memory comes between.
+-- The ending where no fault comes between and memory suffices.
 use Rattle.std.proofs.Common.{◌≡◌, ◌⊎◌, inl, inr, ℕ, ◌<◌, ◌≤◌, Bool, true, false, cond, List, [], length, Option, Some, None, refl, sym, ap, ap₂, subst, ◌∙◌, arith}
 use Rattle.std.specs.Prelude.{IsSomeAnd, nat_le, nat_lt, unwrap_or}
 use Rattle.std.proofs.lemmas.Bool.{le-ltb, lt-ltb, le-leb, lt-leb}
@@ -56,7 +56,7 @@ right_refused (Some bytes) rest why (within, is) =
 right_missing : (file : Option (List ℕ)) (rest : Ending) → file ≡ None → file_ending file rest ≡ ReadFault First
 right_missing file rest missing = ap (λ (file : Option (List ℕ)). file_ending file rest) missing
 
--- without a fault the ending is the right one, or memory is wanting
+-- without a fault the ending is the right one, or memory runs out
 pub cart_right : (told : Type 0) (rom : List ℕ) (old new : DepotState) (rest ending : Ending) → CartCause told rom old new ending
     → ¬ Rose old.read_faults new.read_faults → told → (status_of ending ≡ status_of (file_ending (old.files rom) rest)) ⊎ (status_of ending ≡ 10)
 cart_right told rom old new rest (ReadFault First) (inl rose) clean t = absurd (clean rose)
@@ -191,12 +191,12 @@ pub right_behind_cart : (run : Run) (files : Files) (verdict : Verdict) (state :
     → asked_ending run files verdict state ≡ accepted_ending run files verdict state
 right_behind_cart run files verdict state near accepted = right_near run files verdict state near ∙ right_accepted (files run.rom) (accepted_ending run files verdict state) accepted
 
--- behind both inputs: they are those that the verdict on the recording tells
+-- after both inputs: they are those that the verdict on the recording tells
 inputs_same : (run : Run) (files : Files) (verdict : Verdict) (inputs : Inputs) → AreInputs run files inputs → IsJudged run.recording files verdict
     → inputs ≡ inputs_by run files verdict
 inputs_same run files verdict inputs are is = λ i. record { cart = are.cart i; recording = recording_same run.recording files verdict inputs.recording are.recording is i; pal = are.pal i }
 
--- behind both inputs
+-- after both inputs
 right_inputs : (run : Run) (files : Files) (verdict : Verdict) (state : StateVerdict) (inputs : Inputs) → run.cycles ≤ last_cycle → AreInputs run files inputs
     → IsJudged run.recording files verdict → asked_ending run files verdict state ≡ loaded_ending run.load files state inputs run.cycles
 right_inputs run files verdict state inputs near are is =
@@ -264,7 +264,7 @@ state_judged run files verdict inputs start are is begins =
 
 -- THE SAVED STATE'S PART IN THE ENDING
 
--- what a run comes to hangs on a verdict on its saved state, or on none
+-- what a run results in depends on a verdict on its saved state, or on none
 abbrev pub IsRunRight : Run → Files → Verdict → ℕ → Type 0
 IsRunRight run files verdict status =
     (state : StateVerdict)
@@ -283,7 +283,7 @@ pub right_with : (run : Run) (files : Files) (verdict : Verdict) (state : StateV
 right_with run files verdict state status judged (inl is) = inl (state, inl judged, is)
 right_with run files verdict state status judged (inr memory) = inr memory
 
--- a cartridge that is refused is so whatever stands behind it
+-- a cartridge that is refused is so whatever comes after it
 pub cart_always : (told : Type 0) (rom : List ℕ) (old new : DepotState) (ending : Ending) → CartCause told rom old new ending → ¬ Rose old.read_faults new.read_faults → told
     → ((right : Ending) × ((rest : Ending) → file_ending (old.files rom) rest ≡ right) × (status_of ending ≡ status_of right)) ⊎ (status_of ending ≡ 10)
 cart_always told rom old new (ReadFault First) (inl rose) clean t = absurd (clean rose)
@@ -355,7 +355,7 @@ found_judged : (told : Type 0) (load : Option (List ℕ)) (inputs : Inputs) (fil
 found_judged told None inputs files verdict cause t = tt
 found_judged told (Some name) inputs files verdict cause t = file_state (files name) inputs verdict (cause t)
 
--- why a run has no machine, with the verdict on its saved state that this hangs on
+-- why a run has no machine, with the verdict on its saved state that this depends on
 pub load_right_with : (told : Type 0) (run : Run) (old new : DepotState) (verdict : Verdict) (ending : Ending) → run.cycles ≤ last_cycle
     → LoadCause told run old new ending → IsJudged run.recording old.files verdict → ¬ Rose old.read_faults new.read_faults → told
     → IsRunRight run old.files verdict (status_of ending) ⊎ (status_of ending ≡ 10)

@@ -31,7 +31,7 @@ roll_says told words old new other cause = cart_says told (Rollback words) words
 
 -- ---- without a fault
 
--- what a session comes to hangs on what its lines come to, or not
+-- what a session results in depends on what its lines result in, or not
 abbrev pub IsRollRight : Rolling → Files → ℕ → Type 0
 IsRollRight words files status =
     (outcome : Comes)
@@ -117,7 +117,7 @@ roll_done told words old new other ready cause clean t = cart_there told words.r
 
 -- ---- what was fetched
 
--- why a session ends behind its cartridge
+-- why a session ends after its cartridge
 pub rolled_cause : (told : Type 0) (words : Rolling) (old new : DepotState) (cart inputs : List ℕ) (outcome : Comes)
     → (told → IsAccepted (old.files words.rom) × (cart ≡ cart_of words.rom old.files)) → (told → old.files words.inputs ≡ Some inputs) → length inputs ≤ inputs_limit
     → ComesTo cart words.window inputs outcome → RollEnds told words old new (comes_ending outcome)

@@ -110,7 +110,7 @@ leaves_other run old new _ leaves name apart = ap (λ (files : Files). files nam
 is_asked : (command : Command) → Some command ≡ None → ⊥
 is_asked command same = cc
 
--- a command line that asks for nothing, or for which memory was wanting
+-- a command line that asks for nothing, or out of memory for it
 pub none_causes : (told : Type 0) (old : DepotState) (out out' : SinkState) (status : ℕ) → (status ≡ 2) ⊎ (status ≡ 10) → Causes told None old old out out' status
 none_causes told old out out' status (inl two) = record {
   usage = λ is. refl;

@@ -1,4 +1,4 @@
--- What the outputs hold behind a begin and an append.
+-- What the outputs hold after a begin and an append.
 use Rattle.std.proofs.Common.{◌≡◌, ℕ, true, false, List, [], ◌++◌, Option, Some, None, refl, sym, ap, subst, ◌∙◌, append-nil, append_assoc}
 use Rattle.std.specs.Prelude.{IsSome}
 use Rattle.std.specs.Str.{bytes_eq}
@@ -46,7 +46,7 @@ pub record Apart (run : Run) : Type 0 where
   pub sound_save : differ run.sound run.save ≡ true
   pub journal_save : differ run.journal run.save ≡ true
 
--- no bytes behind bytes
+-- no bytes after bytes
 pub no-longer : (held : Pieces) → lengthened held nothing ≡ held
 no-longer held = λ i. record {
   frames = append-nil held.frames i;
@@ -173,7 +173,7 @@ only-front Save part piece is = record { frames = ([], refl); sound = ([], refl)
 only-front Target part piece is = nothing-front nothing
 only-front Listing part piece is = nothing-front nothing
 
--- behind the same bytes
+-- after the same bytes
 pub front-behind : (held part whole : Pieces) → AreFront part whole → AreFront (lengthened held part) (lengthened held whole)
 front-behind held part whole front = record {
   frames = prefix-append held.frames part.frames whole.frames front.frames;

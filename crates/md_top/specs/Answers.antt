@@ -23,7 +23,7 @@ use Rattle.md_top.specs.Texts.{text_of}
 use Rattle.md_top.specs.declared.ending.Ending.{Ending}
 use Rattle.md_top.specs.declared.ending.Ending.TheVariants.{Played, ReplyFault}
 
--- the text was put, where the sink tells it
+-- the text was put, where the sink's bytes are observable
 pub record PutsAll (told : Type 0) (text : List ℕ) (old new : SinkState) : Type 0 where
   pub later : old.faults ≤ new.faults
   pub bytes : told → new.bytes ≡ old.bytes ++ text
@@ -55,7 +55,7 @@ PutsEnding told command Played old new result = (result ≡ Ok tt) × (new ≡ o
 PutsEnding told command ReplyFault old new result = (result ≡ Ok tt) × (new ≡ old)
 PutsEnding told command ending old new result = PutsText told (text_of command ending) old new result
 
--- The answer as a whole: some ending has its cause, has left the files so, and was reported behind what was shown
+-- The answer as a whole: some ending has its cause, has left the files so, and was reported after what was shown
 -- before it.
 pub record Answers (depot_told sink_told : Type 0) (command : Option Command) (old new : DepotState) (out out' : SinkState) (status : ℕ) : Type 0 where
   pub ending : Ending
@@ -120,11 +120,11 @@ pub record Causes (depot_told : Type 0) (command : Option Command) (old new : De
   pub line_refused : status ≡ 18 → IsSomeAnd (option_and_then rolling_in command) (λ words. IsRefusedLine depot_told words old.files)
   pub write_fault : status ≡ 4 → Rose old.write_faults new.write_faults
   pub out_fault : status ≡ 13 → Rose out.faults out'.faults
-  -- each refusal comes exactly where it should, in this order; want of memory may come between
+  -- each refusal comes exactly where it should, in this order; out of memory may come between
   pub exact : NoFaults old new out out' → depot_told → (verdict : Verdict) → IsJudged (option_and_then recording_in command) old.files verdict
       → (outcome : Outcome) → IsInputOutcome (option_and_then conversion_in command) old.files outcome
       → IsRight command old.files verdict outcome status ⊎ (status ≡ 10)
-  -- where nothing is wrong the command ends well, or memory is wanting
+  -- where nothing is wrong the command ends well, or memory runs out
   pub complete : NoFaults old new out out' → depot_told → IsSomeAnd command (λ asked. IsReady asked old.files) → (status ≡ 0) ⊎ (status ≡ 10)
   -- no file but the outputs changes
   pub others : depot_told → IfSome command (λ asked. (name : List ℕ) → ((which : Output) → output_of asked which ≢ Some name) → new.files name ≡ old.files name)

@@ -53,7 +53,7 @@ AsmFiles words old new ending = new ≡ old
 abbrev pub CanAssemble : Assembling → Files → Type 0
 CanAssemble words held = (image : List ℕ) × (lines : List Placed) × IsFound (held words.source) (assembly.Done image lines)
 
--- what an assembly comes to, as its ending
+-- what an assembly results in, as its ending
 abbrev pub as_ending : Comes → Ending
 as_ending (comes.Made size) = Converted size
 as_ending comes.Unread = ReadFault First
@@ -63,7 +63,7 @@ as_ending comes.Unwritten = WriteFault Target
 as_ending comes.Unlisted = WriteFault Listing
 as_ending comes.NoMemory = Memory
 
--- the ending where neither a fault nor want of memory comes between
+-- the ending where no fault comes between and memory suffices
 abbrev pub asm_ending : Assembling → Files → Ending
 asm_ending words held = as_ending (files.right_ending (held words.source))
 

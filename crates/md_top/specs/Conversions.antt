@@ -41,7 +41,7 @@ ConvertFiles conversion old new ending = new ≡ old
 abbrev pub CanConvert : Conversion → Files → Type 0
 CanConvert conversion held = (made : List ℕ) × IsMadeOf conversion (held conversion.input) made
 
--- what a conversion comes to, as its ending
+-- what a conversion results in, as its ending
 abbrev pub as_ending : Comes → Ending
 as_ending (converted.Made size) = Converted size
 as_ending converted.Unread = ReadFault First
@@ -50,11 +50,11 @@ as_ending (converted.Refused fault) = InputRefused fault
 as_ending converted.Unwritten = WriteFault Target
 as_ending converted.NoMemory = Memory
 
--- the ending where neither a fault nor want of memory comes between, with this outcome of the input
+-- the ending where no fault comes between and memory suffices, with this outcome of the input
 abbrev pub convert_ending : Conversion → Files → Outcome → Ending
 convert_ending conversion held outcome = as_ending (files.right_ending (held conversion.input) outcome)
 
--- the input of a conversion comes to this, if one is asked for
+-- the input of a conversion results in this, if one is asked for
 abbrev pub IsInputOutcome : Option Conversion → Files → Outcome → Type 0
 IsInputOutcome None held outcome = Unit {0}
 IsInputOutcome (Some conversion) held outcome = IsOutcome conversion (bytes_of held conversion.input) outcome

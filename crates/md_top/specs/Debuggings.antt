@@ -28,13 +28,13 @@ fault_text NoMemory = codes ": memory\n"
 abbrev pub script_line : ℕ → DebugFault → List ℕ
 script_line line fault = (codes "refused: script line " ++ decimal line) ++ fault_text fault
 
--- what a script comes to, as an ending
+-- what a script results in, as an ending
 abbrev pub played_ending : ScriptEnding → Ending
 played_ending Obeyed = Played
 played_ending (Refused line fault) = ScriptRefused line fault
 played_ending OutOfMemory = ScriptMemory
 
--- the cartridge is accepted and the script held, within its limit; its lines come to these replies and this ending
+-- the cartridge is accepted and the script held, within its limit; its lines result in these replies and this ending
 abbrev pub IsPlayed : Debugging → Files → List ℕ → ScriptEnding → Type 0
 IsPlayed words held replies ending =
     IsAccepted (held words.rom) × IsSomeAnd (held words.script) (λ script. (length script ≤ script_limit) × PlaysScript (cart_of words.rom held) script replies ending)
@@ -54,7 +54,7 @@ ShowsReplies told sink words held ScriptMemory out out' = (replies : List ℕ) �
 ShowsReplies told sink words held ReplyFault out out' = (replies : List ℕ) × (told → IsStopped sink words held out out') × FailsWithin sink replies out out'
 ShowsReplies told sink words held ending out out' = out' ≡ out
 
--- Why a session ends. Each cause says that the earlier ones do not stand.
+-- Why a session ends. Each cause says that none of the earlier ones holds.
 abbrev pub DebugEnds : Type 0 → Debugging → DepotState → DepotState → Ending → Type 0
 DebugEnds told words old new Played = (replies : List ℕ) × (told → IsPlayed words old.files replies Obeyed)
 DebugEnds told words old new (ScriptRefused line fault) = (replies : List ℕ) × (told → IsPlayed words old.files replies (Refused line fault))
@@ -73,12 +73,12 @@ CanDebug words held = (replies : List ℕ) × IsPlayed words held replies Obeyed
 abbrev pub IsRefusedScript : Type 0 → Debugging → Files → Type 0
 IsRefusedScript told words held = (replies : List ℕ) × (line : ℕ) × (fault : DebugFault) × (told → IsPlayed words held replies (Refused line fault))
 
--- what the lines of a script come to: the replies and the ending
+-- what the lines of a script result in: the replies and the ending
 pub record Scripted : Type 0 where
   pub replies : List ℕ
   pub ending : ScriptEnding
 
--- the lines of the script of a session come to this, if one is asked for, with memory for all of them
+-- the lines of the script of a session result in this, if one is asked for, with memory for all of them
 abbrev pub IsScripted : Option Debugging → Files → Scripted → Type 0
 IsScripted None held script = Unit {0}
 IsScripted (Some words) held script =

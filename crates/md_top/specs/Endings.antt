@@ -89,8 +89,8 @@ pub record RunsFrom (run : Run) (old new : DepotState) (ending : Ending) : Type 
   pub cause : RunCause start run old new ending
   pub files : RunLeaves start run old.files new.files ending
 
--- Why each may come. What a file holds is spoken of where the depot tells it. Each cause says that
--- the earlier ones do not stand.
+-- Why each may come. What a file holds is spoken of where the depot's contents are observable. Each cause says that
+-- none of the earlier ones holds.
 
 -- why the lines of a header are put, or not
 abbrev pub InfoEnds : Type 0 → List ℕ → DepotState → DepotState → Ending → Type 0
@@ -128,7 +128,7 @@ HasCause told (Some (Assemble words)) old new ending = AsmEnds told words old ne
 HasCause told (Some (Debug words)) old new ending = DebugEnds told words old new ending
 HasCause told (Some (Rollback words)) old new ending = RollEnds told words old new ending
 
--- what the files hold once a run has ended, or was refused; what the outputs hold of a run that began stands with its
+-- what the files hold once a run has ended, or was refused; what the outputs hold of a run that began is said with its
 -- cause
 abbrev pub RunFiles : Run → Files → Files → Ending → Type 0
 RunFiles run old new (Done from frames accesses halted) = LeavesOthers run old new

@@ -13,8 +13,8 @@ use Rattle.md_top.specs.declared.ending.Ending.{Ending}
 use Rattle.md_top.specs.declared.ending.Ending.TheVariants.{ReadFault, Short, NoMark, RecordingWrong, Memory, TooLong}
 use Rattle.md_top.specs.declared.inputs.Inputs.{Inputs}
 
--- Why each ending may come. What a file holds is spoken of where the depot tells it. Each cause says
--- that the earlier ones do not stand.
+-- Why each ending may come. What a file holds is spoken of where the depot's contents are observable. Each cause says
+-- that none of the earlier ones holds.
 
 -- the file of this name could not be read: a count of faults rose, or the depot tells its contents and holds no such file
 abbrev pub IsUnread : Type 0 → List ℕ → DepotState → DepotState → Type 0
@@ -38,7 +38,7 @@ IsAccepted file = IsSomeAnd file (λ bytes. (length bytes ≤ cart_limit) × (fa
 abbrev pub cart_of : List ℕ → Files → List ℕ
 cart_of rom files = image (bytes_of files rom)
 
--- what a command comes to whose cartridge is not accepted
+-- what a command results in whose cartridge is not accepted
 abbrev pub refusal_of : CartFault → Ending
 refusal_of fault.Short = Short
 refusal_of fault.Long = TooLong First

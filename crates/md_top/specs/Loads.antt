@@ -68,7 +68,7 @@ abbrev pub IsLoadFound : Type 0 → Run → Files → StateVerdict → Type 0
 IsLoadFound told run files verdict =
     (inputs : Inputs) × (told → AreInputs run files inputs) × IsSomeAnd run.load (λ name. told → IsFoundIn (files name) inputs verdict)
 
--- the frames of a recording by a verdict on it: none, if none is named or it goes wrong
+-- the frames of a recording by a verdict on it: none, if none is named or it is invalid
 abbrev pub recording_by : Option (List ℕ) → Verdict → Recorded
 recording_by (Some name) (Spelled recording) = recording
 recording_by name verdict = no_frames

@@ -29,7 +29,7 @@ only Save piece = record nothing { state = piece }
 only Target piece = nothing
 only Listing piece = nothing
 
--- bytes, and behind them more
+-- bytes, and after them more
 abbrev pub lengthened : Pieces → Pieces → Pieces
 lengthened held more = record {
   frames = held.frames ++ more.frames;
@@ -89,7 +89,7 @@ abbrev pub IsWriteFault : Run → DepotState → DepotState → Ending → Type 
 IsWriteFault run old new (WriteFault which) = IsSome (run_output run which) × Rose old.write_faults new.write_faults
 IsWriteFault run old new ending = ⊥
 
--- or memory was wanting
+-- or out of memory
 abbrev pub IsUnwritten : Run → DepotState → DepotState → Ending → Type 0
 IsUnwritten run old new Memory = Unit {0}
 IsUnwritten run old new ending = IsWriteFault run old new ending
@@ -112,10 +112,10 @@ number_in outputs Listing = None
 abbrev pub AreBegun : Run → (ℕ → Option (List ℕ)) → Outputs → Type 0
 AreBegun run begun outputs = (which : Output) → IsBegun begun (number_in outputs which) (run_output run which)
 
--- whatever the outputs held before, they hold these pieces behind it
+-- whatever the outputs held before, they hold these pieces after it
 abbrev pub Adds : Run → Files → Files → Pieces → Type 0
 Adds run old new more = (first : Files) (held : Pieces) → Holds run first old held → Holds run first new (lengthened held more)
 
--- whatever they held before, they hold that and parts of these pieces behind it
+-- whatever they held before, they hold that and parts of these pieces after it
 abbrev pub AddsParts : Run → Files → Files → Pieces → Type 0
 AddsParts run old new more = (first : Files) (held : Pieces) → Holds run first old held → LeavesParts run first new (lengthened held more)

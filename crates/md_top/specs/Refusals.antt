@@ -1,4 +1,4 @@
--- The ending where neither a fault nor out of memory comes between: the refusals in their order.
+-- The ending where no fault comes between and memory suffices: the refusals in their order.
 use Rattle.std.specs.Prelude.{ℕ, nat_le, nat_lt, if◌then◌else◌, List, length, Option, Some, None}
 use Rattle.rom_header.specs.Cartridge.{fault_of}
 use Rattle.rom_header.specs.Header.{header_lines}
@@ -24,27 +24,27 @@ use Rattle.md_top.specs.declared.ending.Ending.{Ending}
 use Rattle.md_top.specs.declared.ending.Ending.TheVariants.{Shown, Done, DemoDone, Usage, ReadFault, RecordingWrong, StateWrong, OtherCart, Behind, TooFar, TooLong}
 use Rattle.md_top.specs.declared.inputs.Inputs.{Inputs}
 
--- behind the bytes of the cartridge's file; `accepted` is the ending where they are accepted
+-- after the bytes of the cartridge's file; `accepted` is the ending where they are accepted
 abbrev pub cart_ending : Option CartFault → Ending → Ending
 cart_ending (Some fault) accepted = refusal_of fault
 cart_ending None accepted = accepted
 
--- behind the cartridge's file
+-- after the cartridge's file
 abbrev pub file_ending : Option (List ℕ) → Ending → Ending
 file_ending None accepted = ReadFault First
 file_ending (Some bytes) accepted = if nat_lt cart_limit (length bytes) then TooLong First else cart_ending (fault_of bytes) accepted
 
--- behind the bytes of the recording's file; `ready` is the ending behind what they spell
+-- after the bytes of the recording's file; `ready` is the ending after what they spell
 abbrev pub verdict_ending : Verdict → (Recorded → Ending) → Ending
 verdict_ending (WrongAt place) ready = RecordingWrong place
 verdict_ending (Spelled recording) ready = ready recording
 
--- behind the recording's file
+-- after the recording's file
 abbrev pub recording_ending : Option (List ℕ) → Verdict → (Recorded → Ending) → Ending
 recording_ending None verdict ready = ReadFault Recording
 recording_ending (Some bytes) verdict ready = if nat_lt recording_limit (length bytes) then TooLong Recording else verdict_ending verdict ready
 
--- behind an accepted cartridge, with the recording of this name, if one is named
+-- after an accepted cartridge, with the recording of this name, if one is named
 abbrev pub recorded_ending : Option (List ℕ) → Files → Verdict → (Recorded → Ending) → Ending
 recorded_ending None files verdict ready = ready no_frames
 recorded_ending (Some name) files verdict ready = recording_ending (files name) verdict ready
@@ -54,23 +54,23 @@ abbrev pub run_ending : Start → ℕ → Ending
 run_ending start end =
     if nat_le end start.at then Behind start.at else Done start.at (length (media_from start end).frames) (length (entries_from start end)) (halted_from start end)
 
--- behind a saved state that the verdict is on
+-- after a saved state that the verdict is on
 abbrev pub kept_ending : StateVerdict → ℕ → Ending
 kept_ending (StateWrongAt place) end = StateWrong place
 kept_ending (OfOther kept given) end = OtherCart kept given
 kept_ending (Keeps start) end = run_ending start end
 
--- behind the saved state's file
+-- after the saved state's file
 abbrev pub state_ending : Option (List ℕ) → StateVerdict → ℕ → Ending
 state_ending None state end = ReadFault State
 state_ending (Some bytes) state end = if nat_lt state_limit (length bytes) then TooLong State else kept_ending state end
 
--- behind the inputs of a run, with the saved state of this name, if one is named
+-- after the inputs of a run, with the saved state of this name, if one is named
 abbrev pub loaded_ending : Option (List ℕ) → Files → StateVerdict → Inputs → ℕ → Ending
 loaded_ending None files state inputs end = run_ending (powered_on inputs) end
 loaded_ending (Some name) files state inputs end = state_ending (files name) state end
 
--- behind the accepted cartridge of a run
+-- after the accepted cartridge of a run
 abbrev pub accepted_ending : Run → Files → Verdict → StateVerdict → Ending
 accepted_ending run files verdict state =
     recorded_ending run.recording files verdict
@@ -80,36 +80,36 @@ accepted_ending run files verdict state =
 abbrev pub demo_ending : Demo → Ending
 demo_ending demo = if nat_le demo.cycles 0 then Behind 0 else DemoDone (summary_from (demo_start demo) demo.cycles)
 
--- what a run comes to, with these files and these verdicts on its recording and on its saved state
+-- what a run results in, with these files and these verdicts on its recording and on its saved state
 abbrev pub asked_ending : Run → Files → Verdict → StateVerdict → Ending
 asked_ending run files verdict state =
     if nat_lt last_cycle run.cycles then TooFar else file_ending (files run.rom) (accepted_ending run files verdict state)
 
--- behind the script's file
+-- after the script's file
 abbrev pub script_ending : Option (List ℕ) → Scripted → Ending
 script_ending None script = ReadFault Script
 script_ending (Some bytes) script = if nat_lt script_limit (length bytes) then TooLong Script else played_ending script.ending
 
--- what a session of the debugger comes to, with these files and this outcome of the lines of its script
+-- what a session of the debugger results in, with these files and this outcome of the lines of its script
 abbrev pub debug_ending : Debugging → Files → Scripted → Ending
 debug_ending words files script = file_ending (files words.rom) (script_ending (files words.script) script)
 
--- behind the file of what two players press
+-- after the file of what two players press
 abbrev pub inputs_ending : Option (List ℕ) → Comes → Ending
 inputs_ending None outcome = ReadFault Script
 inputs_ending (Some bytes) outcome = if nat_lt inputs_limit (length bytes) then TooLong Script else comes_ending outcome
 
--- what a session of two players comes to, with these files and this outcome of its lines
+-- what a session of two players results in, with these files and this outcome of its lines
 abbrev pub roll_ending : Rolling → Files → Comes → Ending
 roll_ending words files outcome = file_ending (files words.rom) (inputs_ending (files words.inputs) outcome)
 
--- what is found of a command's inputs: a verdict on its saved state, and what the lines of its script, or of two players, come to
+-- what is found of a command's inputs: a verdict on its saved state, and what the lines of its script, or of two players, result in
 pub record Findings : Type 0 where
   pub state : StateVerdict
   pub script : Scripted
   pub comes : Comes
 
--- what a command line comes to, with these files, this verdict on the recording that it names, what is found of its
+-- what a command line results in, with these files, this verdict on the recording that it names, what is found of its
 -- saved state or its script, and this outcome of the input of the conversion that it asks for
 abbrev pub right_ending : Option Command → Files → Verdict → Findings → Outcome → Ending
 right_ending None files verdict found outcome = Usage

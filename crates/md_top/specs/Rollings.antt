@@ -39,18 +39,18 @@ counts_lines rolled = (codes "frames " ++ decimal rolled.frames ++ codes "\n") +
 abbrev pub rolled_lines : Rolled → List ℕ
 rolled_lines rolled = counts_lines rolled ++ (codes "state sha256 " ++ encode_lower rolled.digest ++ codes "\n")
 
--- what the lines come to, as an ending
+-- what the lines result in, as an ending
 abbrev pub comes_ending : Comes → Ending
 comes_ending (comes.Done rolled) = RolledBack rolled
 comes_ending (comes.Refused line fault) = LineRefused line fault
 comes_ending comes.NoMemory = Memory
 
--- the cartridge is accepted and the file held, within its limit; its lines come to this
+-- the cartridge is accepted and the file held, within its limit; its lines result in this
 abbrev pub IsRolledTo : Rolling → Files → Comes → Type 0
 IsRolledTo words held outcome =
     IsAccepted (held words.rom) × IsSomeAnd (held words.inputs) (λ inputs. (length inputs ≤ inputs_limit) × ComesTo (cart_of words.rom held) words.window inputs outcome)
 
--- Why a session ends. Each cause says that the earlier ones do not stand.
+-- Why a session ends. Each cause says that none of the earlier ones holds.
 abbrev pub RollEnds : Type 0 → Rolling → DepotState → DepotState → Ending → Type 0
 RollEnds told words old new (RolledBack rolled) = told → IsRolledTo words old.files (comes.Done rolled)
 RollEnds told words old new (LineRefused line fault) = told → IsRolledTo words old.files (comes.Refused line fault)
@@ -66,7 +66,7 @@ CanRoll words held = (rolled : Rolled) × IsRolledTo words held (comes.Done roll
 abbrev pub IsRefusedLine : Type 0 → Rolling → Files → Type 0
 IsRefusedLine told words held = (line : ℕ) × (fault : LineFault) × (told → IsRolledTo words held (comes.Refused line fault))
 
--- the lines of a session come to this, if one is asked for, with memory for all of them
+-- the lines of a session result in this, if one is asked for, with memory for all of them
 abbrev pub IsRollFound : Option Rolling → Files → Comes → Type 0
 IsRollFound None held outcome = Unit {0}
 IsRollFound (Some words) held outcome = ComesTo (cart_of words.rom held) words.window (bytes_of held words.inputs) outcome × (outcome ≢ comes.NoMemory)

@@ -24,7 +24,7 @@ use md_outer::{Depot, Gate, Sink};
 use std::sync::Wait;
 use std::thread::Threads;
 
-/// Makes the run that is about to begin, if one is, puts what the words come to, and answers the status that the
+/// Makes the run that is about to begin, if one is, puts what the words result in, and answers the status that the
 /// program ends with. The depot and the sink are those of `prepare`, as that call left them.
 ///
 /// It takes no memory: of a run that is about to begin it never answers 10. Such a run has as many workers as

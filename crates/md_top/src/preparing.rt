@@ -33,7 +33,7 @@ use std::alloc::Global;
 /// The words are those of `drive`. Here a run reads its files, is refused where it has to be, and begins its
 /// outputs, which changes no other file and leaves each output empty or as it was. All that another command asks
 /// for is done here: a session of the debugger puts its replies into `out`, and nothing else is put. What a command
-/// comes to is put by `finish`.
+/// results in is put by `finish`.
 pub fn prepare<'a, D: Depot, S: Sink>(
     alloc: Global,
     words: &'a Vec<String>,

@@ -166,7 +166,7 @@ fn run_segment<F: Fn(&mut Machine, u64), D: Depot>(
 }
 
 /// Runs from its start to the end in as few segments as reach it, appends what each makes, and saves
-/// the state that it comes to, if it is asked for.
+/// the state that it results in, if it is asked for.
 fn run_on<F: Fn(&mut Machine, u64), D: Depot>(
     go_on: &F,
     run: &RunWords<'_>,
