@@ -63,7 +63,7 @@ impl<'a> CommandWords<'a> {
         }
     }
 
-    /// The cycle of the run's end, and 0 where none is asked for.
+    /// The master cycle of the run's end, and 0 where no run is asked for.
     pub fn end(&self) -> u64
         ensures { result ≡ end_of (shown_command self.now) }
     {

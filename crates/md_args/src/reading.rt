@@ -23,8 +23,8 @@ use crate::verb::Verb;
 use clap::ArgMatches;
 use std::alloc::{AllocError, Global};
 
-/// Reads the words of the command line, those after the program's name; none: they ask for nothing
-/// that there is.
+/// Reads the words of the command line, those after the program's name. It is None where they ask for nothing that
+/// there is, and fails only where memory runs out.
 ///
 /// They are `info ROM`, `run ROM --cycles N` with `--in P`, `--load S`, `--save S`, `--frames F`,
 /// `--sound W`, `--journal J`, `--workers K` and, where no `--load` is, `--pal` where they are wanted,

@@ -7,7 +7,7 @@ ghost use Rattle.md_args.specs.Words.{differ};
 pub struct RunWords<'a> {
     /// The cartridge's name.
     pub rom: &'a str,
-    /// The cycle of the run's end.
+    /// The master cycle of the run's end, any number below 2^64.
     pub cycles: u64,
     /// The recording's name, if one is given.
     pub recording: Option<&'a str>,

@@ -174,8 +174,8 @@ kept_status status of (inr part) (inr memory) = absurd (omega (arith, part.0, me
 -- from it the answers one by one
 module _ (told : Type 0) (command : Command) (old new : DepotState) (out out' : SinkState) (status : ℕ) (ending : Ending) (by : IsOf status ending out out')
     (found : Explained told command old new out out' ending) where
-  at : (n : ℕ) → status ≡ n → (n ≡ 13 → ⊥) → status_of ending ≡ n
-  at n is other = of_ending status ending out out' n by is other
+  as_ending : (n : ℕ) → status ≡ n → (n ≡ 13 → ⊥) → status_of ending ≡ n
+  as_ending n is other = of_ending status ending out out' n by is other
 
   said : (is : Ending) → ending ≡ is → Says told command old new is
   said is same = subst (Says told command old new) same found.says
@@ -195,20 +195,20 @@ module _ (told : Type 0) (command : Command) (old new : DepotState) (out out' : 
 
   causes_by : Causes told (Some command) old new out out' status
   causes_by = record {
-    usage = λ two. absurd (said Usage (is_usage ending (at 2 two (λ is. omega (arith, is)))));
+    usage = λ two. absurd (said Usage (is_usage ending (as_ending 2 two (λ is. omega (arith, is)))));
     refused = λ none. absurd (is_asked command none);
-    too_far = λ eleven. said TooFar (is_far ending (at 11 eleven (λ is. omega (arith, is))));
+    too_far = λ eleven. said TooFar (is_far ending (as_ending 11 eleven (λ is. omega (arith, is))));
     far_refused = λ far. kept_status status (status_of ending) by (found.far far);
-    read_fault = λ three. let is = is_read_fault ending (at 3 three (λ is. omega (arith, is))) in said (ReadFault is.0) is.1;
-    wrong = λ six. let is = is_wrong ending (at 6 six (λ is. omega (arith, is))) in said (RecordingWrong is.0) is.1;
-    state_wrong = λ seven. let is = is_state_wrong ending (at 7 seven (λ is. omega (arith, is))) in said (StateWrong is.0) is.1;
-    other_cart = λ eight. let is = is_other_cart ending (at 8 eight (λ is. omega (arith, is))) in said (OtherCart is.0 is.1) is.2;
-    behind = λ nine. let is = is_behind ending (at 9 nine (λ is. omega (arith, is))) in said (Behind is.0) is.1;
-    input_refused = λ seventeen. let is = is_input_refused ending (at 17 seventeen (λ is. omega (arith, is))) in said (InputRefused is.0) is.1;
-    source_refused = λ sixteen. let is = is_source_refused ending (at 16 sixteen (λ is. omega (arith, is))) in said (SourceRefused is.0 is.1) is.2;
-    script_refused = λ fifteen. let is = is_script_refused ending (at 15 fifteen (λ is. omega (arith, is))) in said (ScriptRefused is.0 is.1) is.2;
-    line_refused = λ eighteen. let is = is_line_refused ending (at 18 eighteen (λ is. omega (arith, is))) in said (LineRefused is.0 is.1) is.2;
-    write_fault = λ four. let is = is_write_fault ending (at 4 four (λ is. omega (arith, is))) in said (WriteFault is.0) is.1;
+    read_fault = λ three. let is = is_read_fault ending (as_ending 3 three (λ is. omega (arith, is))) in said (ReadFault is.0) is.1;
+    wrong = λ six. let is = is_wrong ending (as_ending 6 six (λ is. omega (arith, is))) in said (RecordingWrong is.0) is.1;
+    state_wrong = λ seven. let is = is_state_wrong ending (as_ending 7 seven (λ is. omega (arith, is))) in said (StateWrong is.0) is.1;
+    other_cart = λ eight. let is = is_other_cart ending (as_ending 8 eight (λ is. omega (arith, is))) in said (OtherCart is.0 is.1) is.2;
+    behind = λ nine. let is = is_behind ending (as_ending 9 nine (λ is. omega (arith, is))) in said (Behind is.0) is.1;
+    input_refused = λ seventeen. let is = is_input_refused ending (as_ending 17 seventeen (λ is. omega (arith, is))) in said (InputRefused is.0) is.1;
+    source_refused = λ sixteen. let is = is_source_refused ending (as_ending 16 sixteen (λ is. omega (arith, is))) in said (SourceRefused is.0 is.1) is.2;
+    script_refused = λ fifteen. let is = is_script_refused ending (as_ending 15 fifteen (λ is. omega (arith, is))) in said (ScriptRefused is.0 is.1) is.2;
+    line_refused = λ eighteen. let is = is_line_refused ending (as_ending 18 eighteen (λ is. omega (arith, is))) in said (LineRefused is.0 is.1) is.2;
+    write_fault = λ four. let is = is_write_fault ending (as_ending 4 four (λ is. omega (arith, is))) in said (WriteFault is.0) is.1;
     out_fault = λ thirteen. failed thirteen;
     exact = λ clean t verdict is outcome known.
         subst (λ (n : ℕ). IsRight (Some command) old.files verdict outcome n ⊎ (n ≡ 10)) (sym (clean_status clean.puts)) (found.right clean t verdict is outcome known);

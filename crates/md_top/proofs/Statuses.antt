@@ -3,6 +3,9 @@ use Rattle.std.proofs.Common.{◌≡◌, ◌⊎◌, inl, inr, ℕ, zero, suc, �
 use Rattle.std.specs.Prelude.{IsSomeAnd, unwrap_or}
 use Rattle.md_outer.specs.Outside.{DepotState, Files, Rose, SinkState, bytes_of}
 use Rattle.md_pads.specs.Recording.{GoesWrongAt, IsSpelled}
+use Rattle.md_debug.specs.declared.fault.DebugFault.{DebugFault}
+use Rattle.md_vgm.specs.declared.fault.VgmFault.{VgmFault}
+use Rattle.md_rollback.specs.declared.line_fault.LineFault.{LineFault}
 use Rattle.state_laws.specs.Verdicts.{OfOther, StateWrongAt}
 use Rattle.md_word.specs.Clock.{last_cycle}
 use Rattle.md_args.specs.Files.{input_of}
@@ -112,7 +115,7 @@ pub is_reply_fault : (ending : Ending) → status_of ending ≡ 13 → ending �
 is_reply_fault ReplyFault is = refl
 is_reply_fault _ is = absurd (omega (arith, is))
 
-pub is_script_refused : (ending : Ending) → status_of ending ≡ 15 → (line : ℕ) × (fault : _) × (ending ≡ ScriptRefused line fault)
+pub is_script_refused : (ending : Ending) → status_of ending ≡ 15 → (line : ℕ) × (fault : DebugFault) × (ending ≡ ScriptRefused line fault)
 is_script_refused (ScriptRefused line fault) is = (line, fault, refl)
 is_script_refused _ is = absurd (omega (arith, is))
 
@@ -120,11 +123,11 @@ pub is_source_refused : (ending : Ending) → status_of ending ≡ 16 → (line 
 is_source_refused (SourceRefused line kind) is = (line, kind, refl)
 is_source_refused _ is = absurd (omega (arith, is))
 
-pub is_input_refused : (ending : Ending) → status_of ending ≡ 17 → (fault : _) × (ending ≡ InputRefused fault)
+pub is_input_refused : (ending : Ending) → status_of ending ≡ 17 → (fault : VgmFault) × (ending ≡ InputRefused fault)
 is_input_refused (InputRefused fault) is = (fault, refl)
 is_input_refused _ is = absurd (omega (arith, is))
 
-pub is_line_refused : (ending : Ending) → status_of ending ≡ 18 → (line : ℕ) × (fault : _) × (ending ≡ LineRefused line fault)
+pub is_line_refused : (ending : Ending) → status_of ending ≡ 18 → (line : ℕ) × (fault : LineFault) × (ending ≡ LineRefused line fault)
 is_line_refused (LineRefused line fault) is = (line, fault, refl)
 is_line_refused _ is = absurd (omega (arith, is))
 
