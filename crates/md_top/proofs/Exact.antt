@@ -13,7 +13,8 @@ use Rattle.md_args.specs.Words.{Info, Run}
 use Rattle.md_args.specs.declared.files.Input.TheVariants.{Recording, State}
 use Rattle.md_top.specs.declared.ending.Ending.{Ending}
 use Rattle.md_top.specs.declared.ending.Ending.TheVariants.{Shown, Done, ReadFault, WriteFault, RecordingWrong, StateWrong, OtherCart, Behind, Memory, TooFar, TooLong}
-use Rattle.md_top.proofs.Right.{IsRunRight, cart_always, cart_right, load_right_with, recording_always, recording_right, right_accepted, right_behind, right_behind_cart, right_done, right_far, right_load, right_near, right_with, right_without, state_judged}
+use Rattle.md_top.proofs.Right.{cart_right, recording_right, right_accepted}
+use Rattle.md_top.proofs.RunsRight.{IsRunRight, cart_always, load_right_with, recording_always, right_behind, right_behind_cart, right_done, right_far, right_load, right_near, right_with, right_without, state_judged}
 
 -- the ending is the right one, or memory runs out
 pub info_right : (told : Type 0) (rom : List ℕ) (old new : DepotState) (verdict : Verdict) (found : Findings) (outcome : Outcome) (ending : Ending) → InfoEnds told rom old new ending

@@ -1,5 +1,5 @@
 -- Texts that are put one after the other.
-use Rattle.std.proofs.Common.{◌≡◌, ℕ, ◌≤◌, List, [], ◌++◌, Result, Ok, Err, Option, ◌⊎◌, inl, inr, ap, ◌∙◌, sym, subst, append_assoc, arith}
+use Rattle.std.proofs.Common.{◌≡◌, ℕ, zero, suc, ◌≤◌, List, ◌++◌, Result, Ok, Err, Option, refl, ◌⊎◌, inl, inr, ap, ◌∙◌, sym, subst, append_assoc, arith}
 use Rattle.std.specs.Prelude.{OnErr, OnOk}
 use Rattle.md_top.specs.Answers.{PutsAll, PutsEnding, PutsLine, PutsPart, Reports}
 use Rattle.md_top.specs.Endings.{failed_status, status_of}
@@ -71,3 +71,8 @@ pub line_of : (told : Type 0) (text : List ℕ) (of : ℕ) (old new : SinkState)
     → PutsAll told text old new ⊎ PutsPart told text old new → PutsLine told text of old new status
 line_of told text of old new status is same (inl whole) = inl (is, whole)
 line_of told text of old new status is same (inr part) = inr (is ∙ same, part)
+
+-- a status other than 0 stays
+pub status_stays : (status : ℕ) → (status ≡ 0 → ⊥) → status ≡ failed_status status
+status_stays zero other = absurd (other refl)
+status_stays (suc n) other = refl

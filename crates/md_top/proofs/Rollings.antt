@@ -18,7 +18,8 @@ use Rattle.md_top.specs.Rollings.{CanRoll, IsRollFound, IsRolledTo, RollEnds, co
 use Rattle.md_top.specs.declared.ending.Ending.{Ending}
 use Rattle.md_top.specs.declared.ending.Ending.TheVariants.{LineRefused, ReadFault, RolledBack, TooLong}
 use Rattle.md_top.proofs.Kept.{unread_before}
-use Rattle.md_top.proofs.Right.{cart_always, cart_there, file_there, file_within, right_accepted}
+use Rattle.md_top.proofs.Right.{right_accepted}
+use Rattle.md_top.proofs.RunsRight.{cart_always, cart_there, file_there, file_within}
 use Rattle.md_top.proofs.Statuses.{Says, cart_says, missing}
 
 -- what the endings of a session say

@@ -4,106 +4,35 @@ use Rattle.std.specs.Prelude.{codes}
 use Rattle.rom_header.specs.Header.{header_lines}
 use Rattle.md_pads.specs.Recording.{no_frames}
 use Rattle.md_outer.specs.Outside.{DepotState, Files, Rose, SinkState}
-use Rattle.md_outer.proofs.WrittenFiles.{with_file-other}
-use Rattle.md_top.specs.Answers.{Answers, AreFindingsRight, Causes, IsRight, NoFaults, PutsAll, PutsPart, Reports, Shows}
+use Rattle.md_top.specs.Answers.{Answers, Causes, IsRight, NoFaults, PutsAll, PutsPart, Reports, Shows}
 use Rattle.md_top.specs.Inputs.{IsJudged, Spelled, Verdict, cart_of}
 use Rattle.md_word.specs.Clock.{last_cycle}
-use Rattle.state_laws.specs.Verdicts.{Keeps, StateWrongAt}
-use Rattle.md_top.specs.Endings.{HasCause, InfoEnds, IsReady, LeavesFiles, RunEnds, RunFiles, status_of}
-use Rattle.md_top.specs.Refusals.{Findings, asked_ending, right_ending}
-use Rattle.md_top.specs.Outputs.{Parts, with_part, written}
+use Rattle.state_laws.specs.Verdicts.{Keeps}
+use Rattle.md_top.specs.Endings.{HasCause, InfoEnds, IsReady, LeavesFiles, RunEnds, status_of}
+use Rattle.md_top.specs.Refusals.{asked_ending, right_ending}
 use Rattle.md_vgm.specs.Outcomes.{Made, Outcome}
-use Rattle.md_args.specs.Files.{input_of, output_of, run_output}
-use Rattle.md_args.specs.Words.{Assemble, Command, Convert, Debug, Debugging, Info, Rollback, Rolling, Run, RunCart, RunDemo, conversion_in, end_of}
+use Rattle.md_args.specs.Files.{input_of, output_of}
+use Rattle.md_args.specs.Words.{Assemble, Command, Convert, Debug, Info, Rollback, RunCart, RunDemo, conversion_in, end_of}
 use Rattle.md_args.specs.declared.files.Input.TheVariants.{Recording}
 use Rattle.md_args.specs.declared.files.Output.{Output}
-use Rattle.md_args.specs.declared.files.Output.TheVariants.{Frames, Journal, Listing, Save, Sound, Target}
+use Rattle.md_args.specs.declared.files.Output.TheVariants.{Listing, Target}
 use Rattle.md_top.specs.Assemblies.{AsmEnds, asm_ending}
 use Rattle.md_top.specs.Conversions.{ConvertEnds, IsInputOutcome, convert_ending}
-use Rattle.md_top.specs.Debuggings.{Scripted}
 use Rattle.md_top.specs.Demos.{DemoEnds}
 use Rattle.md_top.specs.Rollings.{RollEnds}
-use Rattle.md_debug.specs.declared.script.Ending.TheVariants.{Obeyed}
-use Rattle.md_rollback.specs.declared.rolled.Comes.TheVariants as comes
 use Rattle.md_top.specs.declared.ending.Ending.{Ending}
-use Rattle.md_top.specs.declared.ending.Ending.TheVariants.{Shown, Done, Usage, ReadFault, WriteFault, RecordingWrong, StateWrong, OtherCart, Behind, Memory, TooFar, ReplyFault, ScriptRefused, SourceRefused, InputRefused, LineRefused}
+use Rattle.md_top.specs.declared.ending.Ending.TheVariants.{Shown, Usage, ReadFault, WriteFault, RecordingWrong, StateWrong, OtherCart, Behind, Memory, TooFar, ReplyFault, ScriptRefused, SourceRefused, InputRefused, LineRefused}
 use Rattle.md_top.proofs.Assemblies.{asm_done, asm_right, asm_says, assembled_other}
 use Rattle.md_top.proofs.Conversions.{convert_done, convert_right, convert_says, converted_other, made_outcome}
-use Rattle.md_top.proofs.Debuggings.{IsDebugRight, debug_done, debug_right, debug_says}
+use Rattle.md_top.proofs.Debuggings.{debug_done, debug_right, debug_says}
 use Rattle.md_top.proofs.Demos.{demo_far, demo_right, demo_says, right_demo_done}
 use Rattle.md_top.proofs.Puts.{line_of}
-use Rattle.md_top.proofs.Right.{IsRunRight, recording_judged, right_accepted, right_done, state_judged}
-use Rattle.md_top.proofs.Rollings.{IsRollRight, roll_done, roll_right, roll_says}
+use Rattle.md_top.proofs.Right.{right_accepted}
+use Rattle.md_top.proofs.RunsRight.{recording_judged, right_done, state_judged}
+use Rattle.md_top.proofs.Rollings.{roll_done, roll_right, roll_says}
 use Rattle.md_top.proofs.Statuses.{IsOf, Says, info_says, is_behind, is_far, is_input_refused, is_line_refused, is_other_cart, is_read_fault, is_reply_fault, is_script_refused, is_source_refused, is_state_wrong, is_usage, is_write_fault, is_wrong, of_ending, reply_failed, reported, run_far, run_says}
 use Rattle.md_top.proofs.Exact.{info_right, run_right, run_right_with}
-
--- what is found where nothing is looked at
-no_script : Scripted
-no_script = record { replies = []; ending = Obeyed }
-
-none_found : Findings
-none_found = record { state = StateWrongAt 0; script = no_script; comes = comes.NoMemory }
-
--- what a command rests on of what is found: its saved state, its script, its lines, or nothing
-right_run : (run : Run) (files : Files) (verdict : Verdict) (outcome : Outcome) (status : ℕ) → IsRunRight run files verdict status ⊎ (status ≡ 10)
-    → IsRight (Some (RunCart run)) files verdict outcome status ⊎ (status ≡ 10)
-right_run run files verdict outcome status (inl (state, inl judged, is)) =
-    inl (record { state = state; script = no_script; comes = comes.NoMemory }, inl (judged, tt, tt), is)
-right_run run files verdict outcome status (inl (state, inr none, is)) =
-    inl (record { state = state; script = no_script; comes = comes.NoMemory }, inr (λ other. none other.state), is)
-right_run run files verdict outcome status (inr memory) = inr memory
-
-right_script : (words : Debugging) (files : Files) (verdict : Verdict) (outcome : Outcome) (status : ℕ) → IsDebugRight words files status ⊎ (status ≡ 10)
-    → IsRight (Some (Debug words)) files verdict outcome status ⊎ (status ≡ 10)
-right_script words files verdict outcome status (inl (script, inl scripted, is)) =
-    inl (record { state = StateWrongAt 0; script = script; comes = comes.NoMemory }, inl (tt, scripted, tt), is)
-right_script words files verdict outcome status (inl (script, inr none, is)) =
-    inl (record { state = StateWrongAt 0; script = script; comes = comes.NoMemory }, inr (λ other. none other.script), is)
-right_script words files verdict outcome status (inr memory) = inr memory
-
-right_lines : (words : Rolling) (files : Files) (verdict : Verdict) (outcome : Outcome) (status : ℕ) → IsRollRight words files status ⊎ (status ≡ 10)
-    → IsRight (Some (Rollback words)) files verdict outcome status ⊎ (status ≡ 10)
-right_lines words files verdict outcome status (inl (to, inl found, is)) =
-    inl (record { state = StateWrongAt 0; script = no_script; comes = to }, inl (tt, tt, found), is)
-right_lines words files verdict outcome status (inl (to, inr none, is)) =
-    inl (record { state = StateWrongAt 0; script = no_script; comes = to }, inr (λ other. none other.comes), is)
-right_lines words files verdict outcome status (inr memory) = inr memory
-
-right_other : (command : Option Command) (files : Files) (verdict : Verdict) (outcome : Outcome) (status : ℕ) → AreFindingsRight command files verdict outcome none_found
-    → (status ≡ status_of (right_ending command files verdict none_found outcome)) ⊎ (status ≡ 10) → IsRight command files verdict outcome status ⊎ (status ≡ 10)
-right_other command files verdict outcome status is (inl right) = inl (none_found, is, right)
-right_other command files verdict outcome status is (inr memory) = inr memory
-
--- a command with nothing wrong
-ready_ends : (status right : ℕ) → (status ≡ right) ⊎ (status ≡ 10) → right ≡ 0 → (status ≡ 0) ⊎ (status ≡ 10)
-ready_ends status right (inl is) done = inl (is ∙ done)
-ready_ends status right (inr memory) done = inr memory
-
--- no other command puts replies
-no_reply : {P : Type 0} (Ends : Ending → Type 0) (ending : Ending) → Ends ending → (Ends ReplyFault → ⊥) → ending ≡ ReplyFault → P
-no_reply Ends ending cause none is = absurd (none (subst Ends is cause))
-
--- FILES OF OTHER NAMES
-
--- an output leaves the files of other names
-part_other : (files : Files) (output written_bytes : Option (List ℕ)) (name : List ℕ) → output ≢ Some name → with_part files output written_bytes name ≡ files name
-part_other files output None name differ = refl
-part_other files None (Some bytes) name differ = refl
-part_other files (Some output) (Some bytes) name differ = with_file-other files output bytes name (λ same. differ (ap Some same))
-
-written_other : (run : Run) (old : Files) (parts : Parts) (name : List ℕ) → ((which : Output) → run_output run which ≢ Some name) → written run old parts name ≡ old name
-written_other run old parts name apart =
-    part_other (with_part (with_part (with_part old run.frames parts.frames) run.sound parts.sound) run.journal parts.journal) run.save parts.state name (apart Save)
-    ∙ part_other (with_part (with_part old run.frames parts.frames) run.sound parts.sound) run.journal parts.journal name (apart Journal)
-    ∙ part_other (with_part old run.frames parts.frames) run.sound parts.sound name (apart Sound)
-    ∙ part_other old run.frames parts.frames name (apart Frames)
-
-leaves_other : (run : Run) (old new : Files) (ending : Ending) → RunFiles run old new ending → (name : List ℕ) → ((which : Output) → run_output run which ≢ Some name)
-    → new name ≡ old name
-leaves_other run old new (Done from frames accesses halted) (parts, is) name apart = ap (λ (files : Files). files name) is ∙ written_other run old parts name apart
-leaves_other run old new (WriteFault which) (parts, is) name apart = ap (λ (files : Files). files name) is ∙ written_other run old parts name apart
-leaves_other run old new Memory leaves name apart = ap (λ (files : Files). files name) leaves.files ∙ written_other run old leaves.parts name apart
-leaves_other run old new _ leaves name apart = ap (λ (files : Files). files name) leaves
+use Rattle.md_top.proofs.Found.{leaves_other, no_reply, none_found, ready_ends, right_lines, right_other, right_run, right_script}
 
 -- ALL OF THEM
 
@@ -111,44 +40,32 @@ is_asked : (command : Command) → Some command ≡ None → ⊥
 is_asked command same = cc
 
 -- a command line that asks for nothing, or out of memory for it
+neither : (status n : ℕ) → (status ≡ 2) ⊎ (status ≡ 10) → status ≡ n → n ≢ 2 → n ≢ 10 → ⊥
+neither status n (inl two) is not_two not_ten = not_two (sym is ∙ two)
+neither status n (inr ten) is not_two not_ten = not_ten (sym is ∙ ten)
+
+right_none : (files : Files) (verdict : Verdict) (outcome : Outcome) (status : ℕ) → (status ≡ 2) ⊎ (status ≡ 10) → IsRight None files verdict outcome status ⊎ (status ≡ 10)
+right_none files verdict outcome status (inl two) = inl (none_found, inl (tt, tt, tt), two)
+right_none files verdict outcome status (inr ten) = inr ten
+
 pub none_causes : (told : Type 0) (old : DepotState) (out out' : SinkState) (status : ℕ) → (status ≡ 2) ⊎ (status ≡ 10) → Causes told None old old out out' status
-none_causes told old out out' status (inl two) = record {
+none_causes told old out out' status which = record {
   usage = λ is. refl;
-  refused = λ is. inl two;
-  too_far = λ is. absurd (omega (arith, two, is));
+  refused = λ is. which;
+  too_far = λ eleven. neither status 11 which eleven (λ is. omega (arith, is)) (λ is. omega (arith, is));
   far_refused = λ far. absurd far;
-  read_fault = λ is. absurd (omega (arith, two, is));
-  wrong = λ is. absurd (omega (arith, two, is));
-  state_wrong = λ is. absurd (omega (arith, two, is));
-  other_cart = λ is. absurd (omega (arith, two, is));
-  behind = λ is. absurd (omega (arith, two, is));
-  input_refused = λ is. absurd (omega (arith, two, is));
-  source_refused = λ is. absurd (omega (arith, two, is));
-  script_refused = λ is. absurd (omega (arith, two, is));
-  line_refused = λ is. absurd (omega (arith, two, is));
-  write_fault = λ is. absurd (omega (arith, two, is));
-  out_fault = λ is. absurd (omega (arith, two, is));
-  exact = λ clean t verdict is outcome known. inl (none_found, inl (tt, tt, tt), two);
-  complete = λ clean t ready. absurd ready;
-  others = λ t. tt;
-}
-none_causes told old out out' status (inr ten) = record {
-  usage = λ is. refl;
-  refused = λ is. inr ten;
-  too_far = λ is. absurd (omega (arith, ten, is));
-  far_refused = λ far. absurd far;
-  read_fault = λ is. absurd (omega (arith, ten, is));
-  wrong = λ is. absurd (omega (arith, ten, is));
-  state_wrong = λ is. absurd (omega (arith, ten, is));
-  other_cart = λ is. absurd (omega (arith, ten, is));
-  behind = λ is. absurd (omega (arith, ten, is));
-  input_refused = λ is. absurd (omega (arith, ten, is));
-  source_refused = λ is. absurd (omega (arith, ten, is));
-  script_refused = λ is. absurd (omega (arith, ten, is));
-  line_refused = λ is. absurd (omega (arith, ten, is));
-  write_fault = λ is. absurd (omega (arith, ten, is));
-  out_fault = λ is. absurd (omega (arith, ten, is));
-  exact = λ clean t verdict is outcome known. inr ten;
+  read_fault = λ three. absurd (neither status 3 which three (λ is. omega (arith, is)) (λ is. omega (arith, is)));
+  wrong = λ six. absurd (neither status 6 which six (λ is. omega (arith, is)) (λ is. omega (arith, is)));
+  state_wrong = λ seven. absurd (neither status 7 which seven (λ is. omega (arith, is)) (λ is. omega (arith, is)));
+  other_cart = λ eight. absurd (neither status 8 which eight (λ is. omega (arith, is)) (λ is. omega (arith, is)));
+  behind = λ nine. absurd (neither status 9 which nine (λ is. omega (arith, is)) (λ is. omega (arith, is)));
+  input_refused = λ seventeen. absurd (neither status 17 which seventeen (λ is. omega (arith, is)) (λ is. omega (arith, is)));
+  source_refused = λ sixteen. absurd (neither status 16 which sixteen (λ is. omega (arith, is)) (λ is. omega (arith, is)));
+  script_refused = λ fifteen. absurd (neither status 15 which fifteen (λ is. omega (arith, is)) (λ is. omega (arith, is)));
+  line_refused = λ eighteen. absurd (neither status 18 which eighteen (λ is. omega (arith, is)) (λ is. omega (arith, is)));
+  write_fault = λ four. absurd (neither status 4 which four (λ is. omega (arith, is)) (λ is. omega (arith, is)));
+  out_fault = λ thirteen. absurd (neither status 13 which thirteen (λ is. omega (arith, is)) (λ is. omega (arith, is)));
+  exact = λ clean t verdict is outcome known. right_none old.files verdict outcome status which;
   complete = λ clean t ready. absurd ready;
   others = λ t. tt;
 }
