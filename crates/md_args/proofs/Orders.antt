@@ -9,7 +9,7 @@ use Rattle.std.proofs.lemmas.Slice.Eq.{bytes_eq-Decides}
 use Rattle.std.proofs.lemmas.Option.{same_Some}
 use Rattle.clap.specs.Walk.{Text}
 use Rattle.md_args.specs.Given.{Argument, are_single, has_name, value_in}
-use Rattle.md_args.specs.Words.{run_by, run_of_arguments}
+use Rattle.md_args.specs.Commands.{run_by, run_of_arguments}
 use Rattle.md_args.proofs.Lookups.{some≢none}
 use Rattle.md_args.proofs.Rows.{stands}
 

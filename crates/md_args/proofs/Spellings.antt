@@ -9,7 +9,7 @@ use Rattle.clap.specs.Lexer.{has_byte, long_of, name_and_value}
 use Rattle.clap.specs.Walk.{Text}
 use Rattle.md_args.specs.Given.{Argument, are_single, between, given, has_name, with_value}
 use Rattle.md_args.specs.Spelled.{AreWritten, Written, all_words, apart, argument_of, joined, raised, rom}
-use Rattle.md_args.specs.Words.{run_flags, run_of, run_of_arguments, run_options}
+use Rattle.md_args.specs.Commands.{run_flags, run_of, run_of_arguments, run_options}
 use Rattle.md_args.proofs.Gives.{given_flag, given_open, given_option, given_stray, given_value, given_word}
 use Rattle.md_args.proofs.Looks.{plain_word}
 use Rattle.md_args.proofs.Rows.{stands}

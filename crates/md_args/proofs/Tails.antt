@@ -9,7 +9,8 @@ use Rattle.std.proofs.lemmas.Slice.Eq.{bytes_eq-Decides}
 use Rattle.clap.specs.Lexer.{long_of}
 use Rattle.clap.specs.Walk.{Text}
 use Rattle.md_args.specs.Given.{Argument, Place, are_single, between, ended, given, has_name, is_marked, option_word, value_in, value_of, with_value}
-use Rattle.md_args.specs.Words.{Run, is_name, run_by, run_of_arguments}
+use Rattle.md_args.specs.Commands.{is_name, run_by, run_of_arguments}
+use Rattle.md_args.specs.Words.{Run}
 use Rattle.md_args.proofs.Rows.{stands}
 use Rattle.md_args.proofs.Spellings.{left_of}
 

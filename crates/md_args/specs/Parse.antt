@@ -7,7 +7,8 @@ use Rattle.clap.specs.Walk.{Row, Rule, Text, first_of, is_empty}
 use Rattle.clap.specs.Simple.{App, matches_of, new_app, new_rule, with_rule}
 use Rattle.clap.specs.Faults.{fault_of}
 use Rattle.clap.specs.declared.builder.action.ArgAction.TheVariants.{Set}
-use Rattle.md_args.specs.Words.{Assemble, Command, Convert, Debug, Info, Rollback, RunCart, RunDemo, assembling_by, assembling_of, conversion_by, conversion_of, debugging_by, debugging_of, demo_by, demo_of, info_by, info_of, rolling_by, rolling_of, run_by, run_of}
+use Rattle.md_args.specs.Commands.{assembling_by, assembling_of, conversion_by, conversion_of, debugging_by, debugging_of, demo_by, demo_of, info_by, info_of, rolling_by, rolling_of, run_by, run_of}
+use Rattle.md_args.specs.Words.{Assemble, Command, Convert, Debug, Info, Rollback, RunCart, RunDemo}
 use Rattle.md_args.specs.declared.convert_words.Product.TheVariants.{Vgm, Sound}
 use Rattle.md_args.specs.declared.parameter.Parameter.{Parameter}
 use Rattle.md_args.specs.declared.parameter.Parameter.TheVariants as takes

@@ -7,7 +7,8 @@ use Rattle.md_outer.specs.Outside.{Files, IsPrefix, bytes_of, with_file}
 use Rattle.md_outer.proofs.WrittenFiles.{file-longer, with_file-comm}
 use Rattle.md_top.specs.Outputs.{Holds, IsPartOf, LeavesParts, Pieces, all_of, lengthened, nothing, only, with_part, written}
 use Rattle.md_args.specs.Files.{run_output}
-use Rattle.md_args.specs.Words.{Run, differ}
+use Rattle.md_args.specs.Commands.{differ}
+use Rattle.md_args.specs.Words.{Run}
 use Rattle.md_args.specs.declared.files.Output.{Output}
 use Rattle.md_args.specs.declared.files.Output.TheVariants.{Frames, Journal, Listing, Save, Sound, Target}
 

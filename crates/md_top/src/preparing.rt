@@ -4,7 +4,7 @@ ghost use Rattle.md_top.specs.Endings.{InfoEnds, RunEnds, RunFiles};
 ghost use Rattle.md_top.specs.Outputs.{LeavesParts, nothing};
 ghost use Rattle.md_top.specs.Stages.{HasStart, IsAboutToRun, IsPrepared, LeavesBegun, Stands};
 ghost use Rattle.md_args.specs.Shown.{shown_command, shown_run};
-ghost use Rattle.md_args.specs.Words.{command_of};
+ghost use Rattle.md_args.specs.Commands.{command_of};
 
 use crate::assembling::assemble_source;
 use crate::begun_run::BegunRun;

@@ -1,7 +1,7 @@
 ghost use Rattle.std.specs.Prelude.{map, string_bytes};
 ghost use Rattle.md_top.specs.Answers.{Answers, Causes};
 ghost use Rattle.md_top.specs.Laws.{ProgramLaws};
-ghost use Rattle.md_args.specs.Words.{command_of};
+ghost use Rattle.md_args.specs.Commands.{command_of};
 
 use crate::finishing::{finish, finish_one};
 use crate::laws::program_laws;
