@@ -56,7 +56,7 @@ fn sink_of(alloc: Global, put: Option<u64>) -> Result<MemSink, AllocError> {
     MemSink::new(alloc, LONGEST, list_of(alloc, put)?)
 }
 
-/// What words come to by one worker.
+/// What words result in by one worker.
 fn by_one(alloc: Global, store: &mut Store, words: Option<&str>) -> Result<String, RowError> {
     let words = words_of(alloc, words)?;
     let mut sink = sink_of(alloc, store.failing[2])?;
@@ -75,7 +75,7 @@ fn status_of<R: Threads + Wait + Sync>(
     drive(rt, alloc, words, depot, sink, &FreeGate)
 }
 
-/// What words that may start threads come to.
+/// What words that may start threads result in.
 fn by_several<R: Threads + Wait + Sync>(
     rt: &R,
     alloc: Global,

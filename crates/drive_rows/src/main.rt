@@ -1,4 +1,4 @@
-//! Rows of the command line, of the files of `data/`: files in memory, words, what they come to and what they leave.
+//! Rows of the command line, of the files of `data/`: files in memory, words, what they result in and what they leave.
 #![tactic(auto)]
 
 mod asked;

@@ -210,7 +210,7 @@ fn add_data<R: Files + Drop>(
     }
 }
 
-/// The bytes that parts make, one after the other; behind all others may stand a text, `text:ANY`.
+/// The bytes that parts make, one after the other; after all others may stand a text, `text:ANY`.
 pub(crate) fn build<R: Files + Drop>(
     alloc: Global,
     folder: &mut FileDepot<R>,

@@ -76,7 +76,7 @@ impl Store {
         }
     }
 
-    /// Gives the row a file that it has not; `NoSuchLine` behind the first words.
+    /// Gives the row a file that it has not; `NoSuchLine` after the first words.
     pub(crate) fn give(
         &mut self,
         alloc: Global,

@@ -99,7 +99,7 @@ fn command_of<'a>(read: &CommandWords<'a>) -> [Word<'a>; 8] {
     }
 }
 
-/// Adds a word, behind a space where another one stands before it.
+/// Adds a word, after a space where another one stands before it.
 fn put_word(text: &mut String, word: Word<'_>) -> Result<(), AllocError> {
     let space = if text.is_empty() { "" } else { " " };
     match word {

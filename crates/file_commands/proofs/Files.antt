@@ -5,7 +5,8 @@ use Rattle.std.specs.Str.{bytes_eq}
 use Rattle.std.proofs.lemmas.Bool.{not-true}
 use Rattle.md_outer.specs.Outside.{DepotState, Files, GoesOn, IsPrefix, bytes_of, with_file}
 use Rattle.md_outer.proofs.WrittenFiles.{bytes_of-with_file, file-longer, with_file-comm, with_file-with_file}
-use Rattle.md_args.specs.Words.{Assembling, differ}
+use Rattle.md_args.specs.Commands.{differ}
+use Rattle.md_args.specs.Words.{Assembling}
 use Rattle.md_asm.specs.Assembly.{AssemblyOutcome, Done, assembly}
 use Rattle.md_asm.specs.declared.placed.Placed.{Placed}
 use Rattle.asm_laws.specs.Lines.{SaysLines}

@@ -7,7 +7,8 @@ use Rattle.std.proofs.lemmas.Slice.Eq.{bytes_eq-Decides}
 use Rattle.clap.specs.Walk.{Text}
 use Rattle.md_args.specs.Given.{Argument, Place, are_single, between, ended, given, has_name, is_marked, value_in, value_of, with_value}
 use Rattle.md_args.specs.Spelled.{apart, joined, words_of}
-use Rattle.md_args.specs.Words.{Run, Values, are_names, but_workers, is_one_region, names_of, number_of, run_by, run_flags, run_from, run_given, run_of, run_of_arguments, run_options, values_by, workers_of}
+use Rattle.md_args.specs.Commands.{Values, are_names, but_workers, is_one_region, names_of, number_of, run_by, run_flags, run_from, run_given, run_of, run_of_arguments, run_options, values_by, workers_of}
+use Rattle.md_args.specs.Words.{Run}
 use Rattle.md_args.proofs.Gives.{given_open, given_option, given_value}
 use Rattle.md_args.proofs.Rows.{stands}
 use Rattle.md_args.proofs.Spellings.{left_of, readable_among, run_readable}

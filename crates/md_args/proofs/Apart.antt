@@ -3,7 +3,7 @@ use Rattle.std.proofs.Common.{◌≡◌, Bool, true, List, [], ◌∷◌, ◌++�
 use Rattle.std.specs.List.{list_all}
 use Rattle.std.proofs.lemmas.Bool.{and_parts}
 use Rattle.clap.specs.Walk.{Text}
-use Rattle.md_args.specs.Words.{are_names, differ}
+use Rattle.md_args.specs.Commands.{are_names, differ}
 
 among : {X : Type 0} (test : X → Bool) (before after : List X) (one : X) → list_all test (before ++ one ∷ after) ≡ true → test one ≡ true
 among test [] after one all = (and_parts _ _ all).0

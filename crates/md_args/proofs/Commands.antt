@@ -9,7 +9,7 @@ use Rattle.clap.specs.Walk.{Rule, Text, is_empty, nothing_held, rows_after}
 use Rattle.clap.proofs.FaultLemmas.{leaf_fault}
 use Rattle.md_args.specs.Given.{Argument, value_in}
 use Rattle.md_args.specs.Parse.{app_for, found_by, parse_of}
-use Rattle.md_args.specs.Words.{Values, conversion_by, conversion_given, conversion_of, info_by, info_of, run_by, run_from, run_flags, run_of, run_options, values_by, workers_of}
+use Rattle.md_args.specs.Commands.{Values, conversion_by, conversion_given, conversion_of, info_by, info_of, run_by, run_from, run_flags, run_of, run_options, values_by, workers_of}
 use Rattle.md_args.specs.declared.convert_words.Product.{Product}
 use Rattle.md_args.specs.declared.convert_words.Product.TheVariants.{Vgm, Sound}
 use Rattle.md_args.specs.declared.verb.Verb.TheVariants as verb

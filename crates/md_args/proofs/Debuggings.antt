@@ -8,7 +8,7 @@ use Rattle.clap.proofs.FaultLemmas.{leaf_fault}
 use Rattle.md_args.specs.Given.{Argument, value_in}
 use Rattle.md_args.specs.Parse.{app_for, parse_of}
 use Rattle.md_args.specs.declared.verb.Verb.TheVariants as verb
-use Rattle.md_args.specs.Words.{debugging_by, debugging_given, debugging_of}
+use Rattle.md_args.specs.Commands.{debugging_by, debugging_given, debugging_of}
 use Rattle.md_args.proofs.Commands.{is_none}
 use Rattle.md_args.proofs.Lookups.{AreFound, options_found, word_rule}
 use Rattle.md_args.proofs.Parsed.{means, parsed, parsed_as}

@@ -9,7 +9,7 @@ use Rattle.std.proofs.lemmas.Slice.Eq.{bytes_eq-Decides}
 use Rattle.std.proofs.lemmas.Option.{same_Some}
 use Rattle.clap.specs.Walk.{Text}
 use Rattle.md_args.specs.Given.{Argument, are_single, has_name, value_in}
-use Rattle.md_args.specs.Words.{run_by, run_of_arguments}
+use Rattle.md_args.specs.Commands.{run_by, run_of_arguments}
 use Rattle.md_args.proofs.Lookups.{some≢none}
 use Rattle.md_args.proofs.Rows.{stands}
 
@@ -61,7 +61,7 @@ fewer_with name value (first ∷ arguments) = go (has_name name first.0) (bytes_
     go true false later = omega (arith, later)
     go false d later = omega (arith, later)
 
--- no argument stands twice exactly where no name has two
+-- no argument comes twice exactly where no name has two
 abbrev AtMostOnce : List Argument → Type 0
 AtMostOnce arguments = (name : Text) → named name arguments ≤ 1
 

@@ -83,7 +83,7 @@ module _ (command : Text) (rules : List Rule) (positionals options flags : List 
   rows_given : (words : List Text) → AreTexts words → parsed command rules words ≡ taken rules (given positionals options flags between words) []
   rows_given words texts = parsed_is command rules none words ∙ (both command rules options flags found no_short words texts).0 1 positionals left [] None
 
-  -- a meaning of the arguments' values, which has none where one is wanting that has to be there
+  -- a meaning of the arguments' values, which has none where one is missing that has to be there
   module _ {X : Type 0} (meaning : (Text → Option Text) → Option X) (wants : (arguments : List Argument) → lacks rules (map row arguments) ≡ true → meaning (value_in arguments) ≡ None) where
     of_complete : (arguments : List Argument) (b : Bool) → lacks rules (map row arguments) ≡ b
         → option_and_then (λ rows. meaning (found_by rows)) (cond b None (Some (map row arguments))) ≡ meaning (value_in arguments)

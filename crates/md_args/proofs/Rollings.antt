@@ -8,7 +8,7 @@ use Rattle.clap.proofs.FaultLemmas.{leaf_fault}
 use Rattle.md_args.specs.Given.{Argument, value_in}
 use Rattle.md_args.specs.Parse.{app_for, parse_of}
 use Rattle.md_args.specs.declared.verb.Verb.TheVariants as verb
-use Rattle.md_args.specs.Words.{rolling_by, rolling_from, rolling_of, wanted_window}
+use Rattle.md_args.specs.Commands.{rolling_by, rolling_from, rolling_of, wanted_window}
 use Rattle.md_args.proofs.Commands.{is_none}
 use Rattle.md_args.proofs.Lookups.{AreFound, options_found, option_rule, word_rule}
 use Rattle.md_args.proofs.Parsed.{means, options_have_none, parsed, parsed_as}

@@ -95,7 +95,7 @@ one_more_single (first ∷ before) argument once absent =
     list_any-append (λ (a : Argument). has_name first.0 a.0) before (argument ∷ []) ∙ or_from _ _ (not-true _ parts.0) last in
     and_from _ _ (not_from_false _ none) (one_more_single before argument parts.1 others.1)
 
--- arguments are put behind others where no name stands twice
+-- arguments are put after others where no name comes twice
 pub put_single : (rules : List Rule) (before : List Argument) → are_single before ≡ true → (arguments : List Argument)
     → put rules (map row before) arguments ≡ cond (are_single (before ++ arguments)) (complete rules (map row (before ++ arguments))) None
 put_single rules before once [] = rw (append-nil before, once) refl

@@ -9,7 +9,7 @@ use Rattle.clap.specs.Lexer.{has_byte, long_of, name_and_value}
 use Rattle.clap.specs.Walk.{Text}
 use Rattle.md_args.specs.Given.{Argument, are_single, between, given, has_name, with_value}
 use Rattle.md_args.specs.Spelled.{AreWritten, Written, all_words, apart, argument_of, joined, raised, rom}
-use Rattle.md_args.specs.Words.{run_flags, run_of, run_of_arguments, run_options}
+use Rattle.md_args.specs.Commands.{run_flags, run_of, run_of_arguments, run_options}
 use Rattle.md_args.proofs.Gives.{given_flag, given_open, given_option, given_stray, given_value, given_word}
 use Rattle.md_args.proofs.Looks.{plain_word}
 use Rattle.md_args.proofs.Rows.{stands}
@@ -138,7 +138,7 @@ module _ (options flags : List Text) (readable : AreReadable options) (raisable 
       ∙ ap (with_value (codes "rom") name) (given_written false written are.1) ∙ with_cond (codes "rom") name (fits false written) (map argument_of written)
   given_written false (rom name ∷ written) are = sym (given_stray options flags [] name (all_words written) (plain_word name are.0).no_end are.0)
 
--- a second name of the cartridge stands twice
+-- a second name of the cartridge comes twice
 fits_no_other : (written : List Written) → fits false written ≡ false → stands (codes "rom") (map argument_of written) ≡ true
 fits_no_other [] many = absurd (true≢false many)
 fits_no_other (apart name value ∷ written) many = or_right _ _ (fits_no_other written many)

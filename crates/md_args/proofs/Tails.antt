@@ -9,7 +9,8 @@ use Rattle.std.proofs.lemmas.Slice.Eq.{bytes_eq-Decides}
 use Rattle.clap.specs.Lexer.{long_of}
 use Rattle.clap.specs.Walk.{Text}
 use Rattle.md_args.specs.Given.{Argument, Place, are_single, between, ended, given, has_name, is_marked, option_word, value_in, value_of, with_value}
-use Rattle.md_args.specs.Words.{Run, is_name, run_by, run_of_arguments}
+use Rattle.md_args.specs.Commands.{is_name, run_by, run_of_arguments}
+use Rattle.md_args.specs.Words.{Run}
 use Rattle.md_args.proofs.Rows.{stands}
 use Rattle.md_args.proofs.Spellings.{left_of}
 
@@ -20,7 +21,7 @@ pub record Stays (Rel : Option (List Argument) → Option (List Argument) → Ty
 
 module _ (options flags : List Text) (Rel : Option (List Argument) → Option (List Argument) → Type 0) (stays : Stays Rel) (first second : List Text)
     (here : (free : Bool) (place : Place) → Rel (given (left_of free) options flags place first) (given (left_of free) options flags place second)) where
-  -- it holds of what two lists of words give, as they stand behind these
+  -- it holds of what two lists of words give, as they stand after these
   abbrev Behind : List Text → Type 0
   Behind before =
       (free : Bool) (place : Place) → Rel (given (left_of free) options flags place (before ++ first)) (given (left_of free) options flags place (before ++ second))

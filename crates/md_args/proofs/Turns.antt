@@ -192,7 +192,7 @@ module _ (name : Text) (rules : List Rule) where
   unfolding walked
   at_stray position rows pending word words no_end no_long no_short none = one_word (at idle position false rows pending) word words ∙ rw (no_end, no_long, no_short, none) refl
 
-  -- the same behind `--`
+  -- the same after `--`
   pub end_at_word : (waiting : Waiting) (position place : ℕ) (rows : List Row) (pending : Option (Text × List Text)) (word id : Text) (words : List Text)
       → arg_by_index rules position ≡ Some (word_rule id place)
       → outcome (at waiting position true rows pending) (word ∷ words)

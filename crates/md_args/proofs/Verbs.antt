@@ -1,4 +1,4 @@
--- What a verb asks for is what the words behind it mean.
+-- What a verb asks for is what the words after it mean.
 use Rattle.std.proofs.Common.{◌≡◌, ◌∙◌, refl, ap, List, Option, Some, None}
 use Rattle.std.specs.Option.{option_and_then, option_map}
 use Rattle.clap.specs.Walk.{Text}

@@ -1,4 +1,4 @@
--- What words behind a command's own word give: options in any order among the positional words. This
+-- What words after a command's own word give: options in any order among the positional words. This
 -- project's profile.
 use Rattle.std.specs.Prelude.{◌==◌, Bool, true, false, ◌&&◌, not, if◌then◌else◌, List, [], ◌∷◌, find, codes, Option, Some, None}
 use Rattle.std.specs.List.{list_any}
@@ -12,13 +12,13 @@ abbrev pub Argument : Type 0
 Argument = Text × Text
 
 -- how the next word is read: as an option or as a positional word, as the value of the option of this
--- name, or, behind `--`, as a positional word whatever it looks like
+-- name, or, after `--`, as a positional word whatever it looks like
 pub data Place : Type 0 where
   between : Place
   value_of : Text → Place
   ended : Place
 
--- one more argument in front of those behind it
+-- one more argument in front of those after it
 abbrev pub with_value : Text → Text → Option (List Argument) → Option (List Argument)
 with_value name value = option_map (λ arguments. (name, value) ∷ arguments)
 
@@ -60,7 +60,7 @@ given positionals options flags between (word ∷ words) =
     then option_word options flags (long_of word) (given positionals options flags between words) (λ name. given positionals options flags (value_of name) words)
     else positional_word positionals word (λ left. given left options flags between words)
 
--- no argument stands twice
+-- no argument comes twice
 abbrev pub are_single : List Argument → Bool
 are_single [] = true
 are_single (argument ∷ arguments) = not (list_any (λ other. has_name argument.0 other.0) arguments) && are_single arguments
@@ -69,6 +69,6 @@ are_single (argument ∷ arguments) = not (list_any (λ other. has_name argument
 abbrev pub value_in : List Argument → Text → Option Text
 value_in arguments name = option_map (λ argument. argument.1) (find (λ argument. has_name name argument.0) arguments)
 
--- what is made of the arguments' values, where none stands twice
+-- what is made of the arguments' values, where none comes twice
 abbrev pub meant_by : {X : Type 0} → ((Text → Option Text) → Option X) → List Argument → Option X
 meant_by meaning arguments = if are_single arguments then meaning (value_in arguments) else None

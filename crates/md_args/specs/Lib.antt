@@ -1,3 +1,5 @@
+pub mod Commands
+pub mod Files
 pub mod Given
 pub mod Parse
 pub mod Shown

@@ -1,4 +1,4 @@
--- How `clap` reads what stands behind a command's own word: the commands that it is given, and what is made
+-- How `clap` reads what comes after a command's own word: the commands that it is given, and what is made
 -- of the values that it finds.
 use Rattle.std.specs.Prelude.{◌∷◌, [], List, Option, Some, None, true, fold, codes, if◌then◌else◌}
 use Rattle.std.specs.Option.{option_map}
@@ -7,7 +7,8 @@ use Rattle.clap.specs.Walk.{Row, Rule, Text, first_of, is_empty}
 use Rattle.clap.specs.Simple.{App, matches_of, new_app, new_rule, with_rule}
 use Rattle.clap.specs.Faults.{fault_of}
 use Rattle.clap.specs.declared.builder.action.ArgAction.TheVariants.{Set}
-use Rattle.md_args.specs.Words.{Assemble, Command, Convert, Debug, Info, Rollback, RunCart, RunDemo, assembling_by, assembling_of, conversion_by, conversion_of, debugging_by, debugging_of, demo_by, demo_of, info_by, info_of, rolling_by, rolling_of, run_by, run_of}
+use Rattle.md_args.specs.Commands.{assembling_by, assembling_of, conversion_by, conversion_of, debugging_by, debugging_of, demo_by, demo_of, info_by, info_of, rolling_by, rolling_of, run_by, run_of}
+use Rattle.md_args.specs.Words.{Assemble, Command, Convert, Debug, Info, Rollback, RunCart, RunDemo}
 use Rattle.md_args.specs.declared.convert_words.Product.TheVariants.{Vgm, Sound}
 use Rattle.md_args.specs.declared.parameter.Parameter.{Parameter}
 use Rattle.md_args.specs.declared.parameter.Parameter.TheVariants as takes
@@ -75,7 +76,7 @@ name_of verb.Asm = codes "asm"
 name_of verb.Debug = codes "debug"
 name_of verb.Rollback = codes "rollback"
 
--- what stands behind it: `info ROM`; `run ROM --cycles N`, with `--in P`, `--load S`, `--save S`, `--frames F`,
+-- what comes after it: `info ROM`; `run ROM --cycles N`, with `--in P`, `--load S`, `--save S`, `--frames F`,
 -- `--sound W`, `--journal J`, `--workers K` and `--pal` if wanted; `demo NUMBER --cycles N --workers W`, with `--pal` if
 -- wanted; `vgm JOURNAL OUT` and `play VGM OUT`, with it too; `asm SOURCE OUT`, with `--list L` if wanted;
 -- `debug ROM SCRIPT`; `rollback ROM INPUTS --window W`
@@ -110,7 +111,7 @@ chosen_by verb.Asm value = option_map Assemble (assembling_by value)
 chosen_by verb.Debug value = option_map Debug (debugging_by value)
 chosen_by verb.Rollback value = option_map Rollback (rolling_by value)
 
--- what a verb asks for with the words behind it
+-- what a verb asks for with the words after it
 abbrev pub asked_by : Verb → List Text → Option Command
 asked_by verb.Info words = option_map Info (info_of words)
 asked_by verb.Run words = option_map RunCart (run_of words)

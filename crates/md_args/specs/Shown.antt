@@ -1,7 +1,8 @@
 -- What the reader of the words found, as the definition's command.
 use Rattle.std.specs.Option.{option_copied}
 use Rattle.md_args.specs.Words as words
-use Rattle.md_args.specs.Words.{Assemble, Assembling, Command, Conversion, Convert, Debug, Debugging, Demo, Rollback, Rolling, Run, RunCart, RunDemo, Values}
+use Rattle.md_args.specs.Commands.{Values}
+use Rattle.md_args.specs.Words.{Assemble, Assembling, Command, Conversion, Convert, Debug, Debugging, Demo, Rollback, Rolling, Run, RunCart, RunDemo}
 use Rattle.md_args.specs.declared.asm_words.AsmWords.{AsmWords}
 use Rattle.md_args.specs.declared.command_words.CommandWords.{CommandWords}
 use Rattle.md_args.specs.declared.command_words.CommandWords.TheVariants as read

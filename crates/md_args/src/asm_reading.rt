@@ -4,7 +4,8 @@ ghost use Rattle.clap.specs.Matches.{found_of};
 ghost use Rattle.clap.specs.Walk.{rows_of};
 ghost use Rattle.md_args.specs.Parse.{found_by};
 ghost use Rattle.md_args.specs.Shown.{shown_command};
-ghost use Rattle.md_args.specs.Words as meaning;
+ghost use Rattle.md_args.specs.Commands as meaning;
+ghost use Rattle.md_args.specs.Words as asked;
 
 use crate::asm_words::AsmWords;
 use crate::command_words::CommandWords;
@@ -14,7 +15,7 @@ use clap::ArgMatches;
 
 /// The assembly that the matches have.
 pub(crate) fn asm_chosen<'a>(matches: &ArgMatches<'a>) -> Option<CommandWords<'a>>
-    ensures { option_map shown_command result ≡ option_map meaning.Assemble (meaning.assembling_by (found_by (rows_of (found_of matches.now)))) }
+    ensures { option_map shown_command result ≡ option_map asked.Assemble (meaning.assembling_by (found_by (rows_of (found_of matches.now)))) }
 {
     asm_given(
         value(matches, "source"),
@@ -37,7 +38,7 @@ fn asm_given<'a>(
     output: Option<&'a str>,
     list: Option<&'a str>,
 ) -> Option<CommandWords<'a>>
-    ensures { option_map shown_command result ≡ option_map meaning.Assemble (meaning.assembling_given (option_copied source.entry) (option_copied output.entry) (option_copied list.entry)) }
+    ensures { option_map shown_command result ≡ option_map asked.Assemble (meaning.assembling_given (option_copied source.entry) (option_copied output.entry) (option_copied list.entry)) }
 {
     match (source, output) {
         (Some(source), Some(output)) => {

@@ -1,6 +1,6 @@
 ghost use Rattle.std.specs.Prelude.{◌≡◌, Some, true};
 ghost use Rattle.std.specs.Option.{option_copied};
-ghost use Rattle.md_args.specs.Words.{differ};
+ghost use Rattle.md_args.specs.Commands.{differ};
 
 /// What the words of an assembly ask for.
 #[derive(Clone, Copy)]

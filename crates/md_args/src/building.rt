@@ -8,7 +8,7 @@ use crate::verb::Verb;
 use clap::{Arg, ArgAction, Command};
 use std::alloc::{AllocError, Global};
 
-/// The command of a verb, behind its word.
+/// The command of a verb, after its word.
 pub(crate) fn command_for<'a>(alloc: Global, verb: Verb) -> Result<Command<'a>, AllocError>
     ensures { IfOk result (λ command. app_of command ≡ meaning.app_for verb) }
 {
@@ -65,7 +65,7 @@ fn argument<'a>(alloc: Global, parameter: Parameter<'a>) -> Arg<'a>
     }
 }
 
-/// An option without a value. Where it stands, its value is empty.
+/// An option without a value. Where it is given, its value is empty.
 fn flag<'a>(alloc: Global, name: &'a str) -> Arg<'a>
     ensures rule { rule_of result ≡ meaning.flag name.entry.now }
     ensures local { result.global ≡ false }

@@ -1,12 +1,15 @@
 ghost use Rattle.std.specs.Prelude.{◌≡◌, ◌≤◌};
 ghost use Rattle.std.specs.Option.{option_copied};
 ghost use Rattle.md_args.specs.Shown.{shown_command};
-ghost use Rattle.md_args.specs.Words.{end_of, frames_name, journal_name, list_name, load_name, output_of, recording_name, rom_of, save_name, script_name, sound_name, workers_in};
+ghost use Rattle.md_args.specs.Files as files;
+ghost use Rattle.md_args.specs.Files.{input_of, output_of};
+ghost use Rattle.md_args.specs.Words.{end_of, workers_in};
 
 use crate::asm_words::AsmWords;
 use crate::convert_words::ConvertWords;
 use crate::debug_words::DebugWords;
 use crate::demo_words::DemoWords;
+use crate::files::{Input, Output};
 use crate::rollback_words::RollbackWords;
 use crate::run_words::RunWords;
 
@@ -30,38 +33,37 @@ pub enum CommandWords<'a> {
 }
 
 impl<'a> CommandWords<'a> {
-    /// The name of the first file that is read: the cartridge, the input of a conversion, or a source. A
-    /// demonstration cartridge has none.
-    pub fn rom(&self) -> &'a str
-        ensures { result.now ≡ rom_of (shown_command self.now) }
+    /// The name of an input. It is None where the command has no such input, or its name is not given.
+    pub fn input(&self, which: Input) -> Option<&'a str>
+        ensures { option_copied result ≡ input_of (shown_command self.now) which }
     {
         match self {
-            CommandWords::Info(rom) => rom,
-            CommandWords::Run(run) => run.rom,
-            CommandWords::Demo(_) => "",
-            CommandWords::Convert(words) => words.input,
-            CommandWords::Assemble(words) => words.source,
-            CommandWords::Debug(words) => words.rom,
-            CommandWords::Rollback(words) => words.rom,
+            CommandWords::Info(rom) => sole_input(rom, which),
+            CommandWords::Run(run) => run.input(which),
+            CommandWords::Demo(_) => None,
+            CommandWords::Convert(words) => sole_input(words.input, which),
+            CommandWords::Assemble(words) => sole_input(words.source, which),
+            CommandWords::Debug(words) => script_input(words.rom, words.script, which),
+            CommandWords::Rollback(words) => script_input(words.rom, words.inputs, which),
         }
     }
 
-    /// The name of the file that a conversion or an assembly makes, and no name where none is asked for.
-    pub fn output(&self) -> &'a str
-        ensures { result.now ≡ output_of (shown_command self.now) }
+    /// The name of an output. It is None where the command has no such output, or it is not asked for.
+    pub fn output(&self, which: Output) -> Option<&'a str>
+        ensures { option_copied result ≡ output_of (shown_command self.now) which }
     {
         match self {
             CommandWords::Info(_)
-            | CommandWords::Run(_)
             | CommandWords::Demo(_)
             | CommandWords::Debug(_)
-            | CommandWords::Rollback(_) => "",
-            CommandWords::Convert(words) => words.output,
-            CommandWords::Assemble(words) => words.output,
+            | CommandWords::Rollback(_) => None,
+            CommandWords::Run(run) => run.output(which),
+            CommandWords::Convert(words) => made_output(words.output, None, which),
+            CommandWords::Assemble(words) => made_output(words.output, words.list, which),
         }
     }
 
-    /// The cycle of the run's end, and 0 where none is asked for.
+    /// The master cycle of the run's end, and 0 where no run is asked for.
     pub fn end(&self) -> u64
         ensures { result ≡ end_of (shown_command self.now) }
     {
@@ -73,126 +75,6 @@ impl<'a> CommandWords<'a> {
             | CommandWords::Rollback(_) => 0,
             CommandWords::Run(run) => run.cycles,
             CommandWords::Demo(demo) => demo.cycles,
-        }
-    }
-
-    /// The recording's name, if one is given.
-    pub fn recording(&self) -> Option<&'a str>
-        ensures { option_copied result ≡ recording_name (shown_command self.now) }
-    {
-        match self {
-            CommandWords::Info(_)
-            | CommandWords::Demo(_)
-            | CommandWords::Convert(_)
-            | CommandWords::Assemble(_)
-            | CommandWords::Debug(_)
-            | CommandWords::Rollback(_) => None,
-            CommandWords::Run(run) => run.recording,
-        }
-    }
-
-    /// The name of the saved state to go on from, if one is given.
-    pub fn load(&self) -> Option<&'a str>
-        ensures { option_copied result ≡ load_name (shown_command self.now) }
-    {
-        match self {
-            CommandWords::Info(_)
-            | CommandWords::Demo(_)
-            | CommandWords::Convert(_)
-            | CommandWords::Assemble(_)
-            | CommandWords::Debug(_)
-            | CommandWords::Rollback(_) => None,
-            CommandWords::Run(run) => run.load,
-        }
-    }
-
-    /// The name of the state to save, if it is asked for.
-    pub fn save(&self) -> Option<&'a str>
-        ensures { option_copied result ≡ save_name (shown_command self.now) }
-    {
-        match self {
-            CommandWords::Info(_)
-            | CommandWords::Demo(_)
-            | CommandWords::Convert(_)
-            | CommandWords::Assemble(_)
-            | CommandWords::Debug(_)
-            | CommandWords::Rollback(_) => None,
-            CommandWords::Run(run) => run.save,
-        }
-    }
-
-    /// The frames file's name, if one is asked for.
-    pub fn frames(&self) -> Option<&'a str>
-        ensures { option_copied result ≡ frames_name (shown_command self.now) }
-    {
-        match self {
-            CommandWords::Info(_)
-            | CommandWords::Demo(_)
-            | CommandWords::Convert(_)
-            | CommandWords::Assemble(_)
-            | CommandWords::Debug(_)
-            | CommandWords::Rollback(_) => None,
-            CommandWords::Run(run) => run.frames,
-        }
-    }
-
-    /// The sound file's name, if one is asked for.
-    pub fn sound(&self) -> Option<&'a str>
-        ensures { option_copied result ≡ sound_name (shown_command self.now) }
-    {
-        match self {
-            CommandWords::Info(_)
-            | CommandWords::Demo(_)
-            | CommandWords::Convert(_)
-            | CommandWords::Assemble(_)
-            | CommandWords::Debug(_)
-            | CommandWords::Rollback(_) => None,
-            CommandWords::Run(run) => run.sound,
-        }
-    }
-
-    /// The journal's name, if one is asked for.
-    pub fn journal(&self) -> Option<&'a str>
-        ensures { option_copied result ≡ journal_name (shown_command self.now) }
-    {
-        match self {
-            CommandWords::Info(_)
-            | CommandWords::Demo(_)
-            | CommandWords::Convert(_)
-            | CommandWords::Assemble(_)
-            | CommandWords::Debug(_)
-            | CommandWords::Rollback(_) => None,
-            CommandWords::Run(run) => run.journal,
-        }
-    }
-
-    /// The name of an assembly's list, if it is asked for.
-    pub fn list(&self) -> Option<&'a str>
-        ensures { option_copied result ≡ list_name (shown_command self.now) }
-    {
-        match self {
-            CommandWords::Info(_)
-            | CommandWords::Run(_)
-            | CommandWords::Demo(_)
-            | CommandWords::Convert(_)
-            | CommandWords::Debug(_)
-            | CommandWords::Rollback(_) => None,
-            CommandWords::Assemble(words) => words.list,
-        }
-    }
-
-    /// The name of the debugger's script, or of what two players press, if one is asked for.
-    pub fn script(&self) -> Option<&'a str>
-        ensures { option_copied result ≡ script_name (shown_command self.now) }
-    {
-        match self {
-            CommandWords::Info(_)
-            | CommandWords::Run(_)
-            | CommandWords::Demo(_)
-            | CommandWords::Convert(_)
-            | CommandWords::Assemble(_) => None,
-            CommandWords::Debug(words) => Some(words.script),
-            CommandWords::Rollback(words) => Some(words.inputs),
         }
     }
 
@@ -211,5 +93,38 @@ impl<'a> CommandWords<'a> {
             CommandWords::Run(run) => run.workers,
             CommandWords::Demo(demo) => demo.workers,
         }
+    }
+}
+
+/// The name of an input of a command that reads one file. It is None for another input.
+fn sole_input(name: &str, which: Input) -> Option<&str>
+    ensures { option_copied result ≡ files.sole_input name.now which }
+{
+    match which {
+        Input::First => Some(name),
+        Input::Recording | Input::State | Input::Script => None,
+    }
+}
+
+/// The name of an input of a command that reads a cartridge and a script. It is None for another input.
+fn script_input<'a>(rom: &'a str, script: &'a str, which: Input) -> Option<&'a str>
+    ensures { option_copied result ≡ files.script_input rom.now script.now which }
+{
+    match which {
+        Input::First => Some(rom),
+        Input::Script => Some(script),
+        Input::Recording | Input::State => None,
+    }
+}
+
+/// The name of an output of a command that makes one file, and a list of it if that is asked for. It is None for
+/// another output.
+fn made_output<'a>(target: &'a str, listing: Option<&'a str>, which: Output) -> Option<&'a str>
+    ensures { option_copied result ≡ files.made_output target.now (option_copied listing) which }
+{
+    match which {
+        Output::Target => Some(target),
+        Output::Listing => listing,
+        Output::Frames | Output::Sound | Output::Journal | Output::Save => None,
     }
 }

@@ -4,7 +4,8 @@ ghost use Rattle.clap.specs.Matches.{found_of};
 ghost use Rattle.clap.specs.Walk.{rows_of};
 ghost use Rattle.md_args.specs.Parse.{found_by};
 ghost use Rattle.md_args.specs.Shown.{shown_command};
-ghost use Rattle.md_args.specs.Words as meaning;
+ghost use Rattle.md_args.specs.Commands as meaning;
+ghost use Rattle.md_args.specs.Words as asked;
 
 use crate::command_words::CommandWords;
 use crate::convert_words::{ConvertWords, Product};
@@ -17,7 +18,7 @@ pub(crate) fn conversion_chosen<'a>(
     product: Product,
     matches: &ArgMatches<'a>,
 ) -> Option<CommandWords<'a>>
-    ensures { option_map shown_command result ≡ option_map meaning.Convert (meaning.conversion_by product (found_by (rows_of (found_of matches.now)))) }
+    ensures { option_map shown_command result ≡ option_map asked.Convert (meaning.conversion_by product (found_by (rows_of (found_of matches.now)))) }
 {
     conversion_given(
         product,
@@ -34,7 +35,7 @@ fn conversion_given<'a>(
     output: Option<&'a str>,
     pal: bool,
 ) -> Option<CommandWords<'a>>
-    ensures { option_map shown_command result ≡ option_map meaning.Convert (meaning.conversion_given product (option_copied input.entry) (option_copied output.entry) pal) }
+    ensures { option_map shown_command result ≡ option_map asked.Convert (meaning.conversion_given product (option_copied input.entry) (option_copied output.entry) pal) }
 {
     match (input, output) {
         (Some(input), Some(output)) if are_names(&[Some(input), Some(output)]) => {

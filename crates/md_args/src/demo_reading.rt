@@ -4,7 +4,8 @@ ghost use Rattle.clap.specs.Matches.{found_of};
 ghost use Rattle.clap.specs.Walk.{rows_of};
 ghost use Rattle.md_args.specs.Parse.{found_by};
 ghost use Rattle.md_args.specs.Shown.{shown_command};
-ghost use Rattle.md_args.specs.Words as meaning;
+ghost use Rattle.md_args.specs.Commands as meaning;
+ghost use Rattle.md_args.specs.Words as asked;
 
 use crate::command_words::CommandWords;
 use crate::demo_words::DemoWords;
@@ -14,7 +15,7 @@ use clap::ArgMatches;
 
 /// The run that the matches have.
 pub(crate) fn demo_chosen<'a>(matches: &ArgMatches<'a>) -> Option<CommandWords<'a>>
-    ensures { option_map shown_command result ≡ option_map meaning.RunDemo (meaning.demo_by (found_by (rows_of (found_of matches.now)))) }
+    ensures { option_map shown_command result ≡ option_map asked.RunDemo (meaning.demo_by (found_by (rows_of (found_of matches.now)))) }
 {
     demo_given(
         value(matches, "number"),
@@ -31,7 +32,7 @@ fn demo_given<'a>(
     workers: Option<&str>,
     pal: bool,
 ) -> Option<CommandWords<'a>>
-    ensures { option_map shown_command result ≡ option_map meaning.RunDemo (meaning.demo_given (option_copied number.entry) (option_copied cycles.entry) (option_copied workers.entry) pal) }
+    ensures { option_map shown_command result ≡ option_map asked.RunDemo (meaning.demo_given (option_copied number.entry) (option_copied cycles.entry) (option_copied workers.entry) pal) }
 {
     match (count(number), count(cycles), wanted_workers(workers)) {
         (Some(number), Some(cycles), Some(workers)) => Some(CommandWords::Demo(DemoWords {

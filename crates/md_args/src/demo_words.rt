@@ -5,9 +5,9 @@ ghost use Rattle.std.specs.Prelude.{◌≤◌};
 pub struct DemoWords {
     /// The cartridge's number.
     pub number: u64,
-    /// The cycle of the run's end.
+    /// The master cycle of the run's end, any number below 2^64.
     pub cycles: u64,
-    /// How many workers make it.
+    /// How many workers make it, 1 to 5.
     pub workers: u32,
     /// Whether the machine is one for PAL.
     pub pal: bool,

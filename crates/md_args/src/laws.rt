@@ -4,7 +4,7 @@ ghost use Rattle.std.specs.List.{list_any};
 ghost use Rattle.clap.specs.Walk.{Text};
 ghost use Rattle.md_args.specs.Given.{has_name, is_marked};
 ghost use Rattle.md_args.specs.Spelled.{AreWritten, Written, all_words, apart, argument_of, joined, words_of};
-ghost use Rattle.md_args.specs.Words.{but_workers, run_of, run_flags, run_of_arguments, run_options, workers_of};
+ghost use Rattle.md_args.specs.Commands.{but_workers, run_of, run_flags, run_of_arguments, run_options, workers_of};
 
 /// What is read of the arguments of a run that are written as words is these arguments.
 pub fn written_arguments_are_read()

@@ -2,7 +2,7 @@ ghost use Rattle.std.specs.Prelude.{◌≡◌, ◌≤◌, IfSome};
 ghost use Rattle.std.specs.Char.{is_ascii_digit};
 ghost use Rattle.std.specs.List.{list_all};
 ghost use Rattle.std.specs.Option.{option_copied};
-ghost use Rattle.md_args.specs.Words as meaning;
+ghost use Rattle.md_args.specs.Commands as meaning;
 
 /// A number of 1 to 20 decimal digits with a value below 2^64.
 pub(crate) fn read_number(word: &str) -> Option<u64>

@@ -4,7 +4,8 @@ ghost use Rattle.clap.specs.Matches.{found_of};
 ghost use Rattle.clap.specs.Walk.{rows_of};
 ghost use Rattle.md_args.specs.Parse.{asked_by, chosen_by, found_by};
 ghost use Rattle.md_args.specs.Shown.{shown_command, shown_values};
-ghost use Rattle.md_args.specs.Words as meaning;
+ghost use Rattle.md_args.specs.Commands as meaning;
+ghost use Rattle.md_args.specs.Words as asked;
 
 use crate::asm_reading::asm_chosen;
 use crate::building::command_for;
@@ -23,8 +24,8 @@ use crate::verb::Verb;
 use clap::ArgMatches;
 use std::alloc::{AllocError, Global};
 
-/// Reads the words of the command line, those behind the program's name; none: they ask for nothing
-/// that there is.
+/// Reads the words of the command line, those after the program's name. It is None where they ask for nothing that
+/// there is, and fails only where memory runs out.
 ///
 /// They are `info ROM`, `run ROM --cycles N` with `--in P`, `--load S`, `--save S`, `--frames F`,
 /// `--sound W`, `--journal J`, `--workers K` and, where no `--load` is, `--pal` where they are wanted,
@@ -34,7 +35,7 @@ use std::alloc::{AllocError, Global};
 /// `--` ends the options. Names are not empty, do not begin with a hyphen, and are pairwise different. Numbers
 /// are 1 to 20 decimal digits with a value below 2^64; K and the W of `demo` are 1 to 5, and that of `rollback`
 /// is 1 to 16.
-#[tactic(auto, unfolding(crate::specs::Words::command_of))]
+#[tactic(auto, unfolding(crate::specs::Commands::command_of))]
 pub fn read_words<'a>(
     alloc: Global,
     words: &'a [String],
@@ -50,7 +51,7 @@ pub fn read_words<'a>(
     }
 }
 
-/// Reads the words behind a verb.
+/// Reads the words after a verb.
 fn read_behind<'a>(
     alloc: Global,
     verb: Verb,
@@ -83,7 +84,7 @@ fn chosen<'a>(verb: Verb, matches: &ArgMatches<'a>) -> Option<CommandWords<'a>>
 
 /// The lines of a header, if what is given can be the cartridge's name.
 fn info_given<'a>(word: Option<&'a str>) -> Option<CommandWords<'a>>
-    ensures { option_map shown_command result ≡ option_map meaning.Info (meaning.info_from (option_copied word.entry)) }
+    ensures { option_map shown_command result ≡ option_map asked.Info (meaning.info_from (option_copied word.entry)) }
 {
     match word {
         Some(word) if is_name(word) => Some(CommandWords::Info(word)),
@@ -93,7 +94,7 @@ fn info_given<'a>(word: Option<&'a str>) -> Option<CommandWords<'a>>
 
 /// The run that the matches have.
 fn run_chosen<'a>(matches: &ArgMatches<'a>) -> Option<CommandWords<'a>>
-    ensures { option_map shown_command result ≡ option_map meaning.RunCart (meaning.run_by (found_by (rows_of (found_of matches.now)))) }
+    ensures { option_map shown_command result ≡ option_map asked.RunCart (meaning.run_by (found_by (rows_of (found_of matches.now)))) }
 {
     run_given(&values_of(matches))
 }
@@ -125,7 +126,7 @@ pub(crate) fn value<'a>(matches: &ArgMatches<'a>, name: &str) -> Option<&'a str>
 
 /// The run of these values, if those that it needs are there and all can be read.
 fn run_given<'a>(values: &RunValues<'a>) -> Option<CommandWords<'a>>
-    ensures { option_map shown_command result ≡ option_map meaning.RunCart (meaning.run_given (shown_values values.now)) }
+    ensures { option_map shown_command result ≡ option_map asked.RunCart (meaning.run_given (shown_values values.now)) }
 {
     if !have_names(values) {
         return None;

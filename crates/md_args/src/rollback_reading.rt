@@ -4,7 +4,8 @@ ghost use Rattle.clap.specs.Matches.{found_of};
 ghost use Rattle.clap.specs.Walk.{rows_of};
 ghost use Rattle.md_args.specs.Parse.{found_by};
 ghost use Rattle.md_args.specs.Shown.{shown_command};
-ghost use Rattle.md_args.specs.Words as meaning;
+ghost use Rattle.md_args.specs.Commands as meaning;
+ghost use Rattle.md_args.specs.Words as asked;
 
 use crate::command_words::CommandWords;
 use crate::names::are_names;
@@ -14,7 +15,7 @@ use clap::ArgMatches;
 
 /// The session that the matches have.
 pub(crate) fn rollback_chosen<'a>(matches: &ArgMatches<'a>) -> Option<CommandWords<'a>>
-    ensures { option_map shown_command result ≡ option_map meaning.Rollback (meaning.rolling_by (found_by (rows_of (found_of matches.now)))) }
+    ensures { option_map shown_command result ≡ option_map asked.Rollback (meaning.rolling_by (found_by (rows_of (found_of matches.now)))) }
 {
     rollback_given(
         value(matches, "rom"),
@@ -29,7 +30,7 @@ fn rollback_given<'a>(
     inputs: Option<&'a str>,
     window: Option<&'a str>,
 ) -> Option<CommandWords<'a>>
-    ensures { option_map shown_command result ≡ option_map meaning.Rollback (meaning.rolling_given (option_copied rom.entry) (option_copied inputs.entry) (option_copied window.entry)) }
+    ensures { option_map shown_command result ≡ option_map asked.Rollback (meaning.rolling_given (option_copied rom.entry) (option_copied inputs.entry) (option_copied window.entry)) }
 {
     match (rom, inputs, wanted_window(window)) {
         (Some(rom), Some(inputs), Some(window)) if are_names(&[Some(rom), Some(inputs)]) => {

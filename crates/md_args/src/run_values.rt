@@ -1,4 +1,4 @@
-/// What the words of a run give for each argument, as it stands there.
+/// What the words of a run give for each argument, as it is given there.
 #[derive(Clone, Copy)]
 pub(crate) struct RunValues<'a> {
     pub(crate) rom: Option<&'a str>,

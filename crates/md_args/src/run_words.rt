@@ -1,13 +1,13 @@
 ghost use Rattle.std.specs.Prelude.{◌≡◌, ◌≤◌, true};
 ghost use Rattle.std.specs.Option.{option_copied};
-ghost use Rattle.md_args.specs.Words.{differ};
+ghost use Rattle.md_args.specs.Commands.{differ};
 
 /// What the words of a run ask for.
 #[derive(Clone, Copy)]
 pub struct RunWords<'a> {
     /// The cartridge's name.
     pub rom: &'a str,
-    /// The cycle of the run's end.
+    /// The master cycle of the run's end, any number below 2^64.
     pub cycles: u64,
     /// The recording's name, if one is given.
     pub recording: Option<&'a str>,

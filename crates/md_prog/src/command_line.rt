@@ -25,7 +25,7 @@ impl<'a, R: Env> Env for AfterName<'a, R> {
     }
 }
 
-/// The words after the program's name; an error where memory is wanting, or one of them is no text.
+/// The words after the program's name; an error where memory runs out or one of them is no text.
 pub(crate) fn words<R: Env>(rt: &R, alloc: Global) -> io::Result<Vec<String>> {
     let mut words = Vec::new(alloc);
     for word in env::args(&(AfterName(rt), alloc))? {

@@ -1,10 +1,12 @@
--- What the outputs hold behind appends.
+-- What the outputs hold after appends.
 use Rattle.std.proofs.Common.{◌≡◌, ℕ, List, [], ◌++◌, Option, Some, None, refl, sym, ap, subst, ◌∙◌, append-nil, append_assoc}
 use Rattle.std.specs.Prelude.{IsSome}
 use Rattle.md_outer.specs.Outside.{Files, IsPrefix, bytes_of, with_file}
-use Rattle.md_top.specs.Outputs.{Adds, AddsParts, Holds, LeavesParts, Pieces, lengthened, nothing, with_part}
+use Rattle.md_top.specs.Outputs.{Adds, AddsParts, Holds, LeavesParts, Pieces, lengthened, nothing, only}
+use Rattle.md_args.specs.Files.{run_output}
 use Rattle.md_args.specs.Words.{Run}
-use Rattle.md_top.proofs.Writes.{Apart, AreFront, but_state, frames-longer, journal-longer, named, only-frames, only-journal, only-sound, only-state, part-unasked, parts_left, parts-longer, prefix-append, prefix-front, sound-longer, state-longer}
+use Rattle.md_args.specs.declared.files.Output.{Output}
+use Rattle.md_top.proofs.Writes.{Apart, AreFront, front-behind, named, no-longer, only-front, output-longer, output-unasked, parts_left, parts-longer, prefix-front}
 
 -- APPENDS
 
@@ -16,92 +18,24 @@ abbrev AppendedPart : (ℕ → Option (List ℕ)) → ℕ → Files → Files �
 AppendedPart begun file old new piece =
     (name : List ℕ) → begun file ≡ Some name → (part : List ℕ) × IsPrefix part piece × (new ≡ with_file old name (bytes_of old name ++ part))
 
--- to the frames file
-pub adds-frames : (run : Run) → Apart run → (begun : ℕ → Option (List ℕ)) (file : ℕ) (old new : Files) (piece : List ℕ)
-    → IsSome run.frames × (begun file ≡ run.frames) → Appended begun file old new piece → Adds run old new (record nothing { frames = piece })
-adds-frames run apart begun file old new piece (some, is) appended first held holds =
-    let name = named run.frames some in
-    subst (Holds run first new) (only-frames held piece) (frames-longer run apart first old new held name.0 piece name.1 holds (appended name.0 (is ∙ name.1)))
+pub adds-piece : (run : Run) → Apart run → (which : Output) (begun : ℕ → Option (List ℕ)) (file : ℕ) (old new : Files) (piece : List ℕ)
+    → IsSome (run_output run which) × (begun file ≡ run_output run which) → Appended begun file old new piece → Adds run old new (only which piece)
+adds-piece run apart which begun file old new piece (some, is) appended first held holds =
+    let name = named (run_output run which) some in
+    output-longer run apart which first old new held name.0 piece name.1 holds (appended name.0 (is ∙ name.1))
 
-pub parts-frames : (run : Run) → Apart run → (begun : ℕ → Option (List ℕ)) (file : ℕ) (old new : Files) (piece : List ℕ)
-    → IsSome run.frames × (begun file ≡ run.frames) → AppendedPart begun file old new piece → AddsParts run old new (record nothing { frames = piece })
-parts-frames run apart begun file old new piece (some, is) appended first held holds =
-    let name = named run.frames some in
+pub parts-piece : (run : Run) → Apart run → (which : Output) (begun : ℕ → Option (List ℕ)) (file : ℕ) (old new : Files) (piece : List ℕ)
+    → IsSome (run_output run which) × (begun file ≡ run_output run which) → AppendedPart begun file old new piece → AddsParts run old new (only which piece)
+parts-piece run apart which begun file old new piece (some, is) appended first held holds =
+    let name = named (run_output run which) some in
     let part = appended name.0 (is ∙ name.1) in
-    parts_left run first new (record held { frames = held.frames ++ part.0 }) (lengthened held (record nothing { frames = piece }))
-    (frames-longer run apart first old new held name.0 part.0 name.1 holds part.2)
-    (record { frames = prefix-append held.frames part.0 piece part.1; sound = prefix-front held.sound []; journal = prefix-front held.journal []; state = prefix-front held.state [] })
+    parts_left run first new (lengthened held (only which part.0)) (lengthened held (only which piece))
+    (output-longer run apart which first old new held name.0 part.0 name.1 holds part.2)
+    (front-behind held (only which part.0) (only which piece) (only-front which part.0 piece part.1))
 
-pub adds-no_frames : (run : Run) (files : Files) (piece : List ℕ) → run.frames ≡ None → Adds run files files (record nothing { frames = piece })
-adds-no_frames run files piece is first held holds =
-    subst (Holds run first files) (only-frames held piece)
-    (holds ∙ ap (λ (base : Files). with_part (with_part (with_part base run.sound (Some held.sound)) run.journal (Some held.journal)) run.save (Some held.state))
-    (part-unasked first run.frames held.frames (held.frames ++ piece) is))
-
--- to the sound file
-pub adds-sound : (run : Run) → Apart run → (begun : ℕ → Option (List ℕ)) (file : ℕ) (old new : Files) (piece : List ℕ)
-    → IsSome run.sound × (begun file ≡ run.sound) → Appended begun file old new piece → Adds run old new (record nothing { sound = piece })
-adds-sound run apart begun file old new piece (some, is) appended first held holds =
-    let name = named run.sound some in
-    subst (Holds run first new) (only-sound held piece) (sound-longer run apart first old new held name.0 piece name.1 holds (appended name.0 (is ∙ name.1)))
-
-pub parts-sound : (run : Run) → Apart run → (begun : ℕ → Option (List ℕ)) (file : ℕ) (old new : Files) (piece : List ℕ)
-    → IsSome run.sound × (begun file ≡ run.sound) → AppendedPart begun file old new piece → AddsParts run old new (record nothing { sound = piece })
-parts-sound run apart begun file old new piece (some, is) appended first held holds =
-    let name = named run.sound some in
-    let part = appended name.0 (is ∙ name.1) in
-    parts_left run first new (record held { sound = held.sound ++ part.0 }) (lengthened held (record nothing { sound = piece }))
-    (sound-longer run apart first old new held name.0 part.0 name.1 holds part.2)
-    (record { frames = prefix-front held.frames []; sound = prefix-append held.sound part.0 piece part.1; journal = prefix-front held.journal []; state = prefix-front held.state [] })
-
-pub adds-no_sound : (run : Run) (files : Files) (piece : List ℕ) → run.sound ≡ None → Adds run files files (record nothing { sound = piece })
-adds-no_sound run files piece is first held holds =
-    subst (Holds run first files) (only-sound held piece)
-    (holds ∙ ap (λ (base : Files). with_part (with_part base run.journal (Some held.journal)) run.save (Some held.state))
-    (part-unasked (with_part first run.frames (Some held.frames)) run.sound held.sound (held.sound ++ piece) is))
-
--- to the journal
-pub adds-journal : (run : Run) → Apart run → (begun : ℕ → Option (List ℕ)) (file : ℕ) (old new : Files) (piece : List ℕ)
-    → IsSome run.journal × (begun file ≡ run.journal) → Appended begun file old new piece → Adds run old new (record nothing { journal = piece })
-adds-journal run apart begun file old new piece (some, is) appended first held holds =
-    let name = named run.journal some in
-    subst (Holds run first new) (only-journal held piece) (journal-longer run apart first old new held name.0 piece name.1 holds (appended name.0 (is ∙ name.1)))
-
-pub parts-journal : (run : Run) → Apart run → (begun : ℕ → Option (List ℕ)) (file : ℕ) (old new : Files) (piece : List ℕ)
-    → IsSome run.journal × (begun file ≡ run.journal) → AppendedPart begun file old new piece → AddsParts run old new (record nothing { journal = piece })
-parts-journal run apart begun file old new piece (some, is) appended first held holds =
-    let name = named run.journal some in
-    let part = appended name.0 (is ∙ name.1) in
-    parts_left run first new (record held { journal = held.journal ++ part.0 }) (lengthened held (record nothing { journal = piece }))
-    (journal-longer run apart first old new held name.0 part.0 name.1 holds part.2)
-    (record { frames = prefix-front held.frames []; sound = prefix-front held.sound []; journal = prefix-append held.journal part.0 piece part.1; state = prefix-front held.state [] })
-
-pub adds-no_journal : (run : Run) (files : Files) (piece : List ℕ) → run.journal ≡ None → Adds run files files (record nothing { journal = piece })
-adds-no_journal run files piece is first held holds =
-    subst (Holds run first files) (only-journal held piece)
-    (holds ∙ ap (λ (base : Files). with_part base run.save (Some held.state))
-    (part-unasked (with_part (with_part first run.frames (Some held.frames)) run.sound (Some held.sound)) run.journal held.journal (held.journal ++ piece) is))
-
--- and to the saved state
-pub adds-state : (run : Run) (begun : ℕ → Option (List ℕ)) (file : ℕ) (old new : Files) (piece : List ℕ)
-    → IsSome run.save × (begun file ≡ run.save) → Appended begun file old new piece → Adds run old new (record nothing { state = piece })
-adds-state run begun file old new piece (some, is) appended first held holds =
-    let name = named run.save some in
-    subst (Holds run first new) (only-state held piece) (state-longer run first old new held name.0 piece name.1 holds (appended name.0 (is ∙ name.1)))
-
-pub parts-state : (run : Run) (begun : ℕ → Option (List ℕ)) (file : ℕ) (old new : Files) (piece : List ℕ)
-    → IsSome run.save × (begun file ≡ run.save) → AppendedPart begun file old new piece → AddsParts run old new (record nothing { state = piece })
-parts-state run begun file old new piece (some, is) appended first held holds =
-    let name = named run.save some in
-    let part = appended name.0 (is ∙ name.1) in
-    parts_left run first new (record held { state = held.state ++ part.0 }) (lengthened held (record nothing { state = piece }))
-    (state-longer run first old new held name.0 part.0 name.1 holds part.2)
-    (record { frames = prefix-front held.frames []; sound = prefix-front held.sound []; journal = prefix-front held.journal []; state = prefix-append held.state part.0 piece part.1 })
-
-pub adds-no_state : (run : Run) (files : Files) (piece : List ℕ) → run.save ≡ None → Adds run files files (record nothing { state = piece })
-adds-no_state run files piece is first held holds =
-    subst (Holds run first files) (only-state held piece)
-    (holds ∙ part-unasked (but_state run first held) run.save held.state (held.state ++ piece) is)
+-- to an output that is not asked for
+pub adds-none : (run : Run) → Apart run → (which : Output) (files : Files) (piece : List ℕ) → run_output run which ≡ None → Adds run files files (only which piece)
+adds-none run apart which files piece is first held holds = output-unasked run apart which first files held piece is holds
 
 -- PIECES BEHIND PIECES
 
@@ -113,7 +47,7 @@ lengthened-assoc held more rest = λ i. record {
   state = append_assoc held.state more.state rest.state i;
 }
 
--- a second piece behind one that was appended
+-- a second piece after one that was appended
 pub adds-on : (run : Run) (old mid new : Files) (more rest : Pieces) → Adds run old mid more → Adds run mid new rest → Adds run old new (lengthened more rest)
 adds-on run old mid new more rest one two first held holds =
     subst (Holds run first new) (lengthened-assoc held more rest) (two first (lengthened held more) (one first held holds))
@@ -125,7 +59,7 @@ parts-on run old mid new more rest one two first held holds =
 front-longer : (more rest : Pieces) → AreFront more (lengthened more rest)
 front-longer more rest = record { frames = prefix-front more.frames rest.frames; sound = prefix-front more.sound rest.sound; journal = prefix-front more.journal rest.journal; state = prefix-front more.state rest.state }
 
--- no second piece behind a part of one
+-- no second piece after a part of one
 pub parts-stop : (run : Run) (old new : Files) (more rest : Pieces) → AddsParts run old new more → AddsParts run old new (lengthened more rest)
 parts-stop run old new more rest one first held holds =
     subst (LeavesParts run first new) (lengthened-assoc held more rest)
@@ -194,9 +128,4 @@ parts-state_front run old new front rest one =
 
 -- nothing was appended
 pub adds-nothing : (run : Run) (files : Files) → Adds run files files nothing
-adds-nothing run files first held holds = subst (Holds run first files) (λ i. record {
-  frames = sym (append-nil held.frames) i;
-  sound = sym (append-nil held.sound) i;
-  journal = sym (append-nil held.journal) i;
-  state = sym (append-nil held.state) i;
-}) holds
+adds-nothing run files first held holds = subst (Holds run first files) (sym (no-longer held)) holds

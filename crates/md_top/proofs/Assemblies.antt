@@ -1,91 +1,40 @@
--- What a status tells of an assembly, and the ending without a fault.
+-- What an ending says of an assembly, and the ending without a fault.
 use Rattle.std.proofs.Common.{◌≡◌, ◌≢◌, ◌⊎◌, inl, inr, ℕ, Bool, cond, List, [], length, Option, Some, None, refl, ap, ◌∙◌, arith}
 use Rattle.std.proofs.lemmas.Bool.{le-ltb}
 use Rattle.md_outer.specs.Outside.{DepotState, Files, Rose, with_file}
 use Rattle.md_outer.proofs.WrittenFiles.{with_file-other}
 use Rattle.md_asm.specs.Assembly as assembly
 use Rattle.md_asm.specs.declared.placed.Placed.{Placed}
-use Rattle.md_args.specs.Words.{Assemble, Assembling, Conversion, Run}
+use Rattle.md_args.specs.Words.{Assemble, Assembling}
+use Rattle.md_args.specs.declared.files.Input.TheVariants.{First}
+use Rattle.md_args.specs.declared.files.Output.TheVariants.{Listing, Target}
 use Rattle.file_commands.specs.Assemblies as files
 use Rattle.file_commands.specs.Assemblies.{HoldsParts, IsFound, LeavesEmpty, LeavesParts, limit, with_list}
 use Rattle.file_commands.proofs.AssemblyEndings.{right}
 use Rattle.file_commands.specs.declared.comes.Comes.{Comes}
 use Rattle.file_commands.specs.declared.comes.Comes.TheVariants as comes
-use Rattle.md_top.specs.Assemblies.{AsmEnds, AsmFiles, IsRefusedSource, as_ending, asm_ending}
-use Rattle.md_top.specs.Conversions.{ConvertEnds}
-use Rattle.md_top.specs.Endings.{InfoEnds, RunEnds, status_of}
-use Rattle.md_top.specs.Inputs.{IsMissing}
+use Rattle.md_top.specs.Assemblies.{AsmEnds, AsmFiles, as_ending, asm_ending}
+use Rattle.md_top.specs.Endings.{status_of}
 use Rattle.md_top.specs.declared.ending.Ending.{Ending}
-use Rattle.md_top.specs.declared.ending.Ending.TheVariants.{Converted, InputRefused, OutputFault, SourceRefused, ListFault, Usage, TooFar, ReadFault, TooLong, RecordingFault, RecordingWrong, LoadFault, ScriptFault, StateWrong, OtherCart, Behind, FramesFault, SoundFault, JournalFault, SaveFault, Memory}
-use Rattle.md_top.proofs.Statuses.{missing_cart}
-
--- no other command refuses a source
-pub info_source : (told : Type 0) (rom : List ℕ) (old new : DepotState) (ending : Ending) → InfoEnds told rom old new ending → status_of ending ≡ 16 → ⊥
-info_source told rom old new (SourceRefused line kind) cause is = absurd cause
-info_source told rom old new _ cause is = absurd (omega (arith, is))
-
-pub run_source : (told : Type 0) (run : Run) (old new : DepotState) (ending : Ending) → RunEnds told run old new ending → status_of ending ≡ 16 → ⊥
-run_source told run old new (SourceRefused line kind) cause is = absurd cause.1
-run_source told run old new _ cause is = absurd (omega (arith, is))
-
-pub convert_source : (told : Type 0) (conversion : Conversion) (old new : DepotState) (ending : Ending) → ConvertEnds told conversion old new ending → status_of ending ≡ 16 → ⊥
-convert_source told conversion old new (SourceRefused line kind) cause is = absurd cause
-convert_source told conversion old new _ cause is = absurd (omega (arith, is))
+use Rattle.md_top.specs.declared.ending.Ending.TheVariants.{Converted, Memory, ReadFault, SourceRefused, TooLong, WriteFault}
+use Rattle.md_top.proofs.Statuses.{Says, missing}
 
 module _ (told : Type 0) (words : Assembling) (old new : DepotState) where
   abbrev Ends : Ending → Type 0
   Ends ending = AsmEnds told words old new ending
 
-  -- why an assembly may end with each status
-  pub asm_usage : (ending : Ending) → Ends ending → status_of ending ≡ 2 → ⊥
-  asm_usage Usage cause is = absurd cause
-  asm_usage _ cause is = absurd (omega (arith, is))
+  -- what its endings say
+  pub asm_says : (ending : Ending) → Ends ending → Says told (Assemble words) old new ending
+  asm_says (Converted size) cause = tt
+  asm_says (ReadFault First) cause = missing told (Assemble words) old.files (λ none. (First, none)) cause
+  asm_says (TooLong First) cause = tt
+  asm_says (SourceRefused line kind) cause = (line, kind, cause)
+  asm_says (WriteFault Target) cause = cause.0
+  asm_says (WriteFault Listing) cause = cause.0
+  asm_says Memory cause = tt
+  asm_says _ cause = absurd cause
 
-  pub asm_far : (ending : Ending) → Ends ending → status_of ending ≡ 11 → ⊥
-  asm_far TooFar cause is = absurd cause
-  asm_far _ cause is = absurd (omega (arith, is))
-
-  pub asm_read_fault : (ending : Ending) → Ends ending → status_of ending ≡ 3 → Rose old.read_faults new.read_faults ⊎ (told × IsMissing (Assemble words) old.files)
-  asm_read_fault ReadFault cause is = missing_cart told (Assemble words) old.files inl cause
-  asm_read_fault RecordingFault cause is = absurd cause
-  asm_read_fault LoadFault cause is = absurd cause
-  asm_read_fault ScriptFault cause is = absurd cause
-  asm_read_fault _ cause is = absurd (omega (arith, is))
-
-  pub asm_wrong : (ending : Ending) → Ends ending → status_of ending ≡ 6 → ⊥
-  asm_wrong (RecordingWrong place) cause is = absurd cause
-  asm_wrong _ cause is = absurd (omega (arith, is))
-
-  pub asm_state : (ending : Ending) → Ends ending → status_of ending ≡ 7 → ⊥
-  asm_state (StateWrong place) cause is = absurd cause
-  asm_state _ cause is = absurd (omega (arith, is))
-
-  pub asm_other : (ending : Ending) → Ends ending → status_of ending ≡ 8 → ⊥
-  asm_other (OtherCart kept given) cause is = absurd cause
-  asm_other _ cause is = absurd (omega (arith, is))
-
-  pub asm_behind : (ending : Ending) → Ends ending → status_of ending ≡ 9 → ⊥
-  asm_behind (Behind from) cause is = absurd cause
-  asm_behind _ cause is = absurd (omega (arith, is))
-
-  pub asm_refused_input : (ending : Ending) → Ends ending → status_of ending ≡ 17 → ⊥
-  asm_refused_input (InputRefused fault) cause is = absurd cause
-  asm_refused_input _ cause is = absurd (omega (arith, is))
-
-  pub asm_refused_source : (ending : Ending) → Ends ending → status_of ending ≡ 16 → IsRefusedSource told words old.files
-  asm_refused_source (SourceRefused line kind) cause is = (line, kind, cause)
-  asm_refused_source _ cause is = absurd (omega (arith, is))
-
-  pub asm_write_fault : (ending : Ending) → Ends ending → status_of ending ≡ 4 → Rose old.write_faults new.write_faults
-  asm_write_fault OutputFault cause is = cause.0
-  asm_write_fault ListFault cause is = cause.0
-  asm_write_fault FramesFault cause is = absurd cause
-  asm_write_fault SoundFault cause is = absurd cause
-  asm_write_fault JournalFault cause is = absurd cause
-  asm_write_fault SaveFault cause is = absurd cause
-  asm_write_fault _ cause is = absurd (omega (arith, is))
-
-  -- without a fault the ending is the right one, or memory is wanting
+  -- without a fault the ending is the right one, or memory runs out
   as_right : (ends : Comes) → (ends ≡ files.right_ending (old.files words.source)) ⊎ (ends ≡ comes.NoMemory)
       → (status_of (as_ending ends) ≡ status_of (asm_ending words old.files)) ⊎ (status_of (as_ending ends) ≡ 10)
   as_right ends (inl is) = inl (ap (λ (c : Comes). status_of (as_ending c)) is)
@@ -94,12 +43,12 @@ module _ (told : Type 0) (words : Assembling) (old new : DepotState) where
   pub asm_right : (ending : Ending) → Ends ending → ¬ Rose old.read_faults new.read_faults → ¬ Rose old.write_faults new.write_faults → told
       → (status_of ending ≡ status_of (asm_ending words old.files)) ⊎ (status_of ending ≡ 10)
   asm_right (Converted size) cause reads writes t = as_right (comes.Made size) (right told words old new (comes.Made size) t reads writes cause)
-  asm_right ReadFault cause reads writes t = as_right comes.Unread (right told words old new comes.Unread t reads writes cause)
-  asm_right TooLong cause reads writes t = as_right comes.TooLong (right told words old new comes.TooLong t reads writes cause)
+  asm_right (ReadFault First) cause reads writes t = as_right comes.Unread (right told words old new comes.Unread t reads writes cause)
+  asm_right (TooLong First) cause reads writes t = as_right comes.TooLong (right told words old new comes.TooLong t reads writes cause)
   asm_right (SourceRefused line kind) cause reads writes t =
       as_right (comes.Refused line kind) (right told words old new (comes.Refused line kind) t reads writes cause)
-  asm_right OutputFault cause reads writes t = absurd (writes cause.0)
-  asm_right ListFault cause reads writes t = absurd (writes cause.0)
+  asm_right (WriteFault Target) cause reads writes t = absurd (writes cause.0)
+  asm_right (WriteFault Listing) cause reads writes t = absurd (writes cause.0)
   asm_right Memory cause reads writes t = inr refl
   asm_right _ cause reads writes t = absurd cause
 
@@ -140,7 +89,7 @@ pub assembled_other : (words : Assembling) (old new : Files) (ending : Ending) �
     → (name : List ℕ) → words.output ≢ name → words.list ≢ Some name → new name ≡ old name
 assembled_other words old new (Converted size) (image, lines, found, long, leaves, said) name differ apart =
     ap (λ (held : Files). held name) leaves ∙ both_other words old image _ name differ apart
-assembled_other words old new OutputFault leaves name differ apart = parts_other words old new leaves name differ apart
-assembled_other words old new ListFault leaves name differ apart = parts_other words old new leaves name differ apart
+assembled_other words old new (WriteFault Target) leaves name differ apart = parts_other words old new leaves name differ apart
+assembled_other words old new (WriteFault Listing) leaves name differ apart = parts_other words old new leaves name differ apart
 assembled_other words old new Memory leaves name differ apart = emptied_other words old new leaves name differ
 assembled_other words old new _ leaves name differ apart = ap (λ (held : Files). held name) leaves

@@ -1,4 +1,4 @@
--- The counts of frames and samples that are told are those of the machine's laws.
+-- The counts of frames and samples that are reported are those of the machine's laws.
 use Rattle.std.proofs.Common.{◌≡◌, ℕ, ◌+◌, ◌-◌, ◌*◌, ◌/◌, ◌%◌, ◌∙◌, ◌<◌, ◌≤◌, cond, Bool, true, false, refl, ap, arith}
 use Rattle.std.specs.Prelude.{nat_lt}
 use Rattle.std.proofs.lemmas.Bool.Decides.{nat_tests}
@@ -6,7 +6,7 @@ use Rattle.md_word.specs.Region.{finished_at, frame_cycles}
 use Rattle.md_machine.specs.Starts.{batches_below, frames_below}
 use Rattle.md_top.specs.Counts.{count_of_frames, frames_between, pairs_between}
 
--- a frame is counted from the cycle behind its line of the pads on
+-- a frame is counted from the cycle after its line of the pads on
 whole_of : (pal b : Bool) (end : ℕ) → nat_lt (finished_at pal) (end % frame_cycles pal) ≡ b
     → (end + (frame_cycles pal - finished_at pal - 1)) / frame_cycles pal ≡ end / frame_cycles pal + cond b 1 0
 whole_of false true end is = let late : finished_at false < end % frame_cycles false = grind (arith, nat_tests) in omega (arith, late)

@@ -1,111 +1,40 @@
--- A session of the debugger: what a status tells of its ending.
+-- A session of the debugger: what its ending says.
 use Rattle.std.proofs.Common.{◌≡◌, ◌≢◌, ◌⊎◌, inl, inr, ℕ, ◌<◌, ◌≤◌, Bool, cond, List, [], ◌++◌, length, Err, Option, Some, None, refl, sym, ap, subst, ◌∙◌, arith}
 use Rattle.std.specs.Prelude.{IsSomeAnd, unwrap_or}
 use Rattle.std.proofs.lemmas.Bool.{le-ltb, lt-ltb}
 use Rattle.md_debug.specs.Sessions.{reply_to}
 use Rattle.md_outer.specs.Outside.{DepotState, Files, GoesOn, Rose, SinkState}
-use Rattle.md_args.specs.Words.{Assembling, Conversion, Debug, Debugging, Demo, Run}
+use Rattle.md_args.specs.Words.{Debug, Debugging}
+use Rattle.md_args.specs.declared.files.Input.TheVariants.{Script}
 use Rattle.md_debug.specs.declared.script.Ending.{Ending as ScriptEnding}
 use Rattle.md_debug.specs.declared.script.Ending.TheVariants.{Obeyed, OutOfMemory, Refused}
 use Rattle.md_debug.specs.Opened.{PlaysScript, PutsScript, StopsScript}
 use Rattle.md_debug.proofs.PlayedScripts.{one_script}
-use Rattle.md_top.specs.Assemblies.{AsmEnds}
-use Rattle.md_top.specs.Conversions.{ConvertEnds}
-use Rattle.md_top.specs.Debuggings.{CanDebug, DebugEnds, IsPlayed, IsRefusedScript, IsScripted, Scripted, ShowsReplies, played_ending, script_limit}
-use Rattle.md_top.specs.Demos.{DemoEnds}
-use Rattle.md_top.specs.Endings.{InfoEnds, RunEnds, debug_ending, script_ending, status_of}
-use Rattle.md_top.specs.Inputs.{CartCause, IsAccepted, IsMissing, cart_of}
+use Rattle.md_top.specs.Debuggings.{CanDebug, DebugEnds, IsPlayed, IsScripted, Scripted, ShowsReplies, played_ending, script_limit}
+use Rattle.md_top.specs.Endings.{status_of}
+use Rattle.md_top.specs.Refusals.{debug_ending, script_ending}
+use Rattle.md_top.specs.Inputs.{CartCause, IsAccepted, IsTooLong, IsUnread, cart_of}
 use Rattle.md_top.specs.declared.ending.Ending.{Ending}
-use Rattle.md_top.specs.declared.ending.Ending.TheVariants.{Behind, DemoDone, FramesFault, InputRefused, JournalFault, ListFault, LoadFault, Memory, OtherCart, OutputFault, Played, ReadFault, RecordingFault, RecordingWrong, ReplyFault, SaveFault, ScriptFault, ScriptMemory, ScriptRefused, ScriptTooLong, SoundFault, SourceRefused, StateWrong, TooFar, Usage}
+use Rattle.md_top.specs.declared.ending.Ending.TheVariants.{Played, ReadFault, ReplyFault, ScriptMemory, ScriptRefused, TooLong}
 use Rattle.md_top.proofs.Kept.{unread_before}
 use Rattle.md_top.proofs.Puts.{puts_on}
-use Rattle.md_top.proofs.Right.{cart_always, cart_there, file_there, file_within, right_accepted}
-use Rattle.md_top.proofs.Statuses.{missing_cart}
+use Rattle.md_top.proofs.Right.{right_accepted}
+use Rattle.md_top.proofs.RunsRight.{cart_always, cart_there, file_there, file_within}
+use Rattle.md_top.proofs.Statuses.{Says, cart_says, missing}
 
--- no other command refuses a script
-pub info_script : (told : Type 0) (rom : List ℕ) (old new : DepotState) (ending : Ending) → InfoEnds told rom old new ending → status_of ending ≡ 15 → ⊥
-info_script told rom old new (ScriptRefused line fault) cause is = absurd cause
-info_script told rom old new _ cause is = absurd (omega (arith, is))
-
-pub run_script : (told : Type 0) (run : Run) (old new : DepotState) (ending : Ending) → RunEnds told run old new ending → status_of ending ≡ 15 → ⊥
-run_script told run old new (ScriptRefused line fault) cause is = absurd cause.1
-run_script told run old new _ cause is = absurd (omega (arith, is))
-
-pub convert_script : (told : Type 0) (conversion : Conversion) (old new : DepotState) (ending : Ending) → ConvertEnds told conversion old new ending → status_of ending ≡ 15 → ⊥
-convert_script told conversion old new (ScriptRefused line fault) cause is = absurd cause
-convert_script told conversion old new _ cause is = absurd (omega (arith, is))
-
-pub asm_script : (told : Type 0) (words : Assembling) (old new : DepotState) (ending : Ending) → AsmEnds told words old new ending → status_of ending ≡ 15 → ⊥
-asm_script told words old new (ScriptRefused line fault) cause is = absurd cause
-asm_script told words old new _ cause is = absurd (omega (arith, is))
-
-pub demo_script : (demo : Demo) (ending : Ending) → DemoEnds demo ending → status_of ending ≡ 15 → ⊥
-demo_script demo (DemoDone summary) ends is = omega (arith, is)
-demo_script demo (Behind from) ends is = omega (arith, is)
-demo_script demo Memory ends is = omega (arith, is)
-demo_script demo TooFar ends is = omega (arith, is)
-demo_script demo _ ends is = absurd ends
-
-module _ (told : Type 0) (words : Debugging) (old new : DepotState) where
-  abbrev Ends : Ending → Type 0
-  Ends ending = DebugEnds told words old new ending
-
-  -- why a session may end with each status
-  pub debug_usage : (ending : Ending) → Ends ending → status_of ending ≡ 2 → ⊥
-  debug_usage Usage cause is = absurd cause
-  debug_usage _ cause is = absurd (omega (arith, is))
-
-  pub debug_far : (ending : Ending) → Ends ending → status_of ending ≡ 11 → ⊥
-  debug_far TooFar cause is = absurd cause
-  debug_far _ cause is = absurd (omega (arith, is))
-
-  pub debug_read_fault : (ending : Ending) → Ends ending → status_of ending ≡ 3 → Rose old.read_faults new.read_faults ⊎ (told × IsMissing (Debug words) old.files)
-  debug_read_fault ReadFault cause is = missing_cart told (Debug words) old.files inl cause
-  debug_read_fault ScriptFault cause is = missing_cart told (Debug words) old.files (λ none. inr (inr (inr none))) cause.1
-  debug_read_fault RecordingFault cause is = absurd cause
-  debug_read_fault LoadFault cause is = absurd cause
-  debug_read_fault _ cause is = absurd (omega (arith, is))
-
-  pub debug_wrong : (ending : Ending) → Ends ending → status_of ending ≡ 6 → ⊥
-  debug_wrong (RecordingWrong place) cause is = absurd cause
-  debug_wrong _ cause is = absurd (omega (arith, is))
-
-  pub debug_state : (ending : Ending) → Ends ending → status_of ending ≡ 7 → ⊥
-  debug_state (StateWrong place) cause is = absurd cause
-  debug_state _ cause is = absurd (omega (arith, is))
-
-  pub debug_other : (ending : Ending) → Ends ending → status_of ending ≡ 8 → ⊥
-  debug_other (OtherCart kept given) cause is = absurd cause
-  debug_other _ cause is = absurd (omega (arith, is))
-
-  pub debug_behind : (ending : Ending) → Ends ending → status_of ending ≡ 9 → ⊥
-  debug_behind (Behind from) cause is = absurd cause
-  debug_behind _ cause is = absurd (omega (arith, is))
-
-  pub debug_input : (ending : Ending) → Ends ending → status_of ending ≡ 17 → ⊥
-  debug_input (InputRefused fault) cause is = absurd cause
-  debug_input _ cause is = absurd (omega (arith, is))
-
-  pub debug_source : (ending : Ending) → Ends ending → status_of ending ≡ 16 → ⊥
-  debug_source (SourceRefused line kind) cause is = absurd cause
-  debug_source _ cause is = absurd (omega (arith, is))
-
-  pub debug_refused : (ending : Ending) → Ends ending → status_of ending ≡ 15 → IsRefusedScript told words old.files
-  debug_refused (ScriptRefused line fault) cause is = (cause.0, line, fault, cause.1)
-  debug_refused _ cause is = absurd (omega (arith, is))
-
-  pub debug_write_fault : (ending : Ending) → Ends ending → status_of ending ≡ 4 → Rose old.write_faults new.write_faults
-  debug_write_fault OutputFault cause is = absurd cause
-  debug_write_fault ListFault cause is = absurd cause
-  debug_write_fault FramesFault cause is = absurd cause
-  debug_write_fault SoundFault cause is = absurd cause
-  debug_write_fault JournalFault cause is = absurd cause
-  debug_write_fault SaveFault cause is = absurd cause
-  debug_write_fault _ cause is = absurd (omega (arith, is))
+-- what the endings of a session say
+pub debug_says : (told : Type 0) (words : Debugging) (old new : DepotState) (ending : Ending) → DebugEnds told words old new ending → Says told (Debug words) old new ending
+debug_says told words old new Played cause = tt
+debug_says told words old new (ScriptRefused line fault) cause = (cause.0, line, fault, cause.1)
+debug_says told words old new ScriptMemory cause = tt
+debug_says told words old new ReplyFault cause = tt
+debug_says told words old new (ReadFault Script) cause = missing told (Debug words) old.files (λ none. (Script, none)) cause.1
+debug_says told words old new (TooLong Script) cause = tt
+debug_says told words old new other cause = cart_says told (Debug words) words.rom old new other refl cause
 
 -- ---- without a fault
 
--- what a session comes to hangs on what its script comes to, or not
+-- what a session results in depends on what its script results in, or not
 abbrev pub IsDebugRight : Debugging → Files → ℕ → Type 0
 IsDebugRight words files status =
     (script : Scripted)
@@ -121,20 +50,20 @@ debug_without : (words : Debugging) (files : Files) (right ending : Ending) → 
 debug_without words files right ending always is =
     (nothing, inr (λ other. always other ∙ sym (always nothing)), is ∙ sym (ap status_of (always nothing)))
 
-script_missing : (file : Option (List ℕ)) (script : Scripted) → file ≡ None → script_ending file script ≡ ScriptFault
+script_missing : (file : Option (List ℕ)) (script : Scripted) → file ≡ None → script_ending file script ≡ ReadFault Script
 script_missing file script none = ap (λ (f : Option (List ℕ)). script_ending f script) none
 
-script_long : (file : Option (List ℕ)) (script : Scripted) → IsSomeAnd file (λ bytes. script_limit < length bytes) → script_ending file script ≡ ScriptTooLong
+script_long : (file : Option (List ℕ)) (script : Scripted) → IsSomeAnd file (λ bytes. script_limit < length bytes) → script_ending file script ≡ TooLong Script
 script_long None script long = absurd long
 script_long (Some bytes) script long =
-    ap (λ (b : Bool). cond b ScriptTooLong (played_ending script.ending)) (lt-ltb script_limit (length bytes) long)
+    ap (λ (b : Bool). cond b (TooLong Script) (played_ending script.ending)) (lt-ltb script_limit (length bytes) long)
 
 -- the script that is played
 script_played : (file : Option (List ℕ)) (cart replies : List ℕ) (ending : ScriptEnding) → IsSomeAnd file (λ script. (length script ≤ script_limit) × PlaysScript cart script replies ending)
     → (script_ending file (record { replies = replies; ending = ending }) ≡ played_ending ending) × PlaysScript cart (unwrap_or file []) replies ending
 script_played None cart replies ending played = absurd played
 script_played (Some bytes) cart replies ending (within, plays) =
-    (ap (λ (b : Bool). cond b ScriptTooLong (played_ending ending)) (le-ltb script_limit (length bytes) within), plays)
+    (ap (λ (b : Bool). cond b (TooLong Script) (played_ending ending)) (le-ltb script_limit (length bytes) within), plays)
 
 debug_played : (words : Debugging) (files : Files) (replies : List ℕ) (ending : ScriptEnding) → IsPlayed words files replies ending
     → debug_ending words files (record { replies = replies; ending = ending }) ≡ played_ending ending
@@ -169,12 +98,12 @@ debug_right told words old new ReplyFault cause whole clean t = absurd (whole re
 debug_right told words old new (ScriptRefused line fault) (replies, played) whole clean t =
     inl (debug_with words old.files replies (Refused line fault) (played t) (not_refused line fault))
 debug_right told words old new ScriptMemory cause whole clean t = inr refl
-debug_right told words old new ScriptFault (accepted, inl rose) whole clean t = absurd (clean rose)
-debug_right told words old new ScriptFault (accepted, inr missing) whole clean t =
-    inl (debug_without words old.files ScriptFault ScriptFault
+debug_right told words old new (ReadFault Script) (accepted, inl rose) whole clean t = absurd (clean rose)
+debug_right told words old new (ReadFault Script) (accepted, inr missing) whole clean t =
+    inl (debug_without words old.files (ReadFault Script) (ReadFault Script)
     (λ script. right_accepted (old.files words.rom) _ (accepted t) ∙ script_missing (old.files words.script) script missing.1) refl)
-debug_right told words old new ScriptTooLong (accepted, long) whole clean t =
-    inl (debug_without words old.files ScriptTooLong ScriptTooLong
+debug_right told words old new (TooLong Script) (accepted, long) whole clean t =
+    inl (debug_without words old.files (TooLong Script) (TooLong Script)
     (λ script. right_accepted (old.files words.rom) _ (accepted t) ∙ script_long (old.files words.script) script (long t)) refl)
 debug_right told words old new other cause whole clean t = debug_cart told words old new other cause clean t
 
@@ -195,14 +124,14 @@ debug_done told words old new ReplyFault ready cause whole clean t = absurd (who
 debug_done told words old new (ScriptRefused line fault) ready (replies, played) whole clean t =
     absurd (script_obeyed (old.files words.script) (cart_of words.rom old.files) ready.0 replies line fault ready.1.1 (played t).1)
 debug_done told words old new ScriptMemory ready cause whole clean t = inr refl
-debug_done told words old new ScriptFault ready (accepted, inl rose) whole clean t = absurd (clean rose)
-debug_done told words old new ScriptFault ready (accepted, inr missing) whole clean t = absurd (file_there (old.files words.script) _ ready.1.1 missing.1)
-debug_done told words old new ScriptTooLong ready (accepted, long) whole clean t = absurd (file_within script_limit (old.files words.script) _ ready.1.1 (long t))
+debug_done told words old new (ReadFault Script) ready (accepted, inl rose) whole clean t = absurd (clean rose)
+debug_done told words old new (ReadFault Script) ready (accepted, inr missing) whole clean t = absurd (file_there (old.files words.script) _ ready.1.1 missing.1)
+debug_done told words old new (TooLong Script) ready (accepted, long) whole clean t = absurd (file_within script_limit (old.files words.script) _ ready.1.1 (long t))
 debug_done told words old new other ready cause whole clean t = cart_there told words.rom old new other ready.1.0 cause clean t
 
 -- ---- what was fetched
 
--- why a session ends behind its cartridge
+-- why a session ends after its cartridge
 played_files : (told : Type 0) (words : Debugging) (files : Files) (cart script : List ℕ) (P : List ℕ → List ℕ → Type 0)
     → (told → IsAccepted (files words.rom) × (cart ≡ cart_of words.rom files)) → (told → files words.script ≡ Some script) → length script ≤ script_limit → P cart script
     → told → IsAccepted (files words.rom) × IsSomeAnd (files words.script) (λ s. (length s ≤ script_limit) × P (cart_of words.rom files) s)
@@ -238,11 +167,11 @@ stopped_cause told sink words old new cart script out out' found is within stopp
 )
 
 pub unread_cause : (told : Type 0) (words : Debugging) (old mid new : DepotState) → (told → IsAccepted (old.files words.rom)) → (told → mid.files ≡ old.files) → GoesOn old mid
-    → Rose mid.read_faults new.read_faults ⊎ (told × (mid.files words.script ≡ None)) → DebugEnds told words old new ScriptFault
+    → IsUnread told words.script mid new → DebugEnds told words old new (ReadFault Script)
 unread_cause told words old mid new accepted same on cause = (accepted, unread_before told words.script old mid new same on cause)
 
 pub long_cause : (told : Type 0) (words : Debugging) (old mid new : DepotState) → (told → IsAccepted (old.files words.rom)) → (told → mid.files ≡ old.files)
-    → (told → IsSomeAnd (mid.files words.script) (λ script. script_limit < length script)) → DebugEnds told words old new ScriptTooLong
+    → IsTooLong told script_limit words.script mid → DebugEnds told words old new (TooLong Script)
 long_cause told words old mid new accepted same long =
     (accepted, λ t. subst (λ (files : Files). IsSomeAnd (files words.script) (λ script. script_limit < length script)) (same t) (long t))
 
@@ -253,6 +182,6 @@ cart_ends told sink words old new out Played cause = absurd cause
 cart_ends told sink words old new out ReplyFault cause = absurd cause
 cart_ends told sink words old new out (ScriptRefused line fault) cause = absurd cause
 cart_ends told sink words old new out ScriptMemory cause = absurd cause
-cart_ends told sink words old new out ScriptFault cause = absurd cause
-cart_ends told sink words old new out ScriptTooLong cause = absurd cause
+cart_ends told sink words old new out (ReadFault Script) cause = absurd cause
+cart_ends told sink words old new out (TooLong Script) cause = absurd cause
 cart_ends told sink words old new out _ cause = (cause, refl)

@@ -1,18 +1,18 @@
--- The run of a demonstration cartridge: what its digests hold, and what a status tells of its ending.
+-- The run of a demonstration cartridge: what its digests hold, and what its ending says.
 use Rattle.std.proofs.Common.{◌≡◌, ◌⊎◌, inl, inr, ℕ, ◌^◌, ◌<◌, ◌≤◌, List, [], ◌++◌, Bool, cond, Some, refl, sym, ap, subst, ◌∙◌, arith}
 use Rattle.std.proofs.lemmas.Bool.{le-ltb, lt-ltb, le-leb, lt-leb}
 use Rattle.sha2.specs.Hashers.{Holds256}
 use Rattle.sha2.specs.Sha256.{sha256}
-use Rattle.md_outer.specs.Outside.{Files, SinkState}
+use Rattle.md_outer.specs.Outside.{DepotState, Files}
 use Rattle.md_word.specs.declared.event.Entry.{Entry}
 use Rattle.md_machine.specs.Media.{Media}
 use Rattle.md_machine.specs.Outputs.{frames_bytes, journal_bytes, sound_bytes}
 use Rattle.md_machine.specs.Starts.{IsStart, Start}
 use Rattle.md_vgm.specs.Outcomes.{Outcome}
 use Rattle.md_args.specs.Words.{Demo, RunDemo}
-use Rattle.md_top.specs.Answers.{Reports}
 use Rattle.md_top.specs.Demos.{DemoEnds, HaveUntil, demo_start, digests_from, summary_from}
-use Rattle.md_top.specs.Endings.{Findings, demo_ending, right_ending, status_of}
+use Rattle.md_top.specs.Endings.{status_of}
+use Rattle.md_top.specs.Refusals.{Findings, demo_ending, right_ending}
 use Rattle.md_top.specs.Inputs.{Verdict}
 use Rattle.md_word.specs.Clock.{last_cycle}
 use Rattle.md_top.specs.Limits.{IsEnd}
@@ -22,6 +22,7 @@ use Rattle.md_top.specs.declared.ending.Ending.{Ending}
 use Rattle.md_top.specs.declared.ending.Ending.TheVariants.{Behind, DemoDone, Memory, TooFar}
 use Rattle.md_top.specs.declared.hashers.Hashers.{Hashers}
 use Rattle.md_top.proofs.Segments.{no-entries, no-media}
+use Rattle.md_top.proofs.Statuses.{Says}
 
 -- THE DIGESTS
 
@@ -35,7 +36,7 @@ have-none start hashers is laws small frames samples journal = record {
   journal = subst (λ (l : List Entry). Holds256 hashers.journal (journal_bytes l)) (sym (no-entries start is laws small)) journal;
 }
 
--- behind a segment
+-- after a segment
 pub have-more : (start : Start) (at to : ℕ) (old new : Hashers) (frames samples journal : List ℕ) → HaveUntil start at old
     → ((bytes : List ℕ) → Holds256 old.frames bytes → Holds256 new.frames (bytes ++ frames))
     → ((bytes : List ℕ) → Holds256 old.samples bytes → Holds256 new.samples (bytes ++ samples))
@@ -56,47 +57,22 @@ pub digests-are : (start : Start) (end : ℕ) (digests : Digests) → digests.fr
 unfolding digests_from
 digests-are start end digests frames samples journal = λ i. record { frames = frames i; samples = samples i; journal = journal i }
 
--- WHAT A STATUS TELLS
+-- WHAT AN ENDING SAYS
 
--- no other status comes than 0, 9, 10 and 11
-pub demo_never : (demo : Demo) (ending : Ending) (n : ℕ) → DemoEnds demo ending → status_of ending ≡ n → 1 ≤ n → n ≤ 8 → ⊥
-demo_never demo (DemoDone summary) n ends is some few = omega (arith, is, some)
-demo_never demo (Behind from) n ends is some few = omega (arith, is, few)
-demo_never demo Memory n ends is some few = omega (arith, is, few)
-demo_never demo TooFar n ends is some few = omega (arith, is, few)
-demo_never demo _ n ends is some few = absurd ends
-
-pub demo_far : (demo : Demo) (ending : Ending) → DemoEnds demo ending → status_of ending ≡ 11 → last_cycle < demo.cycles
-demo_far demo TooFar ends is = ends
-demo_far demo _ ends is = absurd (omega (arith, is))
-
-pub demo_behind : (demo : Demo) (ending : Ending) → DemoEnds demo ending → status_of ending ≡ 9 → demo.cycles ≡ 0
-demo_behind demo (Behind from) ends is = ends.0
-demo_behind demo _ ends is = absurd (omega (arith, is))
-
-pub demo_refused : (demo : Demo) (ending : Ending) → DemoEnds demo ending → status_of ending ≡ 17 → ⊥
-demo_refused demo (DemoDone summary) ends is = omega (arith, is)
-demo_refused demo (Behind from) ends is = omega (arith, is)
-demo_refused demo Memory ends is = omega (arith, is)
-demo_refused demo TooFar ends is = omega (arith, is)
-demo_refused demo _ ends is = absurd ends
-
--- nor a source
-pub demo_source : (demo : Demo) (ending : Ending) → DemoEnds demo ending → status_of ending ≡ 16 → ⊥
-demo_source demo (DemoDone summary) ends is = omega (arith, is)
-demo_source demo (Behind from) ends is = omega (arith, is)
-demo_source demo Memory ends is = omega (arith, is)
-demo_source demo TooFar ends is = omega (arith, is)
-demo_source demo _ ends is = absurd ends
+pub demo_says : (told : Type 0) (demo : Demo) (old new : DepotState) (ending : Ending) → DemoEnds demo ending → Says told (RunDemo demo) old new ending
+demo_says told demo old new Memory ends = tt
+demo_says told demo old new TooFar ends = ends
+demo_says told demo old new (Behind from) ends = ends.0
+demo_says told demo old new (DemoDone summary) ends = tt
+demo_says told demo old new _ ends = absurd ends
 
 -- where the end is too far no other ending comes
-pub demo_far_only : (sink : Type 0) (demo : Demo) (out out' : SinkState) (status : ℕ) (ending : Ending) → DemoEnds demo ending
-    → Reports sink (Some (RunDemo demo)) ending out out' status → last_cycle < demo.cycles → (status ≡ 11) ⊎ (status ≡ 10)
-demo_far_only sink demo out out' status TooFar ends reports far = inl reports.0
-demo_far_only sink demo out out' status Memory ends reports far = inr reports.0
-demo_far_only sink demo out out' status (Behind from) ends reports far = absurd (omega (arith, ends.0, far))
-demo_far_only sink demo out out' status (DemoDone summary) ends reports far = absurd (omega (arith, ends.0.1, far))
-demo_far_only sink demo out out' status _ ends reports far = absurd ends
+pub demo_far : (demo : Demo) (ending : Ending) → DemoEnds demo ending → last_cycle < demo.cycles → (status_of ending ≡ 11) ⊎ (status_of ending ≡ 10)
+demo_far demo TooFar ends far = inl refl
+demo_far demo Memory ends far = inr refl
+demo_far demo (Behind from) ends far = absurd (omega (arith, ends.0, far))
+demo_far demo (DemoDone summary) ends far = absurd (omega (arith, ends.0.1, far))
+demo_far demo _ ends far = absurd ends
 
 -- WITHOUT A FAULT
 
@@ -122,7 +98,7 @@ pub right_demo_done : (demo : Demo) (files : Files) (verdict : Verdict) (found :
 right_demo_done demo files verdict found outcome end =
     ap status_of (right_demo_near demo files verdict found outcome end.1 ∙ demo_ending_done demo (omega (arith, end.0)))
 
--- the ending is the right one, or memory is wanting
+-- the ending is the right one, or memory runs out
 pub demo_right : (demo : Demo) (files : Files) (verdict : Verdict) (found : Findings) (outcome : Outcome) (ending : Ending) → DemoEnds demo ending
     → (status_of ending ≡ status_of (right_ending (Some (RunDemo demo)) files verdict found outcome)) ⊎ (status_of ending ≡ 10)
 demo_right demo files verdict found outcome TooFar ends = inl (sym (ap status_of (right_demo_far demo files verdict found outcome ends)))

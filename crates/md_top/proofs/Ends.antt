@@ -6,12 +6,15 @@ use Rattle.md_top.specs.Endings.{HoldsUntil, RunCause, RunEnds, RunFiles, RunLea
 use Rattle.md_word.specs.Clock.{last_cycle}
 use Rattle.md_top.specs.Limits.{IsEnd}
 use Rattle.md_top.specs.Loads.{Begins, LoadCause, MayBeginAt}
-use Rattle.md_top.specs.Outputs.{Adds, AddsParts, AreBegun, Holds, IsBegun, IsUnwritten, IsWriteFault, LeavesParts, Parts, Pieces, all_of, lengthened, nothing}
+use Rattle.md_top.specs.Outputs.{Adds, AddsParts, AreBegun, Holds, IsBegun, IsUnwritten, IsWriteFault, LeavesParts, Parts, Pieces, all_of, lengthened, nothing, number_in}
 use Rattle.md_top.specs.Runs.{RunLaws, frames_to, journal_to, pieces_of, pieces_until, sound_until, state_to}
 use Rattle.md_machine.specs.Starts.{IsStart, Start}
+use Rattle.md_args.specs.Files.{run_output}
 use Rattle.md_args.specs.Words.{Run}
+use Rattle.md_args.specs.declared.files.Input.TheVariants.{State}
+use Rattle.md_args.specs.declared.files.Output.TheVariants.{Frames, Journal, Listing, Save, Sound, Target}
 use Rattle.md_top.specs.declared.ending.Ending.{Ending}
-use Rattle.md_top.specs.declared.ending.Ending.TheVariants.{Done, FramesFault, SoundFault, JournalFault, LoadFault, StateTooLong, StateWrong, OtherCart, SaveFault, Memory}
+use Rattle.md_top.specs.declared.ending.Ending.TheVariants.{Done, Memory, OtherCart, ReadFault, StateWrong, TooLong, WriteFault}
 use Rattle.md_top.specs.declared.outputs.Outputs.{Outputs}
 use Rattle.md_top.proofs.Puts.{rose_later}
 use Rattle.md_top.proofs.Segments.{pieces-first, pieces-front}
@@ -61,7 +64,7 @@ segment-parts run start first old new at to more from laws within small is adds 
     (subst (LeavesParts run first new) is (adds first (pieces_until start run.cycles at) holds))
     (pieces-front start run.cycles to from laws small within)
 
--- the state behind the last segment
+-- the state after the last segment
 with-state : (start : Start) (end : ℕ) (state : List ℕ) → state ≡ state_to start end → lengthened (pieces_until start end end) (record nothing { state = state }) ≡ pieces_of start end
 with-state start end state is = λ i. record {
   frames = append-nil (frames_to start end) i;
@@ -83,17 +86,11 @@ state-parts run start first old new state is adds holds =
 -- WHY IT STOPS
 
 pub fault-cause : (start : Start) (run : Run) (old new : DepotState) (ending : Ending) → IsWriteFault run old new ending → RunCause start run old new ending
-fault-cause start run old new FramesFault fault = fault
-fault-cause start run old new SoundFault fault = fault
-fault-cause start run old new JournalFault fault = fault
-fault-cause start run old new SaveFault fault = fault
+fault-cause start run old new (WriteFault which) fault = fault
 fault-cause start run old new _ fault = absurd fault
 
 pub unwritten-cause : (start : Start) (run : Run) (old new : DepotState) (ending : Ending) → IsUnwritten run old new ending → RunCause start run old new ending
-unwritten-cause start run old new FramesFault fault = fault
-unwritten-cause start run old new SoundFault fault = fault
-unwritten-cause start run old new JournalFault fault = fault
-unwritten-cause start run old new SaveFault fault = fault
+unwritten-cause start run old new (WriteFault which) fault = fault
 unwritten-cause start run old new Memory fault = tt
 unwritten-cause start run old new _ fault = absurd fault
 
@@ -101,30 +98,26 @@ unwritten-cause start run old new _ fault = absurd fault
 pub cause-before : (start : Start) (run : Run) (old mid new : DepotState) (ending : Ending) → GoesOn old mid → RunCause start run mid new ending → RunCause start run old new ending
 cause-before start run old mid new (Done from frames accesses halted) on cause = cause
 cause-before start run old mid new Memory on cause = tt
-cause-before start run old mid new FramesFault on cause = (cause.0, rose_later old.write_faults mid.write_faults new.write_faults on.writes cause.1)
-cause-before start run old mid new SoundFault on cause = (cause.0, rose_later old.write_faults mid.write_faults new.write_faults on.writes cause.1)
-cause-before start run old mid new SaveFault on cause = (cause.0, rose_later old.write_faults mid.write_faults new.write_faults on.writes cause.1)
-cause-before start run old mid new JournalFault on cause = (cause.0, rose_later old.write_faults mid.write_faults new.write_faults on.writes cause.1)
+cause-before start run old mid new (WriteFault which) on cause = (cause.0, rose_later old.write_faults mid.write_faults new.write_faults on.writes cause.1)
 cause-before start run old mid new _ on cause = absurd cause
 
--- it is no want of memory
+pub unwritten-before : (run : Run) (old mid new : DepotState) (ending : Ending) → GoesOn old mid → IsUnwritten run mid new ending → IsUnwritten run old new ending
+unwritten-before run old mid new Memory on cause = tt
+unwritten-before run old mid new (WriteFault which) on cause = (cause.0, rose_later old.write_faults mid.write_faults new.write_faults on.writes cause.1)
+unwritten-before run old mid new _ on cause = absurd cause
+
+-- it is not out of memory
 pub fault-not_memory : (run : Run) (old new : DepotState) (ending : Ending) → IsWriteFault run old new ending → ending ≢ Memory
 fault-not_memory run old new ending fault is = subst (IsWriteFault run old new) is fault
 
 pub fault-leaves : (start : Start) (run : Run) (first files : Files) (old new : DepotState) (ending : Ending) → IsWriteFault run old new ending
     → LeavesParts run first files (pieces_of start run.cycles) → RunLeaves start run first files ending
-fault-leaves start run first files old new FramesFault fault leaves = leaves
-fault-leaves start run first files old new SoundFault fault leaves = leaves
-fault-leaves start run first files old new JournalFault fault leaves = leaves
-fault-leaves start run first files old new SaveFault fault leaves = leaves
+fault-leaves start run first files old new (WriteFault which) fault leaves = leaves
 fault-leaves start run first files old new _ fault leaves = absurd fault
 
 pub unwritten-leaves : (start : Start) (run : Run) (first files : Files) (old new : DepotState) (ending : Ending) → IsUnwritten run old new ending
     → LeavesParts run first files nothing → RunLeaves start run first files ending
-unwritten-leaves start run first files old new FramesFault fault leaves = parts-longer run first files nothing (pieces_of start run.cycles) leaves (nothing-front (pieces_of start run.cycles))
-unwritten-leaves start run first files old new SoundFault fault leaves = parts-longer run first files nothing (pieces_of start run.cycles) leaves (nothing-front (pieces_of start run.cycles))
-unwritten-leaves start run first files old new JournalFault fault leaves = parts-longer run first files nothing (pieces_of start run.cycles) leaves (nothing-front (pieces_of start run.cycles))
-unwritten-leaves start run first files old new SaveFault fault leaves = parts-longer run first files nothing (pieces_of start run.cycles) leaves (nothing-front (pieces_of start run.cycles))
+unwritten-leaves start run first files old new (WriteFault which) fault leaves = parts-longer run first files nothing (pieces_of start run.cycles) leaves (nothing-front (pieces_of start run.cycles))
 unwritten-leaves start run first files old new Memory fault leaves = leaves
 unwritten-leaves start run first files old new _ fault leaves = absurd fault
 
@@ -144,10 +137,7 @@ untouched run old new same = record {
 
 pub unchanged : (run : Run) (old new : Files) (ending : Ending) → new ≡ old → RunFiles run old new ending
 unchanged run old new (Done from frames accesses halted) same = (no_part, same)
-unchanged run old new FramesFault same = (no_part, same)
-unchanged run old new SoundFault same = (no_part, same)
-unchanged run old new JournalFault same = (no_part, same)
-unchanged run old new SaveFault same = (no_part, same)
+unchanged run old new (WriteFault which) same = (no_part, same)
 unchanged run old new Memory same = untouched run old new same
 unchanged run old new _ same = same
 
@@ -172,29 +162,20 @@ pub end-of-run : (told : Type 0) (run : Run) (start : Start) (old mid new : Depo
 end-of-run told run start old mid new (Done from frames accesses halted) one end may begins ahead on cause leaves =
     (end, (λ none. cause.from ∙ may none), λ t. run-from run start old mid new (Done from frames accesses halted) one (begins t) ahead on cause (leaves t))
 end-of-run told run start old mid new Memory one end may begins ahead on cause leaves = tt
-end-of-run told run start old mid new FramesFault one end may begins ahead on cause leaves =
-    (end, (λ t. run-from run start old mid new FramesFault one (begins t) ahead on cause (leaves t)), cause-before start run old mid new FramesFault on cause)
-end-of-run told run start old mid new SoundFault one end may begins ahead on cause leaves =
-    (end, (λ t. run-from run start old mid new SoundFault one (begins t) ahead on cause (leaves t)), cause-before start run old mid new SoundFault on cause)
-end-of-run told run start old mid new JournalFault one end may begins ahead on cause leaves =
-    (end, (λ t. run-from run start old mid new JournalFault one (begins t) ahead on cause (leaves t)), cause-before start run old mid new JournalFault on cause)
-end-of-run told run start old mid new SaveFault one end may begins ahead on cause leaves =
-    (end, (λ t. run-from run start old mid new SaveFault one (begins t) ahead on cause (leaves t)), cause-before start run old mid new SaveFault on cause)
+end-of-run told run start old mid new (WriteFault which) one end may begins ahead on cause leaves =
+    (end, (λ t. run-from run start old mid new (WriteFault which) one (begins t) ahead on cause (leaves t)), cause-before start run old mid new (WriteFault which) on cause)
 end-of-run told run start old mid new _ one end may begins ahead on cause leaves = absurd cause
 
 pub files-of-run : (run : Run) (start : Start) (old new : Files) (ending : Ending) → RunLeaves start run old new ending → RunFiles run old new ending
 files-of-run run start old new (Done from frames accesses halted) leaves = (all_of (pieces_of start run.cycles), leaves)
-files-of-run run start old new FramesFault leaves = (leaves.parts, leaves.files)
-files-of-run run start old new SoundFault leaves = (leaves.parts, leaves.files)
-files-of-run run start old new JournalFault leaves = (leaves.parts, leaves.files)
-files-of-run run start old new SaveFault leaves = (leaves.parts, leaves.files)
+files-of-run run start old new (WriteFault which) leaves = (leaves.parts, leaves.files)
 files-of-run run start old new Memory leaves = leaves
 files-of-run run start old new _ leaves = leaves
 
 -- a run that found no machine
 pub load-ends : (told : Type 0) (run : Run) (old new : DepotState) (ending : Ending) → run.cycles ≤ last_cycle → LoadCause told run old new ending → RunEnds told run old new ending
-load-ends told run old new LoadFault near cause = (near, cause)
-load-ends told run old new StateTooLong near cause = (near, cause)
+load-ends told run old new (ReadFault State) near cause = (near, cause)
+load-ends told run old new (TooLong State) near cause = (near, cause)
 load-ends told run old new (StateWrong place) near cause = (near, cause)
 load-ends told run old new (OtherCart kept given) near cause = (near, cause)
 load-ends told run old new Memory near cause = tt
@@ -221,10 +202,7 @@ unbegun-run told run start old mid new ending one end may begins ahead on same u
     (unwritten-leaves start run mid.files new.files mid new ending unwritten (leaves t)))
 
 pub unbegun-files : (run : Run) (old new : DepotState) (first files : Files) (ending : Ending) → IsUnwritten run old new ending → LeavesParts run first files nothing → RunFiles run first files ending
-unbegun-files run old new first files FramesFault unwritten leaves = (leaves.parts, leaves.files)
-unbegun-files run old new first files SoundFault unwritten leaves = (leaves.parts, leaves.files)
-unbegun-files run old new first files JournalFault unwritten leaves = (leaves.parts, leaves.files)
-unbegun-files run old new first files SaveFault unwritten leaves = (leaves.parts, leaves.files)
+unbegun-files run old new first files (WriteFault which) unwritten leaves = (leaves.parts, leaves.files)
 unbegun-files run old new first files Memory unwritten leaves = leaves
 unbegun-files run old new first files _ unwritten leaves = absurd unwritten
 
@@ -233,17 +211,22 @@ unbegun-files run old new first files _ unwritten leaves = absurd unwritten
 held : (name : Option (List ℕ)) (found : Option (List ℕ)) → IsSome name → found ≡ name → IsSome found
 held name found some is = rw is some
 
-begun-one : (old new : DepotState) (number : Option ℕ) (name : Option (List ℕ)) → GoesOn old new → IsBegun old.begun number name → IsBegun new.begun number name
+pub begun-one : (old new : DepotState) (number : Option ℕ) (name : Option (List ℕ)) → GoesOn old new → IsBegun old.begun number name → IsBegun new.begun number name
 begun-one old new None name on begun = begun
 begun-one old new (Some file) name on (some, is) = (some, on.names file (held name (old.begun file) some is) ∙ is)
 
 pub begun-on : (run : Run) (old new : DepotState) (outputs : Outputs) → GoesOn old new → AreBegun run old.begun outputs → AreBegun run new.begun outputs
-begun-on run old new outputs on begun = record {
-  frames = begun-one old new outputs.frames run.frames on begun.frames;
-  sound = begun-one old new outputs.sound run.sound on begun.sound;
-  journal = begun-one old new outputs.journal run.journal on begun.journal;
-  save = begun-one old new outputs.save run.save on begun.save;
-}
+begun-on run old new outputs on begun = λ which. begun-one old new (number_in outputs which) (run_output run which) on (begun which)
+
+-- those of a run are all
+pub all-begun : (run : Run) (begun : ℕ → Option (List ℕ)) (outputs : Outputs) → IsBegun begun outputs.frames run.frames → IsBegun begun outputs.sound run.sound
+    → IsBegun begun outputs.journal run.journal → IsBegun begun outputs.save run.save → AreBegun run begun outputs
+all-begun run begun outputs frames sound journal save Frames = frames
+all-begun run begun outputs frames sound journal save Sound = sound
+all-begun run begun outputs frames sound journal save Journal = journal
+all-begun run begun outputs frames sound journal save Save = save
+all-begun run begun outputs frames sound journal save Target = refl
+all-begun run begun outputs frames sound journal save Listing = refl
 
 pub goes-far : (old mid new : DepotState) → GoesOn old mid → GoesOn mid new → GoesOn old new
 goes-far old mid new first second = record {

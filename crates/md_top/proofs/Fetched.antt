@@ -1,4 +1,4 @@
--- What reading the bytes of a recording comes to.
+-- What reading the bytes of a recording results in.
 use Rattle.std.proofs.Common.{◌≡◌, ℕ, ◌≤◌, List, length, Option, Some, Result, Ok, Err, refl, sym, subst, ◌↔◌}
 use Rattle.std.specs.Prelude.{IfOk, IsErrOf, IsSomeAnd}
 use Rattle.md_outer.specs.Outside.{DepotState}

@@ -1,11 +1,13 @@
--- What reading a saved state comes to.
+-- What reading a saved state results in.
 use Rattle.std.proofs.Common.{◌≡◌, ◌⊎◌, inl, inr, ℕ, ◌<◌, ◌≤◌, List, length, Option, Some, None, sym, ap, ◌∙◌, subst}
 use Rattle.std.specs.Prelude.{IsSomeAnd}
 use Rattle.md_outer.specs.Outside.{DepotState, Files, GoesOn, Rose}
+use Rattle.md_args.specs.declared.files.Input.TheVariants.{State}
+use Rattle.md_top.specs.Inputs.{IsUnread}
 use Rattle.md_top.specs.Loads.{IsFound, IsFoundIn, IsRefused, StateCause, state_limit}
 use Rattle.state_laws.specs.Verdicts.{OfOther, StateVerdict, StateWrongAt}
 use Rattle.md_top.specs.declared.ending.Ending.{Ending}
-use Rattle.md_top.specs.declared.ending.Ending.TheVariants.{LoadFault as Unread, StateTooLong, StateWrong, OtherCart, Memory}
+use Rattle.md_top.specs.declared.ending.Ending.TheVariants.{Memory, OtherCart, ReadFault, StateWrong, TooLong}
 use Rattle.md_top.specs.declared.inputs.Inputs.{Inputs}
 use Rattle.md_top.proofs.Fetched.{held}
 use Rattle.md_top.proofs.Puts.{rose_later}
@@ -30,15 +32,15 @@ some-map None f p = absurd p
 some-map (Some name) f p = f name p
 
 pub unread_before : (told : Type 0) (name : List ℕ) (old mid new : DepotState) → (told → mid.files ≡ old.files) → GoesOn old mid
-    → Rose mid.read_faults new.read_faults ⊎ (told × (mid.files name ≡ None)) → Rose old.read_faults new.read_faults ⊎ (told × (old.files name ≡ None))
+    → IsUnread told name mid new → IsUnread told name old new
 unread_before told name old mid new same on (inl rose) = inl (rose_later old.read_faults mid.read_faults new.read_faults on.reads rose)
 unread_before told name old mid new same on (inr missing) = inr (missing.0, sym (ap (λ (files : Files). files name) (same missing.0)) ∙ missing.1)
 
 pub state-cause-before : (told : Type 0) (load : Option (List ℕ)) (inputs : Inputs) (old mid new : DepotState) (ending : Ending) → (told → mid.files ≡ old.files) → GoesOn old mid
     → StateCause told load inputs mid new ending → StateCause told load inputs old new ending
-state-cause-before told load inputs old mid new Unread same on cause =
+state-cause-before told load inputs old mid new (ReadFault State) same on cause =
     some-map load (λ name. unread_before told name old mid new same on) cause
-state-cause-before told load inputs old mid new StateTooLong same on cause =
+state-cause-before told load inputs old mid new (TooLong State) same on cause =
     some-map load (λ name long t. subst (λ (files : Files). IsSomeAnd (files name) (λ bytes. state_limit < length bytes)) (same t) (long t)) cause
 state-cause-before told load inputs old mid new (StateWrong place) same on cause =
     some-map load (λ name wrong t. subst (λ (files : Files). IsFoundIn (files name) inputs (StateWrongAt place)) (same t) (wrong t)) cause

@@ -1,4 +1,4 @@
--- The run that the machine made is the one of the definition, which goes on from cycle to cycle.
+-- The run that the machine made is the one of the definition, which continues from cycle to cycle.
 use Rattle.std.proofs.Common.{◌≡◌, ℕ, ◌+◌, ◌-◌, ◌<◌, ◌≤◌, ◌^◌, ◌⊎◌, inl, inr, true, false, List, ◌++◌, refl, sym, ap, ◌∙◌, subst, arith}
 use Rattle.std.proofs.lemmas.Bool.{le-leb, lt-leb, leb-false, leb-true}
 use Rattle.md_word.specs.declared.event.Entry.{Entry}

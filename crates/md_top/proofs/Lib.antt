@@ -6,7 +6,9 @@ pub mod Counts
 pub mod Debuggings
 pub mod Demos
 pub mod Ends
+pub mod Exact
 pub mod Fetched
+pub mod Found
 pub mod Heard
 pub mod Kept
 pub mod Least
@@ -17,6 +19,7 @@ pub mod Rests
 pub mod Right
 pub mod Rollings
 pub mod Rows
+pub mod RunsRight
 pub mod Segments
 pub mod Stages
 pub mod Starts

@@ -4,7 +4,7 @@ use Rattle.std.specs.Prelude.{not}
 use Rattle.std.specs.Str.{bytes_eq}
 use Rattle.std.proofs.lemmas.Slice.Eq.{bytes_eq-Decides}
 use Rattle.md_args.specs.Shown.{shown_run}
-use Rattle.md_args.specs.Words.{differ}
+use Rattle.md_args.specs.Commands.{differ}
 use Rattle.md_args.specs.declared.run_words.RunWords.{RunWords}
 use Rattle.md_top.proofs.Writes.{Apart}
 

@@ -1,9 +1,15 @@
--- Texts that are put one behind the other.
-use Rattle.std.proofs.Common.{◌≡◌, ℕ, ◌≤◌, List, [], ◌++◌, Result, Ok, Err, ◌⊎◌, inl, inr, ap, ◌∙◌, sym, append-nil, append_assoc, arith}
+-- Texts that are put one after the other.
+use Rattle.std.proofs.Common.{◌≡◌, ℕ, zero, suc, ◌≤◌, List, ◌++◌, Result, Ok, Err, Option, refl, ◌⊎◌, inl, inr, ap, ◌∙◌, sym, subst, append_assoc, arith}
 use Rattle.std.specs.Prelude.{OnErr, OnOk}
-use Rattle.md_top.specs.Answers.{PutsAll, PutsOutput, PutsPart}
+use Rattle.md_top.specs.Answers.{PutsAll, PutsEnding, PutsLine, PutsPart, Reports}
+use Rattle.md_top.specs.Endings.{failed_status, status_of}
+use Rattle.md_top.specs.Texts.{text_of}
+use Rattle.md_top.specs.declared.ending.Ending.{Ending}
+use Rattle.md_top.specs.declared.ending.Ending.TheVariants.{Played, ReplyFault}
+use Rattle.md_args.specs.Words.{Command}
 use Rattle.md_debug.proofs.Scripts.{puts_more}
 use Rattle.md_outer.specs.Outside.{IsPrefix, PutsText, Rose, SinkState}
+use Rattle.md_outer.specs.declared.sink.Failed.{Failed}
 use Rattle.md_top.proofs.Writes.{prefix-append}
 
 prefix_longer : (front first second : List ℕ) → IsPrefix front first → IsPrefix front (first ++ second)
@@ -12,7 +18,7 @@ prefix_longer front first second (rest, is) = (rest ++ second, sym (append_assoc
 pub rose_later : (before mid now : ℕ) → before ≤ mid → Rose mid now → Rose before now
 rose_later before mid now later rose = omega arith
 
--- a second text behind one that was put
+-- a second text after one that was put
 pub puts_on : {E F : Type 0} (told : Type 0) (first second : List ℕ) (old mid new : SinkState) (result : Result (Unit {0}) F)
     → PutsText {E = E} told first old mid (Ok tt) → PutsText told second mid new result → PutsText told (first ++ second) old new result
 puts_on told first second old mid new (Ok done) one two = puts_more told first second old mid new one two
@@ -27,7 +33,7 @@ puts_on told first second old mid new (Err fault) one two = record {
   );
 }
 
--- no second text behind one that failed
+-- no second text after one that failed
 pub puts_stop : {E F : Type 0} (told : Type 0) (first second : List ℕ) (old new : SinkState) (e : E) (f : F)
     → PutsText told first old new (Err e) → PutsText told (first ++ second) old new (Err f)
 puts_stop told first second old new e f one = record {
@@ -43,8 +49,30 @@ pub put_or_part : {E : Type 0} (told : Type 0) (text : List ℕ) (old new : Sink
 put_or_part told text old new (Ok done) puts = inl (record { later = puts.later; bytes = puts.whole })
 put_or_part told text old new (Err fault) puts = inr (record { rose = puts.failed; bytes = puts.part })
 
--- the status of a command that ended well
-pub output_put : {E : Type 0} (told : Type 0) (text : List ℕ) (old new : SinkState) (put : Result (Unit {0}) E) (status : ℕ) → PutsText told text old new put
-    → OnOk put (status ≡ 0) → OnErr put (status ≡ 13) → PutsOutput told text old new status
-output_put told text old new (Ok done) status puts zero thirteen = inl (zero, record { later = puts.later; bytes = puts.whole })
-output_put told text old new (Err fault) status puts zero thirteen = inr (thirteen, record { rose = puts.failed; bytes = puts.part })
+-- a line that was put, or within which the sink failed, and the status after it
+line_put : {E : Type 0} (told : Type 0) (text : List ℕ) (old new : SinkState) (put : Result (Unit {0}) E) (of status : ℕ) → PutsText told text old new put
+    → OnOk put (status ≡ of) → OnErr put (status ≡ failed_status of) → PutsLine told text of old new status
+line_put told text old new (Ok done) of status puts whole failed = inl (whole, record { later = puts.later; bytes = puts.whole })
+line_put told text old new (Err fault) of status puts whole failed = inr (failed, record { rose = puts.failed; bytes = puts.part })
+
+none_put : {E : Type 0} (put : Result (Unit {0}) E) (of status : ℕ) → put ≡ Ok tt → OnOk put (status ≡ of) → status ≡ of
+none_put {E} put of status is whole = subst (λ (r : Result (Unit {0}) E). OnOk r (status ≡ of)) is whole
+
+-- what was put of an ending, and the status after it
+pub ending_put : (told : Type 0) (command : Option Command) (ending : Ending) (old new : SinkState) (put : Result (Unit {0}) Failed) (of status : ℕ)
+    → PutsEnding told command ending old new put → of ≡ status_of ending → OnOk put (status ≡ of) → OnErr put (status ≡ failed_status of) → Reports told command ending old new status
+ending_put told command Played old new put of status puts is whole failed = (none_put put of status puts.0 whole ∙ is, puts.1)
+ending_put told command ReplyFault old new put of status puts is whole failed = (none_put put of status puts.0 whole ∙ is, puts.1)
+ending_put told command other old new put of status puts is whole failed =
+    subst (λ (n : ℕ). PutsLine told (text_of command other) n old new status) is (line_put told (text_of command other) old new put of status puts whole failed)
+
+-- the line of a refusal
+pub line_of : (told : Type 0) (text : List ℕ) (of : ℕ) (old new : SinkState) (status : ℕ) → status ≡ of → of ≡ failed_status of
+    → PutsAll told text old new ⊎ PutsPart told text old new → PutsLine told text of old new status
+line_of told text of old new status is same (inl whole) = inl (is, whole)
+line_of told text of old new status is same (inr part) = inr (is ∙ same, part)
+
+-- a status other than 0 stays
+pub status_stays : (status : ℕ) → (status ≡ 0 → ⊥) → status ≡ failed_status status
+status_stays zero other = absurd (other refl)
+status_stays (suc n) other = refl

@@ -23,7 +23,7 @@ use Rattle.md_top.proofs.Counts.{frames-left, pairs-counted}
 use Rattle.md_top.proofs.LeastRuns.{Found, Later, later_run, run-found, run-made}
 use Rattle.md_top.proofs.Segments.{frames_bytes-append, journal_bytes-append, paired, sound_bytes-append}
 
--- the bytes of the rest stand behind those of the first part
+-- the bytes of the rest stand after those of the first part
 rest-frames : (start : Start) (at end : ℕ) (output : Media) → RunLaws start → at ≤ 2 ^ 50 → media_from start end ≡ joined (media_from start at) output
     → frames_to start end ≡ frames_to start at ++ frames_bytes (saved_start start at).console.pal output.frames
 unfolding frames_to
@@ -44,7 +44,7 @@ rest-journal : (start : Start) (at end : ℕ) (later : List Entry) → entries_f
 unfolding journal_to
 rest-journal start at end later more = ap journal_bytes more ∙ journal_bytes-append (entries_from start at) later
 
--- the saved state goes on as the run
+-- the saved state continues as the run does
 rest-goes-on : (start : Start) (at : ℕ) → IsStart start → RunLaws start → StateLaws → IsReached at (run_from start at) → GoesOnFrom start at
 unfolding state_to
 rest-goes-on start at is laws states reached = λ end after entries output within near run.

@@ -1,4 +1,4 @@
--- A segment behind a run is a run, and what its outputs hold.
+-- A segment after a run is a run, and what its outputs hold.
 use Rattle.std.proofs.Common.{◌≡◌, ℕ, Bool, true, false, zero, suc, ◌+◌, ◌-◌, ◌*◌, ◌≤◌, ◌^◌, List, [], ◌∷◌, ◌++◌, length, refl, sym, ap, ◌∙◌, subst, append_assoc, append-nil, arith}
 use Rattle.std.specs.Prelude.{ℤ}
 use Rattle.std.proofs.lemmas.Grind.{flat_map-append}
@@ -23,7 +23,7 @@ use Rattle.md_top.specs.Runs.{RunLaws, entries_from, frames_to, halted_from, jou
 use Rattle.md_top.proofs.Writes.{AreFront}
 use Rattle.md_top.proofs.LeastRuns.{Found, Later, later_run, moves-found, run-found, run-made}
 
--- where a level has its sums, the pairs of samples stand one behind the other
+-- where a level has its sums, the pairs of samples stand one after the other
 mixed-append : (levels later : List ℤ) (sides later_sides : List (ℤ × ℤ)) → length sides ≡ length levels
     → mixed_bytes (levels ++ later) (sides ++ later_sides) ≡ mixed_bytes levels sides ++ mixed_bytes later later_sides
 mixed-append [] later [] later_sides paired = refl
@@ -37,7 +37,7 @@ pub sound_bytes-append : (first second : Media) → length first.sides ≡ lengt
 unfolding sound_bytes
 sound_bytes-append first second paired = mixed-append first.levels second.levels first.sides second.sides paired
 
--- the frames one behind the other
+-- the frames one after the other
 pub frames_bytes-append : (pal : Bool) (first second : List (List ℕ)) → frames_bytes pal (first ++ second) ≡ frames_bytes pal first ++ frames_bytes pal second
 unfolding frames_bytes
 frames_bytes-append pal first second = flat_map-append (frame_bytes pal) first second
@@ -50,7 +50,7 @@ frame-room old new frames room same few fit = subst (λ (b : Bool). frame_length
     within false enough = omega (arith, few, enough)
     within true enough = omega (arith, few, enough)
 
--- the bytes of records one behind the other
+-- the bytes of records one after the other
 pub journal_bytes-append : (first second : List Entry) → journal_bytes (first ++ second) ≡ journal_bytes first ++ journal_bytes second
 unfolding journal_bytes
 journal_bytes-append first second = flat_map-append entry_bytes first second
@@ -107,7 +107,7 @@ paired start at is laws small =
     laws.sides_counted (run_from start at) at (entries_from start at) (media_from start at) is run
     ∙ sym (laws.levels_counted (run_from start at) at (entries_from start at) (media_from start at) is run)
 
--- what the outputs hold at a cycle is a front part of what they hold later
+-- what the outputs hold at a cycle is a prefix of what they hold later
 sound-grows : (start : Start) (end s t : ℕ) → IsStart start → RunLaws start → t ≤ 2 ^ 50 → s ≤ t → IsPrefix (sound_until start end s) (sound_until start end t)
 unfolding sound_until
 sound-grows start end s t is laws small within =
@@ -154,7 +154,7 @@ at-start start is laws heard reached small = record {
   reached = reached;
 }
 
--- behind a segment
+-- after a segment
 pub segment-came : (start : Start) (at to accesses : ℕ) (after machine : MachineValue) → IsStart start → RunLaws start → HearsRuns start → IsReached start.at start.console → start.at ≤ to → Segment start at to after
     → machine ≡ record { at = to; console = after.console; entries = []; media = no_media } → accesses ≡ length (entries_from start to)
     → CameTo start machine accesses
@@ -162,7 +162,7 @@ segment-came start at to accesses after machine is laws heard reached later made
     subst (λ (m : MachineValue). CameTo start m accesses) (sym same)
     (record { from = is; laws = laws; later = later; run = made.run; entries = refl; media = refl; counted = counted; heard = heard; reached = reached })
 
--- the outputs behind a segment
+-- the outputs after a segment
 sound-next : (start : Start) (end at to : ℕ) (pairs : List ℕ) → sound_bytes (media_from start to) ≡ sound_bytes (media_from start at) ++ pairs
     → sound_until start end at ++ pairs ≡ sound_until start end to
 unfolding sound_until

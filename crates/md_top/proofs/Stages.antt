@@ -12,12 +12,13 @@ use Rattle.md_top.specs.Stages.{IsAboutToRun, IsAboutToRunDemo, IsAnswered, Leav
 use Rattle.md_top.specs.declared.begun_run.BegunRun.{BegunRun}
 use Rattle.md_top.specs.declared.course.Course.{Course}
 use Rattle.md_top.specs.declared.ending.Ending.{Ending}
-use Rattle.md_top.specs.declared.ending.Ending.TheVariants.{Done, DemoDone, FramesFault, SoundFault, JournalFault, SaveFault, Memory, Usage}
+use Rattle.md_top.specs.declared.ending.Ending.TheVariants.{Done, DemoDone, Memory, Usage, WriteFault}
 use Rattle.md_top.specs.declared.summary.Summary.{Summary}
 use Rattle.md_machine.specs.Starts.{Start}
 use Rattle.md_top.proofs.Ends.{AreOne, end-of-run, files-of-run, untouched}
 use Rattle.md_top.proofs.Rows.{causes_of, memory_answers, memory_causes, none_causes}
-use Rattle.md_top.proofs.Statuses.{reported}
+use Rattle.md_top.proofs.Puts.{line_of}
+use Rattle.md_top.proofs.Statuses.{IsOf, reported_then}
 
 -- BEFORE THE FIRST SEGMENT
 
@@ -40,16 +41,16 @@ pub usage_answered : (told sink : Type 0) (command : Option Command) (old now : 
 usage_answered told sink command old now out out' status none same two put =
     subst (λ (asked : Option Command). IsAnswered told sink asked old now out out' status) (sym none)
     (subst (λ (new : DepotState). IsAnswered told sink None old new out out' status) (sym same)
-    (record { ending = Usage; cause = tt; files = λ t. refl; between = out; shown = refl; reports = (two, put) }, none_causes told old out out' status (inl two)))
+    (record { ending = Usage; cause = tt; files = λ t. refl; between = out; shown = refl; reports = line_of sink (codes "refused: usage\n") 2 out out' status two refl put }, none_causes told old out out' status (inl two)))
 
--- words for which memory was wanting
+-- out of memory for the words
 pub memory_answered : (told sink : Type 0) (command : Option Command) (old now : DepotState) (out out' : SinkState) (status : ℕ) → now ≡ old → status ≡ 10
     → PutsAll sink (codes "refused: memory\n") out out' ⊎ PutsPart sink (codes "refused: memory\n") out out' → IsAnswered told sink command old now out out' status
 memory_answered told sink command old now out out' status same ten put =
     subst (λ (new : DepotState). IsAnswered told sink command old new out out' status) (sym same)
     (memory_answers told sink command old out out' status ten put, memory_causes told sink command old out out' status ten put)
 
--- a command that came to an ending
+-- a command that resulted in an ending
 pub ended_answered : (told sink : Type 0) (command : Option Command) (asked : Command) (old new : DepotState) (out between out' : SinkState) (status : ℕ) (ending : Ending)
     → Some asked ≡ command → HasCause told (Some asked) old new ending → (told → LeavesFiles (Some asked) old.files new.files ending)
     → Shows told sink (Some asked) old.files ending out between → Reports sink (Some asked) ending between out' status → IsAnswered told sink command old new out out' status
@@ -93,21 +94,18 @@ pub shown_answered : (told sink : Type 0) (command : Option Command) (old new : 
     → out ≡ before → IsAnswered told sink command old new out out' status → IsAnswered told sink command old new before out' status
 shown_answered told sink command old new before out out' status same is = subst (λ (first : SinkState). IsAnswered told sink command old new first out' status) same is
 
--- NO WANT OF MEMORY
+-- NOT OUT OF MEMORY
 
 pub run_not_ten : (start : Start) (run : Run) (old new : DepotState) (ending : Ending) → RunCause start run old new ending → ending ≢ Memory → status_of ending ≡ 10 → ⊥
 run_not_ten start run old new (Done from frames accesses halted) cause other is = omega (arith, is)
-run_not_ten start run old new FramesFault cause other is = omega (arith, is)
-run_not_ten start run old new SoundFault cause other is = omega (arith, is)
-run_not_ten start run old new JournalFault cause other is = omega (arith, is)
-run_not_ten start run old new SaveFault cause other is = omega (arith, is)
+run_not_ten start run old new (WriteFault which) cause other is = omega (arith, is)
 run_not_ten start run old new Memory cause other is = other refl
 run_not_ten start run old new _ cause other is = absurd cause
 
 pub not_ten : (sink : Type 0) (command : Option Command) (ending : Ending) (out out' : SinkState) (status : ℕ) → Reports sink command ending out out' status
     → (status_of ending ≡ 10 → ⊥) → status ≡ 10 → ⊥
-not_ten sink command ending out out' status reports other ten = by (reported sink command ending out out out' status (omega arith) reports)
+not_ten sink command ending out out' status reports other ten = by (reported_then sink command ending out out' status reports)
   where
-    by : (status ≡ status_of ending) ⊎ ((status ≡ 13) × Rose out.faults out'.faults) → ⊥
+    by : IsOf status ending out out' → ⊥
     by (inl same) = other (sym same ∙ ten)
-    by (inr (thirteen, rose)) = omega (arith, thirteen, ten)
+    by (inr part) = omega (arith, part.1, ten)

@@ -1,19 +1,30 @@
--- What a status tells of the ending.
-use Rattle.std.proofs.Common.{◌≡◌, ◌⊎◌, inl, inr, ℕ, ◌<◌, ◌≤◌, List, [], length, Option, Some, None, refl, sym, ap, subst, ◌∙◌, arith}
+-- What a status says of the ending.
+use Rattle.std.proofs.Common.{◌≡◌, ◌⊎◌, inl, inr, ℕ, zero, suc, ◌<◌, ◌≤◌, List, [], length, Option, Some, None, refl, sym, subst, ◌∙◌, arith}
 use Rattle.std.specs.Prelude.{IsSomeAnd, unwrap_or}
 use Rattle.md_outer.specs.Outside.{DepotState, Files, Rose, SinkState, bytes_of}
 use Rattle.md_pads.specs.Recording.{GoesWrongAt, IsSpelled}
-use Rattle.md_top.specs.Answers.{IsBehind, PutsOutput, Reports, Shows}
-use Rattle.md_top.specs.Inputs.{IsMissing, RecordingCause, recording_limit}
-use Rattle.md_word.specs.Clock.{last_cycle}
-use Rattle.md_top.specs.Loads.{IsLoadFound}
+use Rattle.md_debug.specs.declared.fault.DebugFault.{DebugFault}
+use Rattle.md_vgm.specs.declared.fault.VgmFault.{VgmFault}
+use Rattle.md_rollback.specs.declared.line_fault.LineFault.{LineFault}
 use Rattle.state_laws.specs.Verdicts.{OfOther, StateWrongAt}
-use Rattle.md_top.specs.Endings.{InfoEnds, RunEnds, status_of, text_of}
-use Rattle.md_top.proofs.Puts.{rose_later}
-use Rattle.md_args.specs.Words.{Assemble, Command, Convert, Debug, Debugging, Info, Rollback, Run, RunCart, RunDemo}
-use Rattle.md_top.specs.Debuggings.{ShowsReplies}
+use Rattle.md_word.specs.Clock.{last_cycle}
+use Rattle.md_args.specs.Files.{input_of}
+use Rattle.md_args.specs.Words.{Command, Debug, Debugging, Info, Run, RunCart, assembling_in, conversion_in, debugging_in, end_of, rolling_in, run_in}
+use Rattle.md_args.specs.declared.files.Input.{Input}
+use Rattle.md_args.specs.declared.files.Input.TheVariants.{First, Recording, State}
+use Rattle.md_args.specs.declared.files.Output.{Output}
+use Rattle.md_top.specs.Answers.{IsBehind, PutsLine, Reports, Shows}
+use Rattle.md_top.specs.Assemblies.{IsRefusedSource}
+use Rattle.md_top.specs.Conversions.{IsRefusedInput}
+use Rattle.md_top.specs.Debuggings.{IsRefusedScript, ShowsReplies}
+use Rattle.md_top.specs.Endings.{InfoEnds, RunEnds, status_of}
+use Rattle.md_top.specs.Inputs.{CartCause, IsMissing, IsUnread, RecordingCause, recording_limit}
+use Rattle.md_top.specs.Loads.{IsLoadFound}
+use Rattle.md_top.specs.Rollings.{IsRefusedLine}
+use Rattle.md_top.specs.Texts.{text_of}
 use Rattle.md_top.specs.declared.ending.Ending.{Ending}
-use Rattle.md_top.specs.declared.ending.Ending.TheVariants.{Shown, Played, ReplyFault, ScriptMemory, ScriptRefused, Done, DemoDone, Converted, RolledBack, OutputFault, ListFault, Usage, TooFar, ReadFault, RecordingFault, RecordingWrong, LoadFault, ScriptFault, StateWrong, OtherCart, Behind, FramesFault, SoundFault, JournalFault, SaveFault, Memory}
+use Rattle.md_top.specs.declared.ending.Ending.TheVariants.{Shown, Done, Played, Usage, ReadFault, WriteFault, Short, NoMark, RecordingWrong, StateWrong, OtherCart, Behind, Memory, ScriptMemory, TooFar, ReplyFault, TooLong, ScriptRefused, SourceRefused, InputRefused, LineRefused}
+use Rattle.md_top.proofs.Puts.{rose_later}
 
 -- what was shown before lowers no count of faults
 replies_later : (told sink : Type 0) (words : Debugging) (files : Files) (ending : Ending) (out between : SinkState) → ShowsReplies told sink words files ending out between
@@ -24,38 +35,33 @@ replies_later told sink words files ScriptMemory out between shown = shown.2.lat
 replies_later told sink words files ReplyFault out between shown = shown.2.later
 replies_later told sink words files _ out between shown = subst (λ (s : SinkState). out.faults ≤ s.faults) (sym shown) (omega arith)
 
-pub shown_later : (told sink : Type 0) (command : Option Command) (files : Files) (ending : Ending) (out between : SinkState) → Shows told sink command files ending out between
+shown_later : (told sink : Type 0) (command : Option Command) (files : Files) (ending : Ending) (out between : SinkState) → Shows told sink command files ending out between
     → out.faults ≤ between.faults
 shown_later told sink (Some (Debug words)) files ending out between shown = replies_later told sink words files ending out between shown
-shown_later told sink None files ending out between shown = subst (λ (s : SinkState). out.faults ≤ s.faults) (sym shown) (omega arith)
-shown_later told sink (Some (Info rom)) files ending out between shown = subst (λ (s : SinkState). out.faults ≤ s.faults) (sym shown) (omega arith)
-shown_later told sink (Some (RunCart run)) files ending out between shown = subst (λ (s : SinkState). out.faults ≤ s.faults) (sym shown) (omega arith)
-shown_later told sink (Some (RunDemo demo)) files ending out between shown = subst (λ (s : SinkState). out.faults ≤ s.faults) (sym shown) (omega arith)
-shown_later told sink (Some (Convert conversion)) files ending out between shown = subst (λ (s : SinkState). out.faults ≤ s.faults) (sym shown) (omega arith)
-shown_later told sink (Some (Assemble words)) files ending out between shown = subst (λ (s : SinkState). out.faults ≤ s.faults) (sym shown) (omega arith)
-shown_later told sink (Some (Rollback words)) files ending out between shown = subst (λ (s : SinkState). out.faults ≤ s.faults) (sym shown) (omega arith)
+shown_later told sink _ files ending out between shown = subst (λ (s : SinkState). out.faults ≤ s.faults) (sym shown) (omega arith)
 
--- the status is the ending's, but where the sink failed within an output
-put_output : (told : Type 0) (text : List ℕ) (out out' : SinkState) (status : ℕ) → PutsOutput told text out out' status
-    → (status ≡ 0) ⊎ ((status ≡ 13) × Rose out.faults out'.faults)
-put_output told text out out' status (inl put) = inl put.0
-put_output told text out out' status (inr part) = inr (part.0, part.1.rose)
+-- the status is the ending's, but where that is 0 and the sink failed
+abbrev pub IsOf : ℕ → Ending → SinkState → SinkState → Type 0
+IsOf status ending out out' = (status ≡ status_of ending) ⊎ ((status_of ending ≡ 0) × (status ≡ 13) × Rose out.faults out'.faults)
 
-reported_then : (sink : Type 0) (command : Option Command) (ending : Ending) (between out' : SinkState) (status : ℕ) → Reports sink command ending between out' status
-    → (status ≡ status_of ending) ⊎ ((status ≡ 13) × Rose between.faults out'.faults)
-reported_then sink command (Shown lines) out out' status reports = put_output sink (text_of command (Shown lines)) out out' status reports
-reported_then sink command (Done from frames accesses halted) out out' status reports =
-    put_output sink (text_of command (Done from frames accesses halted)) out out' status reports
-reported_then sink command (DemoDone summary) out out' status reports = put_output sink (text_of command (DemoDone summary)) out out' status reports
-reported_then sink command (Converted size) out out' status reports = put_output sink (text_of command (Converted size)) out out' status reports
-reported_then sink command (RolledBack rolled) out out' status reports = put_output sink (text_of command (RolledBack rolled)) out out' status reports
-reported_then sink command _ out out' status reports = inl reports.0
+line_put : (told : Type 0) (text : List ℕ) (of : ℕ) (out out' : SinkState) (status : ℕ) → PutsLine told text of out out' status
+    → (status ≡ of) ⊎ ((of ≡ 0) × (status ≡ 13) × Rose out.faults out'.faults)
+line_put told text of out out' status (inl put) = inl put.0
+line_put told text zero out out' status (inr part) = inr (refl, part.0, part.1.rose)
+line_put told text (suc n) out out' status (inr part) = inl part.0
 
-pub reported : (sink : Type 0) (command : Option Command) (ending : Ending) (out between out' : SinkState) (status : ℕ) → out.faults ≤ between.faults
-    → Reports sink command ending between out' status → (status ≡ status_of ending) ⊎ ((status ≡ 13) × Rose out.faults out'.faults)
-reported sink command ending out between out' status later reports = elim (reported_then sink command ending between out' status reports) [
+pub reported_then : (sink : Type 0) (command : Option Command) (ending : Ending) (between out' : SinkState) (status : ℕ) → Reports sink command ending between out' status
+    → IsOf status ending between out'
+reported_then sink command Played out out' status reports = inl reports.0
+reported_then sink command ReplyFault out out' status reports = inl reports.0
+reported_then sink command other out out' status reports = line_put sink (text_of command other) (status_of other) out out' status reports
+
+pub reported : (told sink : Type 0) (command : Option Command) (files : Files) (ending : Ending) (out between out' : SinkState) (status : ℕ)
+    → Shows told sink command files ending out between → Reports sink command ending between out' status → IsOf status ending out out'
+reported told sink command files ending out between out' status shown reports = elim (reported_then sink command ending between out' status reports) [
   | inl is ↦ inl is
-  | inr part ↦ inr (part.0, rose_later out.faults between.faults out'.faults later part.1)
+  | inr part ↦
+      inr (part.0, part.1, rose_later out.faults between.faults out'.faults (shown_later told sink command files ending out between shown) part.2)
 ]
 
 -- the sink failed within a reply
@@ -66,140 +72,147 @@ reply_failed told sink words files ending out between out' status shown reports 
     let same : out' ≡ between = (subst (λ (e : Ending). Reports sink (Some (Debug words)) e between out' status) is reports).1 in
     subst (λ (s : SinkState). Rose out.faults s.faults) (sym same) rose
 
--- no other ending has the status of one
+-- a status other than 13 is the ending's
+pub of_ending : (status : ℕ) (ending : Ending) (out out' : SinkState) (n : ℕ) → IsOf status ending out out' → status ≡ n → (n ≡ 13 → ⊥) → status_of ending ≡ n
+of_ending status ending out out' n (inl same) is other = sym same ∙ is
+of_ending status ending out out' n (inr part) is other = absurd (other (sym is ∙ part.1))
+
+-- THE ENDING OF A STATUS
+
+pub is_usage : (ending : Ending) → status_of ending ≡ 2 → ending ≡ Usage
+is_usage Usage is = refl
+is_usage _ is = absurd (omega (arith, is))
+
+pub is_read_fault : (ending : Ending) → status_of ending ≡ 3 → (which : Input) × (ending ≡ ReadFault which)
+is_read_fault (ReadFault which) is = (which, refl)
+is_read_fault _ is = absurd (omega (arith, is))
+
+pub is_write_fault : (ending : Ending) → status_of ending ≡ 4 → (which : Output) × (ending ≡ WriteFault which)
+is_write_fault (WriteFault which) is = (which, refl)
+is_write_fault _ is = absurd (omega (arith, is))
+
+pub is_wrong : (ending : Ending) → status_of ending ≡ 6 → (place : ℕ) × (ending ≡ RecordingWrong place)
+is_wrong (RecordingWrong place) is = (place, refl)
+is_wrong _ is = absurd (omega (arith, is))
+
+pub is_state_wrong : (ending : Ending) → status_of ending ≡ 7 → (place : ℕ) × (ending ≡ StateWrong place)
+is_state_wrong (StateWrong place) is = (place, refl)
+is_state_wrong _ is = absurd (omega (arith, is))
+
+pub is_other_cart : (ending : Ending) → status_of ending ≡ 8 → (kept : List ℕ) × (given : List ℕ) × (ending ≡ OtherCart kept given)
+is_other_cart (OtherCart kept given) is = (kept, given, refl)
+is_other_cart _ is = absurd (omega (arith, is))
+
+pub is_behind : (ending : Ending) → status_of ending ≡ 9 → (from : ℕ) × (ending ≡ Behind from)
+is_behind (Behind from) is = (from, refl)
+is_behind _ is = absurd (omega (arith, is))
+
+pub is_far : (ending : Ending) → status_of ending ≡ 11 → ending ≡ TooFar
+is_far TooFar is = refl
+is_far _ is = absurd (omega (arith, is))
+
 pub is_reply_fault : (ending : Ending) → status_of ending ≡ 13 → ending ≡ ReplyFault
 is_reply_fault ReplyFault is = refl
 is_reply_fault _ is = absurd (omega (arith, is))
 
--- a status other than 13 is the ending's
-pub of_ending : (status of n : ℕ) {P : Type 0} → (status ≡ of) ⊎ ((status ≡ 13) × P) → status ≡ n → (n ≡ 13 → ⊥) → of ≡ n
-of_ending status of n (inl same) is other = sym same ∙ is
-of_ending status of n (inr (out, rose)) is other = absurd (other (sym is ∙ out))
+pub is_script_refused : (ending : Ending) → status_of ending ≡ 15 → (line : ℕ) × (fault : DebugFault) × (ending ≡ ScriptRefused line fault)
+is_script_refused (ScriptRefused line fault) is = (line, fault, refl)
+is_script_refused _ is = absurd (omega (arith, is))
 
--- why a command may end with each status
-pub info_usage : (told : Type 0) (rom : List ℕ) (old new : DepotState) (ending : Ending) → InfoEnds told rom old new ending → status_of ending ≡ 2 → ⊥
-info_usage told rom old new Usage cause is = absurd cause
-info_usage told rom old new _ cause is = absurd (omega (arith, is))
+pub is_source_refused : (ending : Ending) → status_of ending ≡ 16 → (line : ℕ) × (kind : ℕ) × (ending ≡ SourceRefused line kind)
+is_source_refused (SourceRefused line kind) is = (line, kind, refl)
+is_source_refused _ is = absurd (omega (arith, is))
 
-pub run_usage : (told : Type 0) (run : Run) (old new : DepotState) (ending : Ending) → RunEnds told run old new ending → status_of ending ≡ 2 → ⊥
-run_usage told run old new Usage cause is = absurd cause.1
-run_usage told run old new _ cause is = absurd (omega (arith, is))
+pub is_input_refused : (ending : Ending) → status_of ending ≡ 17 → (fault : VgmFault) × (ending ≡ InputRefused fault)
+is_input_refused (InputRefused fault) is = (fault, refl)
+is_input_refused _ is = absurd (omega (arith, is))
 
-pub info_far : (told : Type 0) (rom : List ℕ) (old new : DepotState) (ending : Ending) → InfoEnds told rom old new ending → status_of ending ≡ 11 → ⊥
-info_far told rom old new TooFar cause is = absurd cause
-info_far told rom old new _ cause is = absurd (omega (arith, is))
+pub is_line_refused : (ending : Ending) → status_of ending ≡ 18 → (line : ℕ) × (fault : LineFault) × (ending ≡ LineRefused line fault)
+is_line_refused (LineRefused line fault) is = (line, fault, refl)
+is_line_refused _ is = absurd (omega (arith, is))
 
-pub run_far : (told : Type 0) (run : Run) (old new : DepotState) (ending : Ending) → RunEnds told run old new ending → status_of ending ≡ 11 → last_cycle < run.cycles
-run_far told run old new TooFar cause is = cause
-run_far told run old new _ cause is = absurd (omega (arith, is))
+-- WHAT AN ENDING SAYS
+
+-- of a command that ends so
+abbrev pub Says : Type 0 → Command → DepotState → DepotState → Ending → Type 0
+Says told command old new Usage = ⊥
+Says told command old new (ReadFault which) = Rose old.read_faults new.read_faults ⊎ (told × IsMissing command old.files)
+Says told command old new (WriteFault which) = Rose old.write_faults new.write_faults
+Says told command old new (RecordingWrong place) = IsSomeAnd (input_of command Recording) (λ name. told → ¬ IsSpelled (bytes_of old.files name))
+Says told command old new (StateWrong place) = IsSomeAnd (run_in command) (λ run. (place : ℕ) × IsLoadFound told run old.files (StateWrongAt place))
+Says told command old new (OtherCart kept given) = IsSomeAnd (run_in command) (λ run. (kept : List ℕ) × (given : List ℕ) × IsLoadFound told run old.files (OfOther kept given))
+Says told command old new (Behind from) = IsBehind told command old.files
+Says told command old new TooFar = last_cycle < end_of command
+Says told command old new (ScriptRefused line fault) = IsSomeAnd (debugging_in command) (λ words. IsRefusedScript told words old.files)
+Says told command old new (SourceRefused line kind) = IsSomeAnd (assembling_in command) (λ words. IsRefusedSource told words old.files)
+Says told command old new (InputRefused fault) = IsSomeAnd (conversion_in command) (λ conversion. IsRefusedInput told conversion old.files)
+Says told command old new (LineRefused line fault) = IsSomeAnd (rolling_in command) (λ words. IsRefusedLine told words old.files)
+Says told command old new ending = Unit {0}
 
 -- a file that is missing is an input's
-pub missing_cart : (told : Type 0) (command : Command) (files : Files) {P Q : Type 0} → (Q → IsMissing command files) → P ⊎ (told × Q) → P ⊎ (told × IsMissing command files)
-missing_cart told command files which (inl rose) = inl rose
-missing_cart told command files which (inr (t, none)) = inr (t, which none)
+pub missing : (told : Type 0) (command : Command) (files : Files) {P Q : Type 0} → (Q → IsMissing command files) → P ⊎ (told × Q) → P ⊎ (told × IsMissing command files)
+missing told command files which (inl rose) = inl rose
+missing told command files which (inr (t, none)) = inr (t, which none)
 
-pub missing_recording : (told : Type 0) (name : Option (List ℕ)) (old new : DepotState) → RecordingCause told name old new RecordingFault
+-- the cartridge's causes
+pub cart_says : (told : Type 0) (command : Command) (rom : List ℕ) (old new : DepotState) (ending : Ending) → input_of command First ≡ Some rom → CartCause told rom old new ending
+    → Says told command old new ending
+cart_says told command rom old new (ReadFault First) is cause =
+    missing told command old.files (λ none. (First, subst (λ (file : Option (List ℕ)). IsSomeAnd file (λ name. old.files name ≡ None)) (sym is) none)) cause
+cart_says told command rom old new (TooLong First) is cause = tt
+cart_says told command rom old new Short is cause = tt
+cart_says told command rom old new NoMark is cause = tt
+cart_says told command rom old new Memory is cause = tt
+cart_says told command rom old new _ is cause = absurd cause
+
+pub info_says : (told : Type 0) (rom : List ℕ) (old new : DepotState) (ending : Ending) → InfoEnds told rom old new ending → Says told (Info rom) old new ending
+info_says told rom old new (Shown lines) cause = tt
+info_says told rom old new other cause = cart_says told (Info rom) rom old new other refl cause
+
+-- those of a run
+missing_recording : (told : Type 0) (name : Option (List ℕ)) (old new : DepotState) → RecordingCause told name old new (ReadFault Recording)
     → Rose old.read_faults new.read_faults ⊎ (told × IsSomeAnd name (λ name. old.files name ≡ None))
 missing_recording told None old new cause = absurd cause
 missing_recording told (Some name) old new cause = cause
 
-pub missing_state : (told : Type 0) (name : Option (List ℕ)) (old new : DepotState)
-    → IsSomeAnd name (λ name. Rose old.read_faults new.read_faults ⊎ (told × (old.files name ≡ None)))
+missing_state : (told : Type 0) (name : Option (List ℕ)) (old new : DepotState) → IsSomeAnd name (λ name. IsUnread told name old new)
     → Rose old.read_faults new.read_faults ⊎ (told × IsSomeAnd name (λ name. old.files name ≡ None))
 missing_state told None old new cause = absurd cause
 missing_state told (Some name) old new cause = cause
 
-pub info_read_fault : (told : Type 0) (rom : List ℕ) (old new : DepotState) (ending : Ending) → InfoEnds told rom old new ending → status_of ending ≡ 3
-    → Rose old.read_faults new.read_faults ⊎ (told × IsMissing (Info rom) old.files)
-info_read_fault told rom old new ReadFault cause is = missing_cart told (Info rom) old.files inl cause
-info_read_fault told rom old new RecordingFault cause is = absurd cause
-info_read_fault told rom old new LoadFault cause is = absurd cause
-info_read_fault told rom old new ScriptFault cause is = absurd cause
-info_read_fault told rom old new _ cause is = absurd (omega (arith, is))
-
-pub run_read_fault : (told : Type 0) (run : Run) (old new : DepotState) (ending : Ending) → RunEnds told run old new ending → status_of ending ≡ 3
-    → Rose old.read_faults new.read_faults ⊎ (told × IsMissing (RunCart run) old.files)
-run_read_fault told run old new ReadFault cause is = missing_cart told (RunCart run) old.files inl cause.1
-run_read_fault told run old new RecordingFault cause is =
-    missing_cart told (RunCart run) old.files (λ none. inr (inl none)) (missing_recording told run.recording old new cause.1.1)
-run_read_fault told run old new LoadFault cause is =
-    missing_cart told (RunCart run) old.files (λ none. inr (inr (inl none))) (missing_state told run.load old new cause.1.2)
-run_read_fault told run old new ScriptFault cause is = absurd cause.1
-run_read_fault told run old new _ cause is = absurd (omega (arith, is))
-
-pub info_wrong : (told : Type 0) (rom : List ℕ) (old new : DepotState) (ending : Ending) → InfoEnds told rom old new ending → status_of ending ≡ 6 → ⊥
-info_wrong told rom old new (RecordingWrong place) cause is = absurd cause
-info_wrong told rom old new _ cause is = absurd (omega (arith, is))
-
--- a file that goes wrong spells no recording
-pub not_spelled : (file : Option (List ℕ)) (place : ℕ) → IsSomeAnd file (λ bytes. (length bytes ≤ recording_limit) × GoesWrongAt bytes place) → ¬ IsSpelled (unwrap_or file [])
+-- a file that is invalid at an offset spells no recording
+not_spelled : (file : Option (List ℕ)) (place : ℕ) → IsSomeAnd file (λ bytes. (length bytes ≤ recording_limit) × GoesWrongAt bytes place) → ¬ IsSpelled (unwrap_or file [])
 not_spelled None place wrong = absurd wrong
 not_spelled (Some bytes) place wrong = wrong.1.none
 
-pub wrong_recording : (told : Type 0) (name : Option (List ℕ)) (old new : DepotState) (place : ℕ) → RecordingCause told name old new (RecordingWrong place)
+wrong_recording : (told : Type 0) (name : Option (List ℕ)) (old new : DepotState) (place : ℕ) → RecordingCause told name old new (RecordingWrong place)
     → IsSomeAnd name (λ name. told → ¬ IsSpelled (bytes_of old.files name))
 wrong_recording told None old new place cause = absurd cause
 wrong_recording told (Some name) old new place cause = λ t. not_spelled (old.files name) place (cause t)
 
-pub run_wrong : (told : Type 0) (run : Run) (old new : DepotState) (ending : Ending) → RunEnds told run old new ending → status_of ending ≡ 6
-    → IsSomeAnd run.recording (λ name. told → ¬ IsSpelled (bytes_of old.files name))
-run_wrong told run old new (RecordingWrong place) cause is = wrong_recording told run.recording old new place cause.1.1
-run_wrong told run old new _ cause is = absurd (omega (arith, is))
-
-pub info_state : (told : Type 0) (rom : List ℕ) (old new : DepotState) (ending : Ending) → InfoEnds told rom old new ending → status_of ending ≡ 7 → ⊥
-info_state told rom old new (StateWrong place) cause is = absurd cause
-info_state told rom old new _ cause is = absurd (omega (arith, is))
-
-pub run_state : (told : Type 0) (run : Run) (old new : DepotState) (ending : Ending) → RunEnds told run old new ending → status_of ending ≡ 7
-    → (place : ℕ) × IsLoadFound told run old.files (StateWrongAt place)
-run_state told run old new (StateWrong place) (near, cause) is = (place, cause)
-run_state told run old new _ cause is = absurd (omega (arith, is))
-
-pub info_other : (told : Type 0) (rom : List ℕ) (old new : DepotState) (ending : Ending) → InfoEnds told rom old new ending → status_of ending ≡ 8 → ⊥
-info_other told rom old new (OtherCart kept given) cause is = absurd cause
-info_other told rom old new _ cause is = absurd (omega (arith, is))
-
-pub run_other : (told : Type 0) (run : Run) (old new : DepotState) (ending : Ending) → RunEnds told run old new ending → status_of ending ≡ 8
-    → (kept : List ℕ) × (given : List ℕ) × IsLoadFound told run old.files (OfOther kept given)
-run_other told run old new (OtherCart kept given) (near, cause) is = (kept, given, cause)
-run_other told run old new _ cause is = absurd (omega (arith, is))
-
-pub info_behind : (told : Type 0) (rom : List ℕ) (old new : DepotState) (ending : Ending) → InfoEnds told rom old new ending → status_of ending ≡ 9 → ⊥
-info_behind told rom old new (Behind from) cause is = absurd cause
-info_behind told rom old new _ cause is = absurd (omega (arith, is))
-
-pub run_behind : (told : Type 0) (run : Run) (old new : DepotState) (ending : Ending) → RunEnds told run old new ending → status_of ending ≡ 9 → IsBehind told (RunCart run) old.files
-run_behind told run old new (Behind from) (near, behind, may, cause) is = (from, may, behind, cause)
-run_behind told run old new _ cause is = absurd (omega (arith, is))
-
-pub info_write_fault : (told : Type 0) (rom : List ℕ) (old new : DepotState) (ending : Ending) → InfoEnds told rom old new ending → status_of ending ≡ 4 → Rose old.write_faults new.write_faults
-info_write_fault told rom old new FramesFault cause is = absurd cause
-info_write_fault told rom old new SoundFault cause is = absurd cause
-info_write_fault told rom old new JournalFault cause is = absurd cause
-info_write_fault told rom old new SaveFault cause is = absurd cause
-info_write_fault told rom old new OutputFault cause is = absurd cause
-info_write_fault told rom old new ListFault cause is = absurd cause
-info_write_fault told rom old new _ cause is = absurd (omega (arith, is))
-
-pub run_write_fault : (told : Type 0) (run : Run) (old new : DepotState) (ending : Ending) → RunEnds told run old new ending → status_of ending ≡ 4 → Rose old.write_faults new.write_faults
-run_write_fault told run old new FramesFault cause is = cause.2.1
-run_write_fault told run old new SoundFault cause is = cause.2.1
-run_write_fault told run old new JournalFault cause is = cause.2.1
-run_write_fault told run old new SaveFault cause is = cause.2.1
-run_write_fault told run old new OutputFault cause is = absurd cause.1
-run_write_fault told run old new ListFault cause is = absurd cause.1
-run_write_fault told run old new _ cause is = absurd (omega (arith, is))
+pub run_says : (told : Type 0) (run : Run) (old new : DepotState) (ending : Ending) → RunEnds told run old new ending → Says told (RunCart run) old new ending
+run_says told run old new Memory cause = tt
+run_says told run old new TooFar cause = cause
+run_says told run old new (Behind from) (near, behind, may, cause) = (from, may, behind, cause)
+run_says told run old new (Done from frames accesses halted) cause = tt
+run_says told run old new (WriteFault which) cause = cause.2.1
+run_says told run old new (ReadFault Recording) cause =
+    missing told (RunCart run) old.files (λ none. (Recording, none)) (missing_recording told run.recording old new cause.1.1)
+run_says told run old new (ReadFault State) cause = missing told (RunCart run) old.files (λ none. (State, none)) (missing_state told run.load old new cause.1.2)
+run_says told run old new (TooLong Recording) cause = tt
+run_says told run old new (TooLong State) cause = tt
+run_says told run old new (RecordingWrong place) cause = wrong_recording told run.recording old new place cause.1.1
+run_says told run old new (StateWrong place) (near, cause) = (place, cause)
+run_says told run old new (OtherCart kept given) (near, cause) = (kept, given, cause)
+run_says told run old new other cause = cart_says told (RunCart run) run.rom old new other refl cause.1
 
 -- where the end is too far no other ending comes
-pub far_only : (told sink : Type 0) (run : Run) (old new : DepotState) (out out' : SinkState) (status : ℕ) (ending : Ending)
-    → RunEnds told run old new ending → Reports sink (Some (RunCart run)) ending out out' status → last_cycle < run.cycles → (status ≡ 11) ⊎ (status ≡ 10)
-far_only told sink run old new out out' status (Shown lines) cause reports far = absurd cause.1
-far_only told sink run old new out out' status (Done from frames accesses halted) cause reports far = absurd (omega (arith, cause.0.1))
-far_only told sink run old new out out' status (DemoDone summary) cause reports far = absurd cause.1
-far_only told sink run old new out out' status TooFar cause reports far = inl reports.0
-far_only told sink run old new out out' status FramesFault cause reports far = absurd (omega (arith, cause.0.1))
-far_only told sink run old new out out' status SoundFault cause reports far = absurd (omega (arith, cause.0.1))
-far_only told sink run old new out out' status JournalFault cause reports far = absurd (omega (arith, cause.0.1))
-far_only told sink run old new out out' status SaveFault cause reports far = absurd (omega (arith, cause.0.1))
-far_only told sink run old new out out' status Memory cause reports far = inr reports.0
-far_only told sink run old new out out' status _ cause reports far = absurd (omega (arith, cause.0))
+pub run_far : (told : Type 0) (run : Run) (old new : DepotState) (ending : Ending) → RunEnds told run old new ending → last_cycle < run.cycles
+    → (status_of ending ≡ 11) ⊎ (status_of ending ≡ 10)
+run_far told run old new TooFar cause far = inl refl
+run_far told run old new Memory cause far = inr refl
+run_far told run old new (Done from frames accesses halted) cause far = absurd (omega (arith, far, cause.0.1))
+run_far told run old new (WriteFault which) cause far = absurd (omega (arith, far, cause.0.1))
+run_far told run old new (ReadFault State) cause far = absurd (omega (arith, far, cause.0))
+run_far told run old new (TooLong State) cause far = absurd (omega (arith, far, cause.0))
+run_far told run old new _ cause far = absurd (omega (arith, far, cause.0))

@@ -1,12 +1,16 @@
--- What the outputs hold behind a begin and an append.
-use Rattle.std.proofs.Common.{◌≡◌, ℕ, true, false, List, ◌++◌, Option, Some, None, refl, sym, ap, subst, ◌∙◌, append-nil, append_assoc}
+-- What the outputs hold after a begin and an append.
+use Rattle.std.proofs.Common.{◌≡◌, ℕ, true, false, List, [], ◌++◌, Option, Some, None, refl, sym, ap, subst, ◌∙◌, append-nil, append_assoc}
 use Rattle.std.specs.Prelude.{IsSome}
 use Rattle.std.specs.Str.{bytes_eq}
 use Rattle.std.proofs.lemmas.Bool.{true≢false, not-true}
 use Rattle.md_outer.specs.Outside.{Files, IsPrefix, bytes_of, with_file}
 use Rattle.md_outer.proofs.WrittenFiles.{file-longer, with_file-comm}
-use Rattle.md_top.specs.Outputs.{Holds, IsPartOf, LeavesParts, Pieces, all_of, lengthened, nothing, with_part, written}
-use Rattle.md_args.specs.Words.{Run, differ}
+use Rattle.md_top.specs.Outputs.{Holds, IsPartOf, LeavesParts, Pieces, all_of, lengthened, nothing, only, with_part, written}
+use Rattle.md_args.specs.Files.{run_output}
+use Rattle.md_args.specs.Commands.{differ}
+use Rattle.md_args.specs.Words.{Run}
+use Rattle.md_args.specs.declared.files.Output.{Output}
+use Rattle.md_args.specs.declared.files.Output.TheVariants.{Frames, Journal, Listing, Save, Sound, Target}
 
 -- OUTPUTS
 
@@ -26,7 +30,7 @@ part-longer base files new output name held piece is holds appended =
     subst (λ (o : Option (List ℕ)). new ≡ with_part base o (Some (held ++ piece))) (sym is) (file-longer base files new name held piece held' appended)
 
 -- an output that is not asked for holds what one likes
-pub part-unasked : (base : Files) (output : Option (List ℕ)) (x y : List ℕ) → output ≡ None → with_part base output (Some x) ≡ with_part base output (Some y)
+part-unasked : (base : Files) (output : Option (List ℕ)) (x y : List ℕ) → output ≡ None → with_part base output (Some x) ≡ with_part base output (Some y)
 part-unasked base output x y is =
     ap (λ (o : Option (List ℕ)). with_part base o (Some x)) is ∙ sym (ap (λ (o : Option (List ℕ)). with_part base o (Some y)) is)
 
@@ -43,76 +47,101 @@ pub record Apart (run : Run) : Type 0 where
   pub sound_save : differ run.sound run.save ≡ true
   pub journal_save : differ run.journal run.save ≡ true
 
--- each output may be written last
-abbrev but_frames : Run → Files → Pieces → Files
-but_frames run first held =
+-- no bytes after bytes
+pub no-longer : (held : Pieces) → lengthened held nothing ≡ held
+no-longer held = λ i. record {
+  frames = append-nil held.frames i;
+  sound = append-nil held.sound i;
+  journal = append-nil held.journal i;
+  state = append-nil held.state i;
+}
+
+-- the bytes of one output, and the same outputs with other bytes in it
+abbrev pub held_in : Output → Pieces → List ℕ
+held_in Frames held = held.frames
+held_in Sound held = held.sound
+held_in Journal held = held.journal
+held_in Save held = held.state
+held_in Target held = []
+held_in Listing held = []
+
+abbrev pub with_held : Output → Pieces → List ℕ → Pieces
+with_held Frames held bytes = record held { frames = bytes }
+with_held Sound held bytes = record held { sound = bytes }
+with_held Journal held bytes = record held { journal = bytes }
+with_held Save held bytes = record held { state = bytes }
+with_held Target held bytes = held
+with_held Listing held bytes = held
+
+-- each output may be written last: these are the others
+abbrev but : Output → Run → Files → Pieces → Files
+but Frames run first held =
     with_part (with_part (with_part first run.sound (Some held.sound)) run.journal (Some held.journal)) run.save (Some held.state)
-
-abbrev but_sound : Run → Files → Pieces → Files
-but_sound run first held =
+but Sound run first held =
     with_part (with_part (with_part first run.frames (Some held.frames)) run.journal (Some held.journal)) run.save (Some held.state)
-
-abbrev but_journal : Run → Files → Pieces → Files
-but_journal run first held =
+but Journal run first held =
     with_part (with_part (with_part first run.frames (Some held.frames)) run.sound (Some held.sound)) run.save (Some held.state)
-
-abbrev pub but_state : Run → Files → Pieces → Files
-but_state run first held =
+but Save run first held =
     with_part (with_part (with_part first run.frames (Some held.frames)) run.sound (Some held.sound)) run.journal (Some held.journal)
+but Target run first held = written run first (all_of held)
+but Listing run first held = written run first (all_of held)
 
-frames-last : (run : Run) → Apart run → (first : Files) (held : Pieces) → written run first (all_of held) ≡ with_part (but_frames run first held) run.frames (Some held.frames)
-frames-last run apart first held =
+written-last : (run : Run) → Apart run → (which : Output) (first : Files) (held : Pieces) (bytes : List ℕ)
+    → written run first (all_of (with_held which held bytes)) ≡ with_part (but which run first held) (run_output run which) (Some bytes)
+written-last run apart Frames first held bytes =
     ap (λ (files : Files). with_part (with_part files run.journal (Some held.journal)) run.save (Some held.state))
-    (part-comm first run.frames run.sound (Some held.frames) (Some held.sound) apart.frames_sound)
+    (part-comm first run.frames run.sound (Some bytes) (Some held.sound) apart.frames_sound)
     ∙ ap (λ (files : Files). with_part files run.save (Some held.state))
-    (part-comm (with_part first run.sound (Some held.sound)) run.frames run.journal (Some held.frames) (Some held.journal) apart.frames_journal)
-    ∙ part-comm (with_part (with_part first run.sound (Some held.sound)) run.journal (Some held.journal)) run.frames run.save (Some held.frames) (Some held.state) apart.frames_save
-
-sound-last : (run : Run) → Apart run → (first : Files) (held : Pieces) → written run first (all_of held) ≡ with_part (but_sound run first held) run.sound (Some held.sound)
-sound-last run apart first held =
+    (part-comm (with_part first run.sound (Some held.sound)) run.frames run.journal (Some bytes) (Some held.journal) apart.frames_journal)
+    ∙ part-comm (with_part (with_part first run.sound (Some held.sound)) run.journal (Some held.journal)) run.frames run.save (Some bytes) (Some held.state) apart.frames_save
+written-last run apart Sound first held bytes =
     ap (λ (files : Files). with_part files run.save (Some held.state))
-    (part-comm (with_part first run.frames (Some held.frames)) run.sound run.journal (Some held.sound) (Some held.journal) apart.sound_journal)
-    ∙ part-comm (with_part (with_part first run.frames (Some held.frames)) run.journal (Some held.journal)) run.sound run.save (Some held.sound) (Some held.state) apart.sound_save
+    (part-comm (with_part first run.frames (Some held.frames)) run.sound run.journal (Some bytes) (Some held.journal) apart.sound_journal)
+    ∙ part-comm (with_part (with_part first run.frames (Some held.frames)) run.journal (Some held.journal)) run.sound run.save (Some bytes) (Some held.state) apart.sound_save
+written-last run apart Journal first held bytes =
+    part-comm (with_part (with_part first run.frames (Some held.frames)) run.sound (Some held.sound)) run.journal run.save (Some bytes) (Some held.state) apart.journal_save
+written-last run apart Save first held bytes = refl
+written-last run apart Target first held bytes = refl
+written-last run apart Listing first held bytes = refl
 
-journal-last : (run : Run) → Apart run → (first : Files) (held : Pieces) → written run first (all_of held) ≡ with_part (but_journal run first held) run.journal (Some held.journal)
-journal-last run apart first held =
-    part-comm (with_part (with_part first run.frames (Some held.frames)) run.sound (Some held.sound)) run.journal run.save (Some held.journal) (Some held.state) apart.journal_save
+with-own : (which : Output) (held : Pieces) → with_held which held (held_in which held) ≡ held
+with-own Frames held = refl
+with-own Sound held = refl
+with-own Journal held = refl
+with-own Save held = refl
+with-own Target held = refl
+with-own Listing held = refl
 
-pub frames-longer : (run : Run) → Apart run → (first files new : Files) (held : Pieces) (name piece : List ℕ) → run.frames ≡ Some name → Holds run first files held
-    → new ≡ with_file files name (bytes_of files name ++ piece) → Holds run first new (record held { frames = held.frames ++ piece })
-frames-longer run apart first files new held name piece is holds appended =
-    part-longer (but_frames run first held) files new run.frames name held.frames piece is (holds ∙ frames-last run apart first held) appended
-    ∙ sym (frames-last run apart first (record held { frames = held.frames ++ piece }))
-
-pub sound-longer : (run : Run) → Apart run → (first files new : Files) (held : Pieces) (name piece : List ℕ) → run.sound ≡ Some name → Holds run first files held
-    → new ≡ with_file files name (bytes_of files name ++ piece) → Holds run first new (record held { sound = held.sound ++ piece })
-sound-longer run apart first files new held name piece is holds appended =
-    part-longer (but_sound run first held) files new run.sound name held.sound piece is (holds ∙ sound-last run apart first held) appended
-    ∙ sym (sound-last run apart first (record held { sound = held.sound ++ piece }))
-
-pub journal-longer : (run : Run) → Apart run → (first files new : Files) (held : Pieces) (name piece : List ℕ) → run.journal ≡ Some name → Holds run first files held
-    → new ≡ with_file files name (bytes_of files name ++ piece) → Holds run first new (record held { journal = held.journal ++ piece })
-journal-longer run apart first files new held name piece is holds appended =
-    part-longer (but_journal run first held) files new run.journal name held.journal piece is (holds ∙ journal-last run apart first held) appended
-    ∙ sym (journal-last run apart first (record held { journal = held.journal ++ piece }))
-
-pub state-longer : (run : Run) (first files new : Files) (held : Pieces) (name piece : List ℕ) → run.save ≡ Some name → Holds run first files held
-    → new ≡ with_file files name (bytes_of files name ++ piece) → Holds run first new (record held { state = held.state ++ piece })
-state-longer run first files new held name piece is holds appended =
-    part-longer (but_state run first held) files new run.save name held.state piece is holds appended
+own-last : (run : Run) → Apart run → (which : Output) (first : Files) (held : Pieces)
+    → written run first (all_of held) ≡ with_part (but which run first held) (run_output run which) (Some (held_in which held))
+own-last run apart which first held =
+    sym (ap (λ (same : Pieces). written run first (all_of same)) (with-own which held)) ∙ written-last run apart which first held (held_in which held)
 
 -- a piece of one output alone
-pub only-frames : (held : Pieces) (piece : List ℕ) → record held { frames = held.frames ++ piece } ≡ lengthened held (record nothing { frames = piece })
-only-frames held piece = λ i. record { frames = held.frames ++ piece; sound = sym (append-nil held.sound) i; journal = sym (append-nil held.journal) i; state = sym (append-nil held.state) i }
+only-one : (which : Output) (held : Pieces) (piece : List ℕ) → with_held which held (held_in which held ++ piece) ≡ lengthened held (only which piece)
+only-one Frames held piece = λ i. record { frames = held.frames ++ piece; sound = sym (append-nil held.sound) i; journal = sym (append-nil held.journal) i; state = sym (append-nil held.state) i }
+only-one Sound held piece = λ i. record { frames = sym (append-nil held.frames) i; sound = held.sound ++ piece; journal = sym (append-nil held.journal) i; state = sym (append-nil held.state) i }
+only-one Journal held piece = λ i. record { frames = sym (append-nil held.frames) i; sound = sym (append-nil held.sound) i; journal = held.journal ++ piece; state = sym (append-nil held.state) i }
+only-one Save held piece = λ i. record { frames = sym (append-nil held.frames) i; sound = sym (append-nil held.sound) i; journal = sym (append-nil held.journal) i; state = held.state ++ piece }
+only-one Target held piece = sym (no-longer held)
+only-one Listing held piece = sym (no-longer held)
 
-pub only-sound : (held : Pieces) (piece : List ℕ) → record held { sound = held.sound ++ piece } ≡ lengthened held (record nothing { sound = piece })
-only-sound held piece = λ i. record { frames = sym (append-nil held.frames) i; sound = held.sound ++ piece; journal = sym (append-nil held.journal) i; state = sym (append-nil held.state) i }
+-- an output that was begun is lengthened by it
+pub output-longer : (run : Run) → Apart run → (which : Output) (first files new : Files) (held : Pieces) (name piece : List ℕ) → run_output run which ≡ Some name → Holds run first files held
+    → new ≡ with_file files name (bytes_of files name ++ piece) → Holds run first new (lengthened held (only which piece))
+output-longer run apart which first files new held name piece is holds appended =
+    subst (Holds run first new) (only-one which held piece)
+    (part-longer (but which run first held) files new (run_output run which) name (held_in which held) piece is (holds ∙ own-last run apart which first held) appended
+    ∙ sym (written-last run apart which first held (held_in which held ++ piece)))
 
-pub only-journal : (held : Pieces) (piece : List ℕ) → record held { journal = held.journal ++ piece } ≡ lengthened held (record nothing { journal = piece })
-only-journal held piece = λ i. record { frames = sym (append-nil held.frames) i; sound = sym (append-nil held.sound) i; journal = held.journal ++ piece; state = sym (append-nil held.state) i }
-
-pub only-state : (held : Pieces) (piece : List ℕ) → record held { state = held.state ++ piece } ≡ lengthened held (record nothing { state = piece })
-only-state held piece = λ i. record { frames = sym (append-nil held.frames) i; sound = sym (append-nil held.sound) i; journal = sym (append-nil held.journal) i; state = held.state ++ piece }
+-- and one that is not asked for holds what one likes
+pub output-unasked : (run : Run) → Apart run → (which : Output) (first files : Files) (held : Pieces) (piece : List ℕ) → run_output run which ≡ None → Holds run first files held
+    → Holds run first files (lengthened held (only which piece))
+output-unasked run apart which first files held piece is holds =
+    subst (Holds run first files) (only-one which held piece)
+    (holds ∙ own-last run apart which first held
+    ∙ part-unasked (but which run first held) (run_output run which) (held_in which held) (held_in which held ++ piece) is
+    ∙ sym (written-last run apart which first held (held_in which held ++ piece)))
 
 -- PARTS
 
@@ -126,7 +155,7 @@ pub prefix-trans : (a b c : List ℕ) → IsPrefix a b → IsPrefix b c → IsPr
 prefix-trans a b c first second =
     (first.0 ++ second.0, sym (append_assoc a first.0 second.0) ∙ ap (λ (l : List ℕ). l ++ second.0) first.1 ∙ second.1)
 
--- each is a front part
+-- each is a prefix
 pub record AreFront (front whole : Pieces) : Type 0 where
   pub frames : IsPrefix front.frames whole.frames
   pub sound : IsPrefix front.sound whole.sound
@@ -136,6 +165,23 @@ pub record AreFront (front whole : Pieces) : Type 0 where
 pub nothing-front : (whole : Pieces) → AreFront nothing whole
 nothing-front whole =
     record { frames = (whole.frames, refl); sound = (whole.sound, refl); journal = (whole.journal, refl); state = (whole.state, refl) }
+
+pub only-front : (which : Output) (part piece : List ℕ) → IsPrefix part piece → AreFront (only which part) (only which piece)
+only-front Frames part piece is = record { frames = is; sound = ([], refl); journal = ([], refl); state = ([], refl) }
+only-front Sound part piece is = record { frames = ([], refl); sound = is; journal = ([], refl); state = ([], refl) }
+only-front Journal part piece is = record { frames = ([], refl); sound = ([], refl); journal = is; state = ([], refl) }
+only-front Save part piece is = record { frames = ([], refl); sound = ([], refl); journal = ([], refl); state = is }
+only-front Target part piece is = nothing-front nothing
+only-front Listing part piece is = nothing-front nothing
+
+-- after the same bytes
+pub front-behind : (held part whole : Pieces) → AreFront part whole → AreFront (lengthened held part) (lengthened held whole)
+front-behind held part whole front = record {
+  frames = prefix-append held.frames part.frames whole.frames front.frames;
+  sound = prefix-append held.sound part.sound whole.sound front.sound;
+  journal = prefix-append held.journal part.journal whole.journal front.journal;
+  state = prefix-append held.state part.state whole.state front.state;
+}
 
 -- the outputs hold their bytes, and so parts of longer ones
 pub parts_left : (run : Run) (first files : Files) (held whole : Pieces) → Holds run first files held → AreFront held whole → LeavesParts run first files whole

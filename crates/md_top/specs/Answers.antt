@@ -1,6 +1,7 @@
 -- What a call of the program answers.
-use Rattle.std.specs.Prelude.{◌≡◌, ◌≢◌, ◌⊎◌, ℕ, ◌<◌, ◌≤◌, List, ◌++◌, Option, Some, None, IsSomeAnd, IfSome, option_and_then}
-use Rattle.md_outer.specs.Outside.{DepotState, Files, IsPrefix, Rose, SinkState, bytes_of}
+use Rattle.std.specs.Prelude.{◌≡◌, ◌≢◌, ◌⊎◌, ℕ, ◌<◌, ◌≤◌, List, ◌++◌, Option, Some, None, IsSomeAnd, IfSome, option_and_then, Result, Ok}
+use Rattle.md_outer.specs.Outside.{DepotState, Files, IsPrefix, PutsText, Rose, SinkState, bytes_of}
+use Rattle.md_outer.specs.declared.sink.Failed.{Failed}
 use Rattle.md_pads.specs.Recording.{IsSpelled}
 use Rattle.md_top.specs.Inputs.{IsJudged, IsMissing, Verdict}
 use Rattle.md_word.specs.Clock.{last_cycle}
@@ -8,16 +9,21 @@ use Rattle.md_top.specs.Loads.{Begins, IsLoadFound, IsStateJudged, MayBeginAt}
 use Rattle.state_laws.specs.Verdicts.{OfOther, StateWrongAt}
 use Rattle.md_machine.specs.Starts.{Start}
 use Rattle.md_vgm.specs.Outcomes.{Outcome}
-use Rattle.md_args.specs.Words.{Assemble, Command, Convert, Debug, Info, Rollback, RunCart, RunDemo, assembling_in, conversion_in, debugging_in, end_of, frames_name, journal_name, recording_name, rolling_in, run_in, save_name, sound_name}
+use Rattle.md_args.specs.Files.{input_of, output_of}
+use Rattle.md_args.specs.Words.{Assemble, Command, Convert, Debug, Info, Rollback, RunCart, RunDemo, assembling_in, conversion_in, debugging_in, end_of, rolling_in, run_in}
+use Rattle.md_args.specs.declared.files.Input.TheVariants.{Recording}
+use Rattle.md_args.specs.declared.files.Output.{Output}
 use Rattle.md_top.specs.Assemblies.{IsRefusedSource}
 use Rattle.md_top.specs.Conversions.{IsInputOutcome, IsRefusedInput}
 use Rattle.md_top.specs.Debuggings.{IsRefusedScript, IsScripted, ShowsReplies}
 use Rattle.md_top.specs.Rollings.{IsRefusedLine, IsRollFound}
-use Rattle.md_top.specs.Endings.{Findings, HasCause, IsReady, LeavesFiles, right_ending, status_of, text_of}
+use Rattle.md_top.specs.Endings.{HasCause, IsReady, LeavesFiles, failed_status, status_of}
+use Rattle.md_top.specs.Refusals.{Findings, right_ending}
+use Rattle.md_top.specs.Texts.{text_of}
 use Rattle.md_top.specs.declared.ending.Ending.{Ending}
-use Rattle.md_top.specs.declared.ending.Ending.TheVariants.{Converted, DemoDone, Done, Played, ReplyFault, RolledBack, Shown}
+use Rattle.md_top.specs.declared.ending.Ending.TheVariants.{Played, ReplyFault}
 
--- the text was put, where the sink tells it
+-- the text was put, where the sink's bytes are observable
 pub record PutsAll (told : Type 0) (text : List ℕ) (old new : SinkState) : Type 0 where
   pub later : old.faults ≤ new.faults
   pub bytes : told → new.bytes ≡ old.bytes ++ text
@@ -27,28 +33,29 @@ pub record PutsPart (told : Type 0) (text : List ℕ) (old new : SinkState) : Ty
   pub rose : Rose old.faults new.faults
   pub bytes : told → (part : List ℕ) × IsPrefix part text × (new.bytes ≡ old.bytes ++ part)
 
--- an output was put whole, or the sink failed within it
-abbrev pub PutsOutput : Type 0 → List ℕ → SinkState → SinkState → ℕ → Type 0
-PutsOutput told text old new status = ((status ≡ 0) × PutsAll told text old new) ⊎ ((status ≡ 13) × PutsPart told text old new)
-
 -- what was put when a command ends so, before that is reported: in a session the replies, else nothing
 abbrev pub Shows : Type 0 → Type 0 → Option Command → Files → Ending → SinkState → SinkState → Type 0
 Shows told sink (Some (Debug words)) files ending old new = ShowsReplies told sink words files ending old new
 Shows told sink command files ending old new = new ≡ old
 
--- the status, and what was put then: a sink that fails changes the status of a command that ended well alone
+-- a text was put whole, with this status, or the sink failed within it: that changes the status of a command that ended
+-- well alone
+abbrev pub PutsLine : Type 0 → List ℕ → ℕ → SinkState → SinkState → ℕ → Type 0
+PutsLine told text of old new status = ((status ≡ of) × PutsAll told text old new) ⊎ ((status ≡ failed_status of) × PutsPart told text old new)
+
+-- the status, and what was put then; nothing of an ending of which a session's replies are all
 abbrev pub Reports : Type 0 → Option Command → Ending → SinkState → SinkState → ℕ → Type 0
-Reports told command (Shown lines) old new status = PutsOutput told (text_of command (Shown lines)) old new status
-Reports told command (Done from frames accesses halted) old new status = PutsOutput told (text_of command (Done from frames accesses halted)) old new status
-Reports told command (DemoDone summary) old new status = PutsOutput told (text_of command (DemoDone summary)) old new status
-Reports told command (Converted size) old new status = PutsOutput told (text_of command (Converted size)) old new status
-Reports told command (RolledBack rolled) old new status = PutsOutput told (text_of command (RolledBack rolled)) old new status
 Reports told command Played old new status = (status ≡ 0) × (new ≡ old)
 Reports told command ReplyFault old new status = (status ≡ 13) × (new ≡ old)
-Reports told command ending old new status =
-    (status ≡ status_of ending) × (PutsAll told (text_of command ending) old new ⊎ PutsPart told (text_of command ending) old new)
+Reports told command ending old new status = PutsLine told (text_of command ending) (status_of ending) old new status
 
--- The answer as a whole: some ending has its cause, has left the files so, and was reported behind what was shown
+-- the same, with whether it could be put
+abbrev pub PutsEnding : Type 0 → Option Command → Ending → SinkState → SinkState → Result (Unit {0}) Failed → Type 0
+PutsEnding told command Played old new result = (result ≡ Ok tt) × (new ≡ old)
+PutsEnding told command ReplyFault old new result = (result ≡ Ok tt) × (new ≡ old)
+PutsEnding told command ending old new result = PutsText told (text_of command ending) old new result
+
+-- The answer as a whole: some ending has its cause, has left the files so, and was reported after what was shown
 -- before it.
 pub record Answers (depot_told sink_told : Type 0) (command : Option Command) (old new : DepotState) (out out' : SinkState) (status : ℕ) : Type 0 where
   pub ending : Ending
@@ -57,6 +64,10 @@ pub record Answers (depot_told sink_told : Type 0) (command : Option Command) (o
   pub between : SinkState
   pub shown : Shows depot_told sink_told command old.files ending out between
   pub reports : Reports sink_told command ending between out' status
+
+-- the name of the recording of a run, if one is given
+abbrev pub recording_in : Command → Option (List ℕ)
+recording_in command = input_of command Recording
 
 -- no count of faults rose
 pub record NoFaults (old new : DepotState) (out out' : SinkState) : Type 0 where
@@ -99,7 +110,7 @@ pub record Causes (depot_told : Type 0) (command : Option Command) (old new : De
   pub too_far : status ≡ 11 → IsSomeAnd command (λ asked. last_cycle < end_of asked)
   pub far_refused : IsSomeAnd command (λ asked. last_cycle < end_of asked) → (status ≡ 11) ⊎ (status ≡ 10)
   pub read_fault : status ≡ 3 → Rose old.read_faults new.read_faults ⊎ (depot_told × IsSomeAnd command (λ asked. IsMissing asked old.files))
-  pub wrong : status ≡ 6 → IsSomeAnd (option_and_then recording_name command) (λ name. depot_told → ¬ IsSpelled (bytes_of old.files name))
+  pub wrong : status ≡ 6 → IsSomeAnd (option_and_then recording_in command) (λ name. depot_told → ¬ IsSpelled (bytes_of old.files name))
   pub state_wrong : status ≡ 7 → IsSomeAnd (option_and_then run_in command) (λ run. (place : ℕ) × IsLoadFound depot_told run old.files (StateWrongAt place))
   pub other_cart : status ≡ 8 → IsSomeAnd (option_and_then run_in command) (λ run. (kept : List ℕ) × (given : List ℕ) × IsLoadFound depot_told run old.files (OfOther kept given))
   pub behind : status ≡ 9 → IsSomeAnd command (λ asked. IsBehind depot_told asked old.files)
@@ -109,13 +120,11 @@ pub record Causes (depot_told : Type 0) (command : Option Command) (old new : De
   pub line_refused : status ≡ 18 → IsSomeAnd (option_and_then rolling_in command) (λ words. IsRefusedLine depot_told words old.files)
   pub write_fault : status ≡ 4 → Rose old.write_faults new.write_faults
   pub out_fault : status ≡ 13 → Rose out.faults out'.faults
-  -- each refusal comes exactly where it should, in this order; want of memory may come between
-  pub exact : NoFaults old new out out' → depot_told → (verdict : Verdict) → IsJudged (option_and_then recording_name command) old.files verdict
+  -- each refusal comes exactly where it should, in this order; out of memory may come between
+  pub exact : NoFaults old new out out' → depot_told → (verdict : Verdict) → IsJudged (option_and_then recording_in command) old.files verdict
       → (outcome : Outcome) → IsInputOutcome (option_and_then conversion_in command) old.files outcome
       → IsRight command old.files verdict outcome status ⊎ (status ≡ 10)
-  -- where nothing is wrong the command ends well, or memory is wanting
+  -- where nothing is wrong the command ends well, or memory runs out
   pub complete : NoFaults old new out out' → depot_told → IsSomeAnd command (λ asked. IsReady asked old.files) → (status ≡ 0) ⊎ (status ≡ 10)
   -- no file but the outputs changes
-  pub others : depot_told → IfSome command (λ asked. (name : List ℕ) → frames_name asked ≢ Some name → sound_name asked ≢ Some name → journal_name asked ≢ Some name → save_name asked ≢ Some name
-      → IfSome (conversion_in asked) (λ conversion. conversion.output ≢ name)
-      → IfSome (assembling_in asked) (λ words. (words.output ≢ name) × (words.list ≢ Some name)) → new.files name ≡ old.files name)
+  pub others : depot_told → IfSome command (λ asked. (name : List ℕ) → ((which : Output) → output_of asked which ≢ Some name) → new.files name ≡ old.files name)

@@ -4,12 +4,14 @@ use Rattle.md_outer.specs.Outside.{DepotState, Files}
 use Rattle.md_asm.specs.Assembly as assembly
 use Rattle.md_asm.specs.declared.placed.Placed.{Placed}
 use Rattle.md_args.specs.Words.{Assembling}
+use Rattle.md_args.specs.declared.files.Input.TheVariants.{First}
+use Rattle.md_args.specs.declared.files.Output.TheVariants.{Listing, Target}
 use Rattle.file_commands.specs.Assemblies as files
 use Rattle.file_commands.specs.Assemblies.{IsAtFault, IsFound}
 use Rattle.file_commands.specs.declared.comes.Comes.TheVariants as comes
 use Rattle.file_commands.specs.declared.comes.Comes.{Comes}
 use Rattle.md_top.specs.declared.ending.Ending.{Ending}
-use Rattle.md_top.specs.declared.ending.Ending.TheVariants.{Converted, ListFault, OutputFault, ReadFault, SourceRefused, TooLong, Memory}
+use Rattle.md_top.specs.declared.ending.Ending.TheVariants.{Converted, Memory, ReadFault, SourceRefused, TooLong, WriteFault}
 
 -- the end of the line of a source that is refused, by the kind of its fault
 abbrev pub kind_text : ℕ → List ℕ
@@ -31,19 +33,19 @@ source_line line kind = codes "refused: source line " ++ decimal line ++ kind_te
 -- why an assembly ends
 abbrev pub AsmEnds : Type 0 → Assembling → DepotState → DepotState → Ending → Type 0
 AsmEnds told words old new (Converted size) = files.HasCause told words old new (comes.Made size)
-AsmEnds told words old new ReadFault = files.HasCause told words old new comes.Unread
-AsmEnds told words old new TooLong = files.HasCause told words old new comes.TooLong
+AsmEnds told words old new (ReadFault First) = files.HasCause told words old new comes.Unread
+AsmEnds told words old new (TooLong First) = files.HasCause told words old new comes.TooLong
 AsmEnds told words old new (SourceRefused line kind) = files.HasCause told words old new (comes.Refused line kind)
-AsmEnds told words old new OutputFault = files.HasCause told words old new comes.Unwritten
-AsmEnds told words old new ListFault = files.HasCause told words old new comes.Unlisted
+AsmEnds told words old new (WriteFault Target) = files.HasCause told words old new comes.Unwritten
+AsmEnds told words old new (WriteFault Listing) = files.HasCause told words old new comes.Unlisted
 AsmEnds told words old new Memory = Unit {0}
 AsmEnds told words old new ending = ⊥
 
 -- what the files hold once an assembly has ended, or was refused
 abbrev pub AsmFiles : Assembling → Files → Files → Ending → Type 0
 AsmFiles words old new (Converted size) = files.LeavesFiles words old new (comes.Made size)
-AsmFiles words old new OutputFault = files.LeavesFiles words old new comes.Unwritten
-AsmFiles words old new ListFault = files.LeavesFiles words old new comes.Unlisted
+AsmFiles words old new (WriteFault Target) = files.LeavesFiles words old new comes.Unwritten
+AsmFiles words old new (WriteFault Listing) = files.LeavesFiles words old new comes.Unlisted
 AsmFiles words old new Memory = files.LeavesFiles words old new comes.NoMemory
 AsmFiles words old new ending = new ≡ old
 
@@ -51,17 +53,17 @@ AsmFiles words old new ending = new ≡ old
 abbrev pub CanAssemble : Assembling → Files → Type 0
 CanAssemble words held = (image : List ℕ) × (lines : List Placed) × IsFound (held words.source) (assembly.Done image lines)
 
--- what an assembly comes to, as its ending
+-- what an assembly results in, as its ending
 abbrev pub as_ending : Comes → Ending
 as_ending (comes.Made size) = Converted size
-as_ending comes.Unread = ReadFault
-as_ending comes.TooLong = TooLong
+as_ending comes.Unread = ReadFault First
+as_ending comes.TooLong = TooLong First
 as_ending (comes.Refused line kind) = SourceRefused line kind
-as_ending comes.Unwritten = OutputFault
-as_ending comes.Unlisted = ListFault
+as_ending comes.Unwritten = WriteFault Target
+as_ending comes.Unlisted = WriteFault Listing
 as_ending comes.NoMemory = Memory
 
--- the ending where neither a fault nor want of memory comes between
+-- the ending where no fault comes between and memory suffices
 abbrev pub asm_ending : Assembling → Files → Ending
 asm_ending words held = as_ending (files.right_ending (held words.source))
 

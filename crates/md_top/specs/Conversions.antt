@@ -5,12 +5,14 @@ use Rattle.md_vgm.specs.Outcomes.{Failed, Outcome}
 use Rattle.md_vgm.specs.declared.fault.VgmFault.{VgmFault}
 use Rattle.md_vgm.specs.declared.fault.VgmFault.TheVariants.{Form, Dense, Long, NoMemory}
 use Rattle.md_args.specs.Words.{Conversion}
+use Rattle.md_args.specs.declared.files.Input.TheVariants.{First}
+use Rattle.md_args.specs.declared.files.Output.TheVariants.{Target}
 use Rattle.file_commands.specs.Conversions as files
 use Rattle.file_commands.specs.Conversions.{IsFound, IsMadeOf, IsOutcome}
 use Rattle.file_commands.specs.declared.converted.Converted.TheVariants as converted
 use Rattle.file_commands.specs.declared.converted.Converted.{Converted as Comes}
 use Rattle.md_top.specs.declared.ending.Ending.{Ending}
-use Rattle.md_top.specs.declared.ending.Ending.TheVariants.{Converted, InputRefused, OutputFault, ReadFault, TooLong, Memory}
+use Rattle.md_top.specs.declared.ending.Ending.TheVariants.{Converted, InputRefused, Memory, ReadFault, TooLong, WriteFault}
 
 -- the line of an input that is refused, by the place of the fault
 abbrev pub fault_line : VgmFault → List ℕ
@@ -22,37 +24,37 @@ fault_line NoMemory = codes "refused: memory\n"
 -- why a conversion ends
 abbrev pub ConvertEnds : Type 0 → Conversion → DepotState → DepotState → Ending → Type 0
 ConvertEnds told conversion old new (Converted size) = files.HasCause told conversion old new (converted.Made size)
-ConvertEnds told conversion old new ReadFault = files.HasCause told conversion old new converted.Unread
-ConvertEnds told conversion old new TooLong = files.HasCause told conversion old new converted.TooLong
+ConvertEnds told conversion old new (ReadFault First) = files.HasCause told conversion old new converted.Unread
+ConvertEnds told conversion old new (TooLong First) = files.HasCause told conversion old new converted.TooLong
 ConvertEnds told conversion old new (InputRefused fault) = files.HasCause told conversion old new (converted.Refused fault)
-ConvertEnds told conversion old new OutputFault = files.HasCause told conversion old new converted.Unwritten
+ConvertEnds told conversion old new (WriteFault Target) = files.HasCause told conversion old new converted.Unwritten
 ConvertEnds told conversion old new Memory = Unit {0}
 ConvertEnds told conversion old new ending = ⊥
 
 -- what the files hold once a conversion has ended, or was refused
 abbrev pub ConvertFiles : Conversion → Files → Files → Ending → Type 0
 ConvertFiles conversion old new (Converted size) = files.LeavesFiles conversion old new (converted.Made size)
-ConvertFiles conversion old new OutputFault = files.LeavesFiles conversion old new converted.Unwritten
+ConvertFiles conversion old new (WriteFault Target) = files.LeavesFiles conversion old new converted.Unwritten
 ConvertFiles conversion old new ending = new ≡ old
 
 -- the input of a conversion is held, within its limit and accepted
 abbrev pub CanConvert : Conversion → Files → Type 0
 CanConvert conversion held = (made : List ℕ) × IsMadeOf conversion (held conversion.input) made
 
--- what a conversion comes to, as its ending
+-- what a conversion results in, as its ending
 abbrev pub as_ending : Comes → Ending
 as_ending (converted.Made size) = Converted size
-as_ending converted.Unread = ReadFault
-as_ending converted.TooLong = TooLong
+as_ending converted.Unread = ReadFault First
+as_ending converted.TooLong = TooLong First
 as_ending (converted.Refused fault) = InputRefused fault
-as_ending converted.Unwritten = OutputFault
+as_ending converted.Unwritten = WriteFault Target
 as_ending converted.NoMemory = Memory
 
--- the ending where neither a fault nor want of memory comes between, with this outcome of the input
+-- the ending where no fault comes between and memory suffices, with this outcome of the input
 abbrev pub convert_ending : Conversion → Files → Outcome → Ending
 convert_ending conversion held outcome = as_ending (files.right_ending (held conversion.input) outcome)
 
--- the input of a conversion comes to this, if one is asked for
+-- the input of a conversion results in this, if one is asked for
 abbrev pub IsInputOutcome : Option Conversion → Files → Outcome → Type 0
 IsInputOutcome None held outcome = Unit {0}
 IsInputOutcome (Some conversion) held outcome = IsOutcome conversion (bytes_of held conversion.input) outcome

@@ -1,16 +1,17 @@
 -- How a session of the debugger ends: its causes and what is put.
-use Rattle.std.specs.Prelude.{◌≡◌, ◌≢◌, ◌⊎◌, ℕ, ◌<◌, ◌≤◌, List, ◌++◌, length, codes, decimal, Option, Some, None, IsSomeAnd}
-use Rattle.md_outer.specs.Outside.{DepotState, Files, Rose, SinkState, bytes_of}
+use Rattle.std.specs.Prelude.{◌≡◌, ◌≢◌, ℕ, ◌≤◌, List, ◌++◌, length, codes, decimal, Option, Some, None, IsSomeAnd}
+use Rattle.md_outer.specs.Outside.{DepotState, Files, SinkState, bytes_of}
 use Rattle.md_args.specs.Words.{Debugging}
+use Rattle.md_args.specs.declared.files.Input.TheVariants.{Script}
 use Rattle.md_debug.specs.declared.fault.DebugFault.{DebugFault}
 use Rattle.md_debug.specs.declared.fault.DebugFault.TheVariants.{BadNumber, NoMemory, NotKept, UnknownWord}
 use Rattle.md_debug.specs.declared.script.Ending.{Ending as ScriptEnding}
 use Rattle.md_debug.specs.declared.script.Ending.TheVariants.{Obeyed, OutOfMemory, Refused}
 use Rattle.md_debug.specs.Scripts.{FailsWithin, PutsWhole}
 use Rattle.md_debug.specs.Opened.{PlaysScript, StopsScript}
-use Rattle.md_top.specs.Inputs.{CartCause, IsAccepted, cart_of}
+use Rattle.md_top.specs.Inputs.{CartCause, IsAccepted, IsTooLong, IsUnread, cart_of}
 use Rattle.md_top.specs.declared.ending.Ending.{Ending}
-use Rattle.md_top.specs.declared.ending.Ending.TheVariants.{Played, ReplyFault, ScriptFault, ScriptMemory, ScriptRefused, ScriptTooLong}
+use Rattle.md_top.specs.declared.ending.Ending.TheVariants.{Played, ReadFault, ReplyFault, ScriptMemory, ScriptRefused, TooLong}
 
 -- the greatest length of a script
 abbrev pub script_limit : ℕ
@@ -27,13 +28,13 @@ fault_text NoMemory = codes ": memory\n"
 abbrev pub script_line : ℕ → DebugFault → List ℕ
 script_line line fault = (codes "refused: script line " ++ decimal line) ++ fault_text fault
 
--- what a script comes to, as an ending
+-- what a script results in, as an ending
 abbrev pub played_ending : ScriptEnding → Ending
 played_ending Obeyed = Played
 played_ending (Refused line fault) = ScriptRefused line fault
 played_ending OutOfMemory = ScriptMemory
 
--- the cartridge is accepted and the script held, within its limit; its lines come to these replies and this ending
+-- the cartridge is accepted and the script held, within its limit; its lines result in these replies and this ending
 abbrev pub IsPlayed : Debugging → Files → List ℕ → ScriptEnding → Type 0
 IsPlayed words held replies ending =
     IsAccepted (held words.rom) × IsSomeAnd (held words.script) (λ script. (length script ≤ script_limit) × PlaysScript (cart_of words.rom held) script replies ending)
@@ -44,7 +45,7 @@ IsStopped told words held out out' =
     IsAccepted (held words.rom) × IsSomeAnd (held words.script) (λ script. (length script ≤ script_limit) × StopsScript told (cart_of words.rom held) script out out')
 
 -- What was put when a session ends so: the replies to the lines that were obeyed, each when its line was; where one
--- of them could not be put, those before it and a front part of it.
+-- of them could not be put, those before it and a prefix of it.
 abbrev pub ShowsReplies : Type 0 → Type 0 → Debugging → Files → Ending → SinkState → SinkState → Type 0
 ShowsReplies told sink words held Played out out' = (replies : List ℕ) × (told → IsPlayed words held replies Obeyed) × PutsWhole sink replies out out'
 ShowsReplies told sink words held (ScriptRefused line fault) out out' =
@@ -53,17 +54,15 @@ ShowsReplies told sink words held ScriptMemory out out' = (replies : List ℕ) �
 ShowsReplies told sink words held ReplyFault out out' = (replies : List ℕ) × (told → IsStopped sink words held out out') × FailsWithin sink replies out out'
 ShowsReplies told sink words held ending out out' = out' ≡ out
 
--- Why a session ends. Each cause says that the earlier ones do not stand.
+-- Why a session ends. Each cause says that none of the earlier ones holds.
 abbrev pub DebugEnds : Type 0 → Debugging → DepotState → DepotState → Ending → Type 0
 DebugEnds told words old new Played = (replies : List ℕ) × (told → IsPlayed words old.files replies Obeyed)
 DebugEnds told words old new (ScriptRefused line fault) = (replies : List ℕ) × (told → IsPlayed words old.files replies (Refused line fault))
 DebugEnds told words old new ScriptMemory = (replies : List ℕ) × (told → IsPlayed words old.files replies OutOfMemory)
 DebugEnds told words old new ReplyFault =
     told → IsAccepted (old.files words.rom) × IsSomeAnd (old.files words.script) (λ script. length script ≤ script_limit)
-DebugEnds told words old new ScriptFault =
-    (told → IsAccepted (old.files words.rom)) × (Rose old.read_faults new.read_faults ⊎ (told × (old.files words.script ≡ None)))
-DebugEnds told words old new ScriptTooLong =
-    (told → IsAccepted (old.files words.rom)) × (told → IsSomeAnd (old.files words.script) (λ script. script_limit < length script))
+DebugEnds told words old new (ReadFault Script) = (told → IsAccepted (old.files words.rom)) × IsUnread told words.script old new
+DebugEnds told words old new (TooLong Script) = (told → IsAccepted (old.files words.rom)) × IsTooLong told script_limit words.script old
 DebugEnds told words old new ending = CartCause told words.rom old new ending
 
 -- the cartridge is accepted, the script is held, and each of its lines is obeyed
@@ -74,12 +73,12 @@ CanDebug words held = (replies : List ℕ) × IsPlayed words held replies Obeyed
 abbrev pub IsRefusedScript : Type 0 → Debugging → Files → Type 0
 IsRefusedScript told words held = (replies : List ℕ) × (line : ℕ) × (fault : DebugFault) × (told → IsPlayed words held replies (Refused line fault))
 
--- what the lines of a script come to: the replies and the ending
+-- what the lines of a script result in: the replies and the ending
 pub record Scripted : Type 0 where
   pub replies : List ℕ
   pub ending : ScriptEnding
 
--- the lines of the script of a session come to this, if one is asked for, with memory for all of them
+-- the lines of the script of a session result in this, if one is asked for, with memory for all of them
 abbrev pub IsScripted : Option Debugging → Files → Scripted → Type 0
 IsScripted None held script = Unit {0}
 IsScripted (Some words) held script =

@@ -1,4 +1,4 @@
--- The run of a demonstration cartridge: where it begins, what is told of it, and why it ends.
+-- The run of a demonstration cartridge: where it begins, what is reported of it, and why it ends.
 use Rattle.std.specs.Prelude.{◌≡◌, ℕ, ◌<◌, length}
 use Rattle.sha2.specs.Hashers.{Holds256}
 use Rattle.sha2.specs.Sha256.{sha256}
@@ -31,7 +31,7 @@ digests_from start end =
       journal = sha256 (journal_bytes (entries_from start end));
     }
 
--- what is told of a run from a start to a cycle that ends well
+-- what is reported of a run from a start to a cycle that ends well
 abbrev pub summary_from : Start → ℕ → Summary
 summary_from start end =
     record {
@@ -41,7 +41,7 @@ summary_from start end =
       digests = digests_from start end;
     }
 
--- a run from a start to a cycle ends well, and this is told of it
+-- a run from a start to a cycle ends well, and this is reported of it
 pub record IsSummary (start : Start) (end : ℕ) (summary : Summary) : Type 0 where
   pub well : RunsWell start end start.at summary.frames summary.accesses summary.halted
   pub digests : summary.digests ≡ digests_from start end

@@ -5,13 +5,24 @@ use Rattle.rom_header.specs.declared.cart.CartFault.{CartFault}
 use Rattle.rom_header.specs.declared.cart.CartFault.TheVariants as fault
 use Rattle.md_outer.specs.Outside.{DepotState, Files, Rose, bytes_of}
 use Rattle.md_pads.specs.Recording.{GoesWrongAt, Recorded, Spells, no_frames}
-use Rattle.md_args.specs.Words.{Command, Run, load_name, recording_name, rom_of, script_name}
+use Rattle.md_args.specs.Files.{input_of}
+use Rattle.md_args.specs.Words.{Command, Run}
+use Rattle.md_args.specs.declared.files.Input.{Input}
+use Rattle.md_args.specs.declared.files.Input.TheVariants.{First, Recording}
 use Rattle.md_top.specs.declared.ending.Ending.{Ending}
-use Rattle.md_top.specs.declared.ending.Ending.TheVariants.{ReadFault, TooLong, Short, NoMark, RecordingFault, RecordingTooLong, RecordingWrong, Memory}
+use Rattle.md_top.specs.declared.ending.Ending.TheVariants.{ReadFault, Short, NoMark, RecordingWrong, Memory, TooLong}
 use Rattle.md_top.specs.declared.inputs.Inputs.{Inputs}
 
--- Why each ending may come. What a file holds is spoken of where the depot tells it. Each cause says
--- that the earlier ones do not stand.
+-- Why each ending may come. What a file holds is spoken of where the depot's contents are observable. Each cause says
+-- that none of the earlier ones holds.
+
+-- the file of this name could not be read: a count of faults rose, or the depot tells its contents and holds no such file
+abbrev pub IsUnread : Type 0 → List ℕ → DepotState → DepotState → Type 0
+IsUnread told name old new = Rose old.read_faults new.read_faults ⊎ (told × (old.files name ≡ None))
+
+-- it is longer than the limit
+abbrev pub IsTooLong : Type 0 → ℕ → List ℕ → DepotState → Type 0
+IsTooLong told limit name old = told → IsSomeAnd (old.files name) (λ bytes. limit < length bytes)
 
 -- THE CARTRIDGE
 
@@ -27,17 +38,17 @@ IsAccepted file = IsSomeAnd file (λ bytes. (length bytes ≤ cart_limit) × (fa
 abbrev pub cart_of : List ℕ → Files → List ℕ
 cart_of rom files = image (bytes_of files rom)
 
--- what a command comes to whose cartridge is not accepted
+-- what a command results in whose cartridge is not accepted
 abbrev pub refusal_of : CartFault → Ending
 refusal_of fault.Short = Short
-refusal_of fault.Long = TooLong
+refusal_of fault.Long = TooLong First
 refusal_of fault.NoMark = NoMark
 refusal_of fault.NoMemory = Memory
 
 -- why the cartridge of this name is not there
 abbrev pub CartCause : Type 0 → List ℕ → DepotState → DepotState → Ending → Type 0
-CartCause told rom old new ReadFault = Rose old.read_faults new.read_faults ⊎ (told × (old.files rom ≡ None))
-CartCause told rom old new TooLong = told → IsSomeAnd (old.files rom) (λ bytes. cart_limit < length bytes)
+CartCause told rom old new (ReadFault First) = IsUnread told rom old new
+CartCause told rom old new (TooLong First) = IsTooLong told cart_limit rom old
 CartCause told rom old new Short = told → IsSomeAnd (old.files rom) (λ bytes. (length bytes ≤ cart_limit) × (fault_of bytes ≡ Some fault.Short))
 CartCause told rom old new NoMark = told → IsSomeAnd (old.files rom) (λ bytes. (length bytes ≤ cart_limit) × (fault_of bytes ≡ Some fault.NoMark))
 CartCause told rom old new Memory = Unit {0}
@@ -56,8 +67,8 @@ Records (Some name) files recording = IsSomeAnd (files name) (λ bytes. (length 
 
 -- why the recording of this name is not there
 abbrev pub RecordingCause : Type 0 → Option (List ℕ) → DepotState → DepotState → Ending → Type 0
-RecordingCause told (Some name) old new RecordingFault = Rose old.read_faults new.read_faults ⊎ (told × (old.files name ≡ None))
-RecordingCause told (Some name) old new RecordingTooLong = told → IsSomeAnd (old.files name) (λ bytes. recording_limit < length bytes)
+RecordingCause told (Some name) old new (ReadFault Recording) = IsUnread told name old new
+RecordingCause told (Some name) old new (TooLong Recording) = IsTooLong told recording_limit name old
 RecordingCause told (Some name) old new (RecordingWrong place) = told → IsSomeAnd (old.files name) (λ bytes. (length bytes ≤ recording_limit) × GoesWrongAt bytes place)
 RecordingCause told (Some name) old new Memory = Unit {0}
 RecordingCause told name old new ending = ⊥
@@ -89,14 +100,11 @@ pub record AreInputs (run : Run) (files : Files) (inputs : Inputs) : Type 0 wher
 
 -- why the inputs of a run are not there
 abbrev pub InputCause : Type 0 → Run → DepotState → DepotState → Ending → Type 0
-InputCause told run old new RecordingFault = (told → IsAccepted (old.files run.rom)) × RecordingCause told run.recording old new RecordingFault
-InputCause told run old new RecordingTooLong = (told → IsAccepted (old.files run.rom)) × RecordingCause told run.recording old new RecordingTooLong
+InputCause told run old new (ReadFault Recording) = (told → IsAccepted (old.files run.rom)) × RecordingCause told run.recording old new (ReadFault Recording)
+InputCause told run old new (TooLong Recording) = (told → IsAccepted (old.files run.rom)) × RecordingCause told run.recording old new (TooLong Recording)
 InputCause told run old new (RecordingWrong place) = (told → IsAccepted (old.files run.rom)) × RecordingCause told run.recording old new (RecordingWrong place)
 InputCause told run old new ending = CartCause told run.rom old new ending
 
 -- an input of the command is not held
 abbrev pub IsMissing : Command → Files → Type 0
-IsMissing command files =
-    (files (rom_of command) ≡ None)
-    ⊎ (IsSomeAnd (recording_name command) (λ name. files name ≡ None)
-    ⊎ (IsSomeAnd (load_name command) (λ name. files name ≡ None) ⊎ IsSomeAnd (script_name command) (λ name. files name ≡ None)))
+IsMissing command files = (which : Input) × IsSomeAnd (input_of command which) (λ name. files name ≡ None)

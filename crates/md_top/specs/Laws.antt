@@ -10,7 +10,7 @@ use Rattle.md_debug.specs.Laws.{DebugLaws}
 use Rattle.md_rollback.specs.Laws.{RollbackLaws}
 
 pub record ProgramLaws : Type 0 where
-  -- from power-on, whatever was moved, the pads show the recording's words of the frame whose line behind the picture
+  -- from power-on, whatever was moved, the pads show the recording's words of the frame whose line after the picture
   -- began last
   pub pads : (cart : List ℕ) (recording : Recorded) (pal : Bool) (moves : ℕ) → ShowsPads pal recording (ran (power_on cart recording pal) moves)
   -- a run makes a frame for each start of that line, and 16 levels for each multiple of 16,128, from its start to its end

@@ -13,9 +13,11 @@ pub mod Least
 pub mod Limits
 pub mod Loads
 pub mod Outputs
+pub mod Refusals
 pub mod Resuming
 pub mod Rollings
 pub mod Runs
 pub mod Saves
 pub mod Stages
+pub mod Texts
 pub mod Workers

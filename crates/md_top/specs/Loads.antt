@@ -1,14 +1,15 @@
 -- Where a run begins: at power-on, or where a saved state was kept, and why that is not read.
-use Rattle.std.specs.Prelude.{◌≡◌, ◌⊎◌, ℕ, ◌<◌, ◌≤◌, List, length, Option, Some, None, IsSomeAnd}
-use Rattle.md_outer.specs.Outside.{DepotState, Files, Rose, bytes_of}
+use Rattle.std.specs.Prelude.{◌≡◌, ℕ, ◌<◌, ◌≤◌, List, length, Option, Some, None, IsSomeAnd}
+use Rattle.md_outer.specs.Outside.{DepotState, Files, bytes_of}
 use Rattle.md_pads.specs.Recording.{Recorded, no_frames}
 use Rattle.md_machine.specs.Starts.{Start}
 use Rattle.state_laws.specs.Verdicts.{IsStateVerdict, Keeps, OfOther, StateVerdict, StateWrongAt}
 use Rattle.md_args.specs.Words.{Run}
-use Rattle.md_top.specs.Inputs.{AreInputs, Spelled, Verdict, cart_of}
+use Rattle.md_args.specs.declared.files.Input.TheVariants.{State}
+use Rattle.md_top.specs.Inputs.{AreInputs, IsTooLong, IsUnread, Spelled, Verdict, cart_of}
 use Rattle.md_top.specs.Runs.{powered_on}
 use Rattle.md_top.specs.declared.ending.Ending.{Ending}
-use Rattle.md_top.specs.declared.ending.Ending.TheVariants.{LoadFault, StateTooLong, StateWrong, OtherCart, Memory}
+use Rattle.md_top.specs.declared.ending.Ending.TheVariants.{ReadFault, StateWrong, OtherCart, Memory, TooLong}
 use Rattle.md_top.specs.declared.inputs.Inputs.{Inputs}
 
 -- the greatest length of a saved state's file
@@ -44,8 +45,8 @@ CanRun run files = (start : Start) × Begins run files start × (start.at < run.
 
 -- why no machine is made of these inputs and the saved state of this name
 abbrev pub StateCause : Type 0 → Option (List ℕ) → Inputs → DepotState → DepotState → Ending → Type 0
-StateCause told load inputs old new LoadFault = IsSomeAnd load (λ name. Rose old.read_faults new.read_faults ⊎ (told × (old.files name ≡ None)))
-StateCause told load inputs old new StateTooLong = IsSomeAnd load (λ name. told → IsSomeAnd (old.files name) (λ bytes. state_limit < length bytes))
+StateCause told load inputs old new (ReadFault State) = IsSomeAnd load (λ name. IsUnread told name old new)
+StateCause told load inputs old new (TooLong State) = IsSomeAnd load (λ name. IsTooLong told state_limit name old)
 StateCause told load inputs old new (StateWrong place) = IsSomeAnd load (λ name. told → IsFoundIn (old.files name) inputs (StateWrongAt place))
 StateCause told load inputs old new (OtherCart kept given) = IsSomeAnd load (λ name. told → IsFoundIn (old.files name) inputs (OfOther kept given))
 StateCause told load inputs old new Memory = Unit {0}
@@ -67,7 +68,7 @@ abbrev pub IsLoadFound : Type 0 → Run → Files → StateVerdict → Type 0
 IsLoadFound told run files verdict =
     (inputs : Inputs) × (told → AreInputs run files inputs) × IsSomeAnd run.load (λ name. told → IsFoundIn (files name) inputs verdict)
 
--- the frames of a recording by a verdict on it: none, if none is named or it goes wrong
+-- the frames of a recording by a verdict on it: none, if none is named or it is invalid
 abbrev pub recording_by : Option (List ℕ) → Verdict → Recorded
 recording_by (Some name) (Spelled recording) = recording
 recording_by name verdict = no_frames

@@ -1,9 +1,12 @@
 -- What the output files of a run hold.
 use Rattle.std.specs.Prelude.{◌≡◌, ℕ, List, [], ◌++◌, Option, Some, None, IsSome}
 use Rattle.md_outer.specs.Outside.{DepotState, Files, IsPrefix, Rose, with_file}
+use Rattle.md_args.specs.Files.{run_output}
 use Rattle.md_args.specs.Words.{Run}
+use Rattle.md_args.specs.declared.files.Output.{Output}
+use Rattle.md_args.specs.declared.files.Output.TheVariants.{Frames, Journal, Listing, Save, Sound, Target}
 use Rattle.md_top.specs.declared.ending.Ending.{Ending}
-use Rattle.md_top.specs.declared.ending.Ending.TheVariants.{FramesFault, SoundFault, JournalFault, SaveFault, Memory}
+use Rattle.md_top.specs.declared.ending.Ending.TheVariants.{WriteFault, Memory}
 use Rattle.md_top.specs.declared.outputs.Outputs.{Outputs}
 
 -- bytes of the four outputs
@@ -17,7 +20,16 @@ pub record Pieces : Type 0 where
 abbrev pub nothing : Pieces
 nothing = record { frames = []; sound = []; journal = []; state = [] }
 
--- bytes, and behind them more
+-- bytes of one output alone
+abbrev pub only : Output → List ℕ → Pieces
+only Frames piece = record nothing { frames = piece }
+only Sound piece = record nothing { sound = piece }
+only Journal piece = record nothing { journal = piece }
+only Save piece = record nothing { state = piece }
+only Target piece = nothing
+only Listing piece = nothing
+
+-- bytes, and after them more
 abbrev pub lengthened : Pieces → Pieces → Pieces
 lengthened held more = record {
   frames = held.frames ++ more.frames;
@@ -74,13 +86,10 @@ LeavesOthers run old new = (parts : Parts) × (new ≡ written run old parts)
 
 -- an output that is asked for could not be written: a count of faults rose
 abbrev pub IsWriteFault : Run → DepotState → DepotState → Ending → Type 0
-IsWriteFault run old new FramesFault = IsSome run.frames × Rose old.write_faults new.write_faults
-IsWriteFault run old new SoundFault = IsSome run.sound × Rose old.write_faults new.write_faults
-IsWriteFault run old new JournalFault = IsSome run.journal × Rose old.write_faults new.write_faults
-IsWriteFault run old new SaveFault = IsSome run.save × Rose old.write_faults new.write_faults
+IsWriteFault run old new (WriteFault which) = IsSome (run_output run which) × Rose old.write_faults new.write_faults
 IsWriteFault run old new ending = ⊥
 
--- or memory was wanting
+-- or out of memory
 abbrev pub IsUnwritten : Run → DepotState → DepotState → Ending → Type 0
 IsUnwritten run old new Memory = Unit {0}
 IsUnwritten run old new ending = IsWriteFault run old new ending
@@ -90,17 +99,23 @@ abbrev pub IsBegun : (ℕ → Option (List ℕ)) → Option ℕ → Option (List
 IsBegun begun None name = name ≡ None
 IsBegun begun (Some file) name = IsSome name × (begun file ≡ name)
 
--- the outputs that are asked for were begun, and these are their numbers
-pub record AreBegun (run : Run) (begun : ℕ → Option (List ℕ)) (outputs : Outputs) : Type 0 where
-  pub frames : IsBegun begun outputs.frames run.frames
-  pub sound : IsBegun begun outputs.sound run.sound
-  pub journal : IsBegun begun outputs.journal run.journal
-  pub save : IsBegun begun outputs.save run.save
+-- the number of an output that is begun, if it is
+abbrev pub number_in : Outputs → Output → Option ℕ
+number_in outputs Frames = outputs.frames
+number_in outputs Sound = outputs.sound
+number_in outputs Journal = outputs.journal
+number_in outputs Save = outputs.save
+number_in outputs Target = None
+number_in outputs Listing = None
 
--- whatever the outputs held before, they hold these pieces behind it
+-- the outputs that are asked for were begun, and these are their numbers
+abbrev pub AreBegun : Run → (ℕ → Option (List ℕ)) → Outputs → Type 0
+AreBegun run begun outputs = (which : Output) → IsBegun begun (number_in outputs which) (run_output run which)
+
+-- whatever the outputs held before, they hold these pieces after it
 abbrev pub Adds : Run → Files → Files → Pieces → Type 0
 Adds run old new more = (first : Files) (held : Pieces) → Holds run first old held → Holds run first new (lengthened held more)
 
--- whatever they held before, they hold that and parts of these pieces behind it
+-- whatever they held before, they hold that and parts of these pieces after it
 abbrev pub AddsParts : Run → Files → Files → Pieces → Type 0
 AddsParts run old new more = (first : Files) (held : Pieces) → Holds run first old held → LeavesParts run first new (lengthened held more)

@@ -17,7 +17,7 @@ use Rattle.md_top.specs.Heard.{IsHeard}
 use Rattle.md_word.specs.Clock.{last_cycle}
 use Rattle.md_top.specs.Runs.{entries_from, frames_to, halted_from, journal_to, media_from, run_from, state_to}
 
--- where a run goes on from what is saved at a cycle: the machine there, settled
+-- where a run continues from what is saved at a cycle: the machine there, caught up
 abbrev pub saved_start : Start → ℕ → Start
 saved_start start at = record { at = at; console = settled_console at (run_from start at) }
 
@@ -25,12 +25,12 @@ saved_start start at = record { at = at; console = settled_console at (run_from 
 abbrev pub IsKept : Start → ℕ → Type 0
 IsKept start at = IsState start.console.cart (state_to start at) (saved_start start at)
 
--- a run that goes on from a cycle makes what the whole run makes behind it, and comes to the same state
+-- a run that continues from a cycle makes what the whole run makes after it, and results in the same state
 pub record IsRest (start : Start) (at end : ℕ) (after : Console) (later : List Entry) (output : Media) : Type 0 where
   pub entries : entries_from start end ≡ entries_from start at ++ later
   pub media : media_from start end ≡ joined (media_from start at) output
-  -- in bytes: the whole run's frames, its sound behind the header, and its journal are those of the first part, and
-  -- behind them those of the rest
+  -- in bytes: the whole run's frames, its sound after the header, and its journal are those of the first part, and
+  -- after them those of the rest
   pub frames : frames_to start end ≡ frames_to start at ++ frames_bytes (saved_start start at).console.pal output.frames
   pub sound : sound_bytes (media_from start end) ≡ sound_bytes (media_from start at) ++ sound_bytes output
   pub journal : journal_to start end ≡ journal_to start at ++ journal_bytes later
@@ -42,14 +42,14 @@ GoesOnFrom start at =
     (end : ℕ) (after : Console) (entries : List Entry) (output : Media) → at ≤ end → end ≤ last_cycle
     → IsRunTo (saved_start start at).console end after entries output → IsRest start at end after entries output
 
--- A RUN THAT ENDS WELL, from a start to a cycle: what is promised of it, and of what is told of it
+-- A RUN THAT ENDS WELL, from a start to a cycle: what is promised of it, and of what is reported of it
 pub record RunsWell (start : Start) (end : ℕ) (begun finished counted : ℕ) (since : Option ℕ) : Type 0 where
   -- the machine that always moves the chip of least key has made all events below the end and no other
   pub least : IsRunTo start.console end (run_from start end) (entries_from start end) (media_from start end)
   -- from the core of its start every list of enabled events of the chips, in whatever order and to whatever
   -- cycle, ends as the run does; and segment after segment, with the frames and samples too
   pub lists : ListsEndAsRun start.at start.console
-  -- it is told from where it began, and how much it made
+  -- it reports from where it began, and how much it made
   pub from : begun ≡ start.at
   pub frames : finished ≡ length (media_from start end).frames
   pub samples : pairs_between start.at end ≡ length (media_from start end).levels
@@ -60,7 +60,7 @@ pub record RunsWell (start : Start) (end : ℕ) (begun finished counted : ℕ) (
   pub heard : IsHeard start end
   -- the bytes that it saves there, if it is to, are a saved state
   pub kept : IsKept start end
-  -- from which the run goes on as it would have
+  -- from which the run continues as it would have
   pub rest : GoesOnFrom start end
 
 -- the laws on saved states

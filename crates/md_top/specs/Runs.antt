@@ -15,7 +15,7 @@ use Rattle.md_top.specs.declared.inputs.Inputs.{Inputs}
 abbrev pub powered_on : Inputs → Start
 powered_on inputs = record { at = 0; console = power_on inputs.cart inputs.recording inputs.pal }
 
--- no next event stands below the cycle: the least one does not
+-- no next event is below the cycle: the least one is not
 abbrev pub is_quiet : ℕ → Console → Bool
 is_quiet end machine = nat_le end (key_in machine (mover machine)).cycle
 
@@ -63,7 +63,7 @@ pieces_until start end at =
 unfoldable pub state_to : Start → ℕ → List ℕ
 state_to start end = state_bytes end (run_from start end)
 
--- the outputs of a run to the cycle: the state comes behind all others
+-- the outputs of a run to the cycle: the state comes after all others
 abbrev pub pieces_of : Start → ℕ → Pieces
 pieces_of start end = record (pieces_until start end end) { state = state_to start end }
 
@@ -71,16 +71,16 @@ pieces_of start end = record (pieces_until start end end) { state = state_to sta
 pub record RunLaws (start : Start) : Type 0 where
   -- there are never more events below a cycle than cycles up to it, and chips
   pub few_events : (end n : ℕ) → end ≤ 2 ^ 50 → AllBelow start.console end n → n ≤ end - start.at + 5
-  -- no next event stands before that of the chip that moves
+  -- no next event is before that of the chip that moves
   pub mover_first : (m : Console) (i : ℕ) → i < 5 → (key_in m (mover m)).cycle ≤ (key_in m i).cycle
   -- there are no more entries than moves
   pub few_entries : (moves : ℕ) → length (journal start.console moves) ≤ moves
-  -- moves, and behind them later ones, lead where both do, and have the entries, the frames and the
+  -- moves, and after them later ones, lead where both do, and have the entries, the frames and the
   -- samples of both
   pub moves_added : (first later : ℕ) → ran start.console (first + later) ≡ ran (ran start.console first) later
   pub entries_added : (first later : ℕ) → journal start.console (first + later) ≡ journal start.console first ++ journal (ran start.console first) later
   pub output_added : (first later : ℕ) → media_after start.console (first + later) ≡ joined (media_after start.console first) (media_after (ran start.console first) later)
-  -- a run, and behind it one that goes on from where it ended, are a run with those of both
+  -- a run, and after it one that continues from where it ended, are a run with those of both
   pub runs_joined : (w z : Console) (s t : ℕ) (entries later_entries : List Entry) (output later_output : Media) → s ≤ t
       → IsRunTo start.console s w entries output → IsRunTo w t z later_entries later_output
       → IsRunTo start.console t z (entries ++ later_entries) (joined output later_output)
@@ -89,6 +89,6 @@ pub record RunLaws (start : Start) : Type 0 where
       → IsRunTo start.console end z entries output → length output.sides ≡ 16 * (batches_below end - batches_below start.at)
   pub levels_counted : (z : Console) (end : ℕ) (entries : List Entry) (output : Media) → IsStart start
       → IsRunTo start.console end z entries output → length output.levels ≡ 16 * (batches_below end - batches_below start.at)
-  -- and a frame for each start of the line behind the picture
+  -- and a frame for each start of the line after the picture
   pub frames_counted : (z : Console) (end : ℕ) (entries : List Entry) (output : Media) → IsStart start
       → IsRunTo start.console end z entries output → length output.frames ≡ frames_below start.console.pal end - frames_below start.console.pal start.at

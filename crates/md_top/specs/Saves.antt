@@ -1,4 +1,4 @@
--- What saving a state behind a run needs.
+-- What saving a state after a run needs.
 use Rattle.std.specs.Prelude.{◌≡◌, Option, Some, None}
 use Rattle.md_args.specs.Words.{Run}
 use Rattle.md_top.specs.declared.state_buffers.StateBuffers.{StateBuffers}

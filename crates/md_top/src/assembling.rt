@@ -1,15 +1,15 @@
-ghost use Rattle.std.specs.Prelude.{◌≡◌, ◌⊎◌};
+ghost use Rattle.std.specs.Prelude.{◌≡◌};
 ghost use Rattle.md_args.specs.Shown.{shown_assembling};
-ghost use Rattle.md_top.specs.Answers.{PutsAll, PutsPart};
+ghost use Rattle.md_outer.specs.Outside.{PutsText};
 ghost use Rattle.md_top.specs.Assemblies as assemblies;
 ghost use Rattle.md_top.specs.Assemblies.{AsmEnds, AsmFiles, source_line};
 
 use crate::ending::Ending;
-use crate::report::refuse;
+use crate::put::put_three;
 use file_commands::{Comes, assemble_file};
 use itoa::Buffer;
-use md_args::AsmWords;
-use md_outer::{Depot, Sink};
+use md_args::{AsmWords, Input, Output};
+use md_outer::{Depot, Failed, Sink};
 use std::alloc::Global;
 
 /// Assembles the source that the words name.
@@ -23,11 +23,11 @@ pub(crate) fn assemble_source<D: Depot>(
 {
     match assemble_file(alloc, words, depot) {
         Comes::Made(size) => Ending::Converted(size),
-        Comes::Unread => Ending::ReadFault,
-        Comes::TooLong => Ending::TooLong,
+        Comes::Unread => Ending::ReadFault(Input::First),
+        Comes::TooLong => Ending::TooLong(Input::First),
         Comes::Refused(line, kind) => Ending::SourceRefused(line, kind),
-        Comes::Unwritten => Ending::OutputFault,
-        Comes::Unlisted => Ending::ListFault,
+        Comes::Unwritten => Ending::WriteFault(Output::Target),
+        Comes::Unlisted => Ending::WriteFault(Output::Listing),
         Comes::NoMemory => Ending::Memory,
     }
 }
@@ -49,18 +49,15 @@ fn kind_text(kind: u8) -> &'static str
     }
 }
 
-/// Refuses a source, by its line and the kind of its fault.
-pub(crate) fn refuse_source<S: Sink>(out: &mut S, line: u32, kind: u8) -> u8
-    ensures status { result ≡ 16 }
-    ensures put { PutsAll S.told (source_line line kind) (S.state out.old) (S.state out.new)
-        ⊎ PutsPart S.told (source_line line kind) (S.state out.old) (S.state out.new) }
+/// Puts the line of a source that is refused, by its line and the kind of its fault.
+pub(crate) fn put_source_line<S: Sink>(out: &mut S, line: u32, kind: u8) -> Result<(), Failed>
+    ensures { PutsText S.told (source_line line kind) (S.state out.old) (S.state out.new) result }
 {
     let mut digits = Buffer::new();
-    refuse(
+    put_three(
         out,
-        16,
         "refused: source line ",
-        digits.format(line),
+        digits.format(line).as_bytes(),
         kind_text(kind),
     )
 }

@@ -1,15 +1,14 @@
-ghost use Rattle.std.specs.Prelude.{◌≡◌, ◌⊎◌};
-ghost use Rattle.md_top.specs.Answers.{PutsAll, PutsPart};
+ghost use Rattle.md_outer.specs.Outside.{PutsText};
 ghost use Rattle.md_top.specs.Conversions.{ConvertEnds, ConvertFiles, fault_line};
 ghost use Rattle.md_args.specs.Shown.{shown_conversion};
 
 use crate::ending::Ending;
-use crate::report::{refuse, refuse_place};
-use md_args::ConvertWords;
-use md_outer::{Depot, Sink};
+use crate::report::put_number;
+use file_commands::{Converted, convert};
+use md_args::{ConvertWords, Input, Output};
+use md_outer::{Depot, Failed, Sink};
 use md_vgm::VgmFault;
 use std::alloc::Global;
-use file_commands::{Converted, convert};
 
 /// Makes the file that the words ask for of another one.
 pub(crate) fn convert_file<D: Depot>(
@@ -22,24 +21,22 @@ pub(crate) fn convert_file<D: Depot>(
 {
     match convert(alloc, words, depot) {
         Converted::Made(size) => Ending::Converted(size),
-        Converted::Unread => Ending::ReadFault,
-        Converted::TooLong => Ending::TooLong,
+        Converted::Unread => Ending::ReadFault(Input::First),
+        Converted::TooLong => Ending::TooLong(Input::First),
         Converted::Refused(fault) => Ending::InputRefused(fault),
-        Converted::Unwritten => Ending::OutputFault,
+        Converted::Unwritten => Ending::WriteFault(Output::Target),
         Converted::NoMemory => Ending::Memory,
     }
 }
 
-/// Refuses the input of a conversion, by its fault and the place of it.
-pub(crate) fn refuse_input<S: Sink>(out: &mut S, fault: VgmFault) -> u8
-    ensures status { result ≡ 17 }
-    ensures put { PutsAll S.told (fault_line fault) (S.state out.old) (S.state out.new)
-        ⊎ PutsPart S.told (fault_line fault) (S.state out.old) (S.state out.new) }
+/// Puts the line of an input of a conversion that is refused, by its fault and the offset of it.
+pub(crate) fn put_input_fault<S: Sink>(out: &mut S, fault: VgmFault) -> Result<(), Failed>
+    ensures { PutsText S.told (fault_line fault) (S.state out.old) (S.state out.new) result }
 {
     match fault {
-        VgmFault::Form { place } => refuse_place(out, 17, "refused: vgm form at ", place),
-        VgmFault::Dense { place } => refuse_place(out, 17, "refused: vgm dense at ", place),
-        VgmFault::Long { place } => refuse_place(out, 17, "refused: vgm long at ", place),
-        VgmFault::NoMemory => refuse(out, 17, "refused: memory\n", "", ""),
+        VgmFault::Form { place } => put_number(out, "refused: vgm form at ", place),
+        VgmFault::Dense { place } => put_number(out, "refused: vgm dense at ", place),
+        VgmFault::Long { place } => put_number(out, "refused: vgm long at ", place),
+        VgmFault::NoMemory => out.put(b"refused: memory\n"),
     }
 }

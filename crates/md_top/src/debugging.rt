@@ -1,18 +1,15 @@
-ghost use Rattle.std.specs.Prelude.{◌≡◌, ◌⊎◌};
+ghost use Rattle.std.specs.Prelude.{◌≡◌};
 ghost use Rattle.md_args.specs.Shown.{shown_debugging};
 ghost use Rattle.md_outer.specs.Outside.{PutsText};
-ghost use Rattle.md_top.specs.Answers.{PutsAll, PutsPart};
 ghost use Rattle.md_top.specs.Debuggings.{DebugEnds, ShowsReplies, fault_text, played_ending, script_line};
 
 use crate::ending::Ending;
 use crate::put::put_two;
 use crate::reading::read_cart;
 use crate::report::put_number;
-use md_debug::Ending as ScriptEnding;
-use md_debug::play_script;
 use itoa::Buffer;
-use md_args::DebugWords;
-use md_debug::DebugFault;
+use md_args::{DebugWords, Input};
+use md_debug::{DebugFault, Ending as ScriptEnding, play_script};
 use md_outer::{Depot, Failed, Fetch, Sink};
 use std::alloc::Global;
 
@@ -37,8 +34,8 @@ pub(crate) fn debug_cart<D: Depot, S: Sink>(
     };
     let script = match depot.fetch(alloc, words.script, LONGEST_SCRIPT) {
         Ok(script) => script,
-        Err(Fetch::Failed) => return Ending::ScriptFault,
-        Err(Fetch::TooLong) => return Ending::ScriptTooLong,
+        Err(Fetch::Failed) => return Ending::ReadFault(Input::Script),
+        Err(Fetch::TooLong) => return Ending::TooLong(Input::Script),
         Err(Fetch::NoMemory) => return Ending::Memory,
     };
     match play_script(alloc, cart, script.as_slice(), out) {
@@ -47,7 +44,7 @@ pub(crate) fn debug_cart<D: Depot, S: Sink>(
     }
 }
 
-/// What a script comes to, as an ending.
+/// What a script results in, as an ending.
 fn ended(ending: ScriptEnding) -> Ending
     ensures { result ≡ played_ending ending }
 {
@@ -58,18 +55,12 @@ fn ended(ending: ScriptEnding) -> Ending
     }
 }
 
-/// Refuses a line of a script.
-pub(crate) fn refuse_script<S: Sink>(out: &mut S, line: u64, fault: DebugFault) -> u8
-    ensures status { result ≡ 15 }
-    ensures put { PutsAll S.told (script_line line fault) (S.state out.old) (S.state out.new)
-        ⊎ PutsPart S.told (script_line line fault) (S.state out.old) (S.state out.new) }
-{
-    let _ = put_script_line(out, line, fault);
-    15
-}
-
 /// Puts the line of a script that is refused.
-fn put_script_line<S: Sink>(out: &mut S, line: u64, fault: DebugFault) -> Result<(), Failed>
+pub(crate) fn put_script_line<S: Sink>(
+    out: &mut S,
+    line: u64,
+    fault: DebugFault,
+) -> Result<(), Failed>
     ensures { PutsText S.told (script_line line fault) (S.state out.old) (S.state out.new) result }
 {
     let mut digits = Buffer::new();

@@ -1,11 +1,14 @@
+ghost use Rattle.std.specs.Prelude.{◌≡◌};
+ghost use Rattle.md_top.specs.Endings.{status_of};
+
 use crate::summary::Summary;
 use crate::text::Text;
+use md_args::{Input, Output};
 use md_debug::DebugFault;
+use md_rollback::{LineFault, Rolled};
 use md_vgm::VgmFault;
-use md_rollback::LineFault;
-use md_rollback::Rolled;
 
-/// What a command line comes to.
+/// What a command line results in.
 #[derive(Drop)]
 pub(crate) enum Ending {
     /// The lines of a cartridge's header.
@@ -25,61 +28,23 @@ pub(crate) enum Ending {
     DemoDone(Summary),
     /// A file was made of another one, with so many bytes.
     Converted(u64),
-    /// The input of a conversion is refused, at a place in it.
-    InputRefused(VgmFault),
-    /// The output of a conversion or an assembly could not be written.
-    OutputFault,
-    /// A line of a source is refused, for this kind of fault.
-    SourceRefused(u32, u8),
-    /// The list of an assembly could not be written.
-    ListFault,
-    /// The script of a session, or what two players press, could not be read.
-    ScriptFault,
-    /// It is longer than its limit.
-    ScriptTooLong,
     /// Each line of the script was obeyed, and its reply put.
     Played,
-    /// A reply to a line of the script could not be put.
-    ReplyFault,
-    /// A line of the script is refused, behind the replies to those before it.
-    ScriptRefused {
-        /// Its number, from 1 on.
-        line: u64,
-        fault: DebugFault,
-    },
-    /// Memory was wanting for a line of the script, behind the replies to those before it.
-    ScriptMemory,
     /// Each line of what two players press was obeyed.
     RolledBack(Rolled),
-    /// A line of what two players press is refused.
-    LineRefused {
-        /// Its number, from 1 on.
-        line: u64,
-        fault: LineFault,
-    },
     /// The words ask for nothing that there is.
     Usage,
-    /// The run's end lies behind the last cycle.
-    TooFar,
-    /// The cartridge's file, the input of a conversion, or a source could not be read.
-    ReadFault,
-    /// The cartridge's file, the input of a conversion, or a source is longer than its limit.
-    TooLong,
+    /// An input could not be read.
+    ReadFault(Input),
+    /// An output could not be written.
+    WriteFault(Output),
     /// The cartridge's file is too short.
     Short,
     /// The cartridge's file bears no mark.
     NoMark,
-    /// The recording's file could not be read.
-    RecordingFault,
-    /// The recording's file is longer than its limit.
-    RecordingTooLong,
-    /// The recording's file spells no recording, and goes wrong at this byte.
+    /// The recording's file spells no recording, and is invalid at this offset.
     RecordingWrong(u64),
-    /// The saved state's file could not be read.
-    LoadFault,
-    /// The saved state's file is longer than its limit.
-    StateTooLong,
-    /// The saved state's file keeps no machine, and goes wrong at this byte.
+    /// The saved state's file keeps no machine, and is invalid at this offset.
     StateWrong(u64),
     /// The saved state is one of another cartridge.
     OtherCart {
@@ -90,13 +55,62 @@ pub(crate) enum Ending {
     },
     /// The run's end is not above this cycle, at which it begins.
     Behind(u64),
-    /// The frames file could not be written.
-    FramesFault,
-    /// The sound file could not be written.
-    SoundFault,
-    /// The journal could not be written.
-    JournalFault,
-    /// The state's file could not be written.
-    SaveFault,
+    /// Out of memory.
     Memory,
+    /// Out of memory for a line of the script, after the replies to those before it.
+    ScriptMemory,
+    /// The run's end lies after the last cycle.
+    TooFar,
+    /// A reply to a line of the script could not be put.
+    ReplyFault,
+    /// An input is longer than its limit.
+    TooLong(Input),
+    /// A line of the script is refused, after the replies to those before it.
+    ScriptRefused {
+        /// Its number, from 1 on.
+        line: u64,
+        fault: DebugFault,
+    },
+    /// A line of a source is refused, for this kind of fault.
+    SourceRefused(u32, u8),
+    /// The input of a conversion is refused, at an offset in it.
+    InputRefused(VgmFault),
+    /// A line of what two players press is refused.
+    LineRefused {
+        /// Its number, from 1 on.
+        line: u64,
+        fault: LineFault,
+    },
+}
+
+impl Ending {
+    /// The status that the program ends with, where the output could be put.
+    pub(crate) fn status(&self) -> u8
+        ensures { result ≡ status_of self.now }
+    {
+        match self {
+            Ending::Shown(_)
+            | Ending::Done { .. }
+            | Ending::DemoDone(_)
+            | Ending::Converted(_)
+            | Ending::Played
+            | Ending::RolledBack(_) => 0,
+            Ending::Usage => 2,
+            Ending::ReadFault(_) => 3,
+            Ending::WriteFault(_) => 4,
+            Ending::Short | Ending::NoMark => 5,
+            Ending::RecordingWrong(_) => 6,
+            Ending::StateWrong(_) => 7,
+            Ending::OtherCart { .. } => 8,
+            Ending::Behind(_) => 9,
+            Ending::Memory | Ending::ScriptMemory => 10,
+            Ending::TooFar => 11,
+            Ending::ReplyFault => 13,
+            Ending::TooLong(_) => 14,
+            Ending::ScriptRefused { .. } => 15,
+            Ending::SourceRefused(_, _) => 16,
+            Ending::InputRefused(_) => 17,
+            Ending::LineRefused { .. } => 18,
+        }
+    }
 }

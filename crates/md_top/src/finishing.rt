@@ -24,7 +24,7 @@ use md_outer::{Depot, Gate, Sink};
 use std::sync::Wait;
 use std::thread::Threads;
 
-/// Makes the run that is about to begin, if one is, puts what the words come to, and answers the status that the
+/// Makes the run that is about to begin, if one is, puts what the words result in, and answers the status that the
 /// program ends with. The depot and the sink are those of `prepare`, as that call left them.
 ///
 /// It takes no memory: of a run that is about to begin it never answers 10. Such a run has as many workers as
@@ -100,8 +100,8 @@ fn finish_stage<F: Fn(&mut Machine, u64), D: Depot, S: Sink>(
     ensures memory { Runs stage.entry → result ≢ 10 }
 {
     match stage {
-        Stage::Usage => refuse(out, 2, "refused: usage\n", "", ""),
-        Stage::Memory => refuse(out, 10, "refused: memory\n", "", ""),
+        Stage::Usage => refuse(out, Ending::Usage, "refused: usage\n"),
+        Stage::Memory => refuse(out, Ending::Memory, "refused: memory\n"),
         Stage::Ended(command, ending) => report(&command, ending, out),
         Stage::Run(run, begun) => finish_run(go_on, &run, begun, depot, out),
         Stage::Demo(demo, course) => finish_demo(go_on, &demo, course, out),

@@ -10,6 +10,7 @@ ghost use Rattle.md_top.specs.Runs.{powered_on};
 
 use crate::ending::Ending;
 use crate::inputs::Inputs;
+use md_args::Input;
 use md_machine::{Machine, laws};
 use md_outer::{Depot, Fetch};
 use md_pads::Recording;
@@ -64,8 +65,8 @@ fn load_machine<D: Depot>(
 {
     match depot.fetch(alloc, name, LONGEST_STATE) {
         Ok(bytes) => kept_machine(alloc, bytes.as_slice(), inputs),
-        Err(Fetch::Failed) => Err(Ending::LoadFault),
-        Err(Fetch::TooLong) => Err(Ending::StateTooLong),
+        Err(Fetch::Failed) => Err(Ending::ReadFault(Input::State)),
+        Err(Fetch::TooLong) => Err(Ending::TooLong(Input::State)),
         Err(Fetch::NoMemory) => Err(Ending::Memory),
     }
 }

@@ -1,3 +1,8 @@
+ghost use Rattle.std.specs.Prelude.{◌≡◌};
+ghost use Rattle.md_top.specs.Outputs.{number_in};
+
+use md_args::Output;
+
 /// The numbers of the output files that were begun.
 #[derive(Clone, Copy)]
 pub(crate) struct Outputs {
@@ -9,4 +14,19 @@ pub(crate) struct Outputs {
     pub journal: Option<u32>,
     /// The state's file, if one is asked for.
     pub save: Option<u32>,
+}
+
+impl Outputs {
+    /// The number of an output, if it is begun.
+    pub(crate) fn number(&self, which: Output) -> Option<u32>
+        ensures { result ≡ number_in self.now which }
+    {
+        match which {
+            Output::Frames => self.frames,
+            Output::Sound => self.sound,
+            Output::Journal => self.journal,
+            Output::Save => self.save,
+            Output::Target | Output::Listing => None,
+        }
+    }
 }

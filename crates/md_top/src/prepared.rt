@@ -17,9 +17,9 @@ pub struct Prepared<'a> {
 pub(crate) enum Stage<'a> {
     /// Its words ask for nothing that there is.
     Usage,
-    /// Memory was wanting for its words.
+    /// Out of memory for its words.
     Memory,
-    /// What it asks for has come to this.
+    /// What it asks for resulted in this.
     Ended(CommandWords<'a>, Ending),
     /// A run is about to begin.
     Run(RunWords<'a>, BegunRun),

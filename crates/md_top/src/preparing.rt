@@ -4,7 +4,7 @@ ghost use Rattle.md_top.specs.Endings.{InfoEnds, RunEnds, RunFiles};
 ghost use Rattle.md_top.specs.Outputs.{LeavesParts, nothing};
 ghost use Rattle.md_top.specs.Stages.{HasStart, IsAboutToRun, IsPrepared, LeavesBegun, Stands};
 ghost use Rattle.md_args.specs.Shown.{shown_command, shown_run};
-ghost use Rattle.md_args.specs.Words.{command_of};
+ghost use Rattle.md_args.specs.Commands.{command_of};
 
 use crate::assembling::assemble_source;
 use crate::begun_run::BegunRun;
@@ -33,7 +33,7 @@ use std::alloc::Global;
 /// The words are those of `drive`. Here a run reads its files, is refused where it has to be, and begins its
 /// outputs, which changes no other file and leaves each output empty or as it was. All that another command asks
 /// for is done here: a session of the debugger puts its replies into `out`, and nothing else is put. What a command
-/// comes to is put by `finish`.
+/// results in is put by `finish`.
 pub fn prepare<'a, D: Depot, S: Sink>(
     alloc: Global,
     words: &'a Vec<String>,

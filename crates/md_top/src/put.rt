@@ -3,7 +3,7 @@ ghost use Rattle.md_outer.specs.Outside.{PutsText};
 
 use md_outer::{Failed, Sink};
 
-/// Puts a text and bytes behind it.
+/// Puts a text and bytes after it.
 pub(crate) fn put_two<S: Sink>(out: &mut S, first: &str, second: &[u8]) -> Result<(), Failed>
     ensures { PutsText S.told (first.now ++ second.now) (S.state out.old) (S.state out.new) result }
 {
@@ -13,7 +13,7 @@ pub(crate) fn put_two<S: Sink>(out: &mut S, first: &str, second: &[u8]) -> Resul
     }
 }
 
-/// Puts a text, bytes and a text, one behind the other.
+/// Puts a text, bytes and a text, one after the other.
 pub(crate) fn put_three<S: Sink>(
     out: &mut S,
     first: &str,

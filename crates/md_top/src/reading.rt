@@ -7,7 +7,7 @@ ghost use Rattle.md_args.specs.Shown.{shown_run};
 
 use crate::ending::Ending;
 use crate::inputs::Inputs;
-use md_args::RunWords;
+use md_args::{Input, RunWords};
 use md_outer::{Depot, Fetch};
 use md_pads::{RecFault, Recording};
 use rom_header::{Cart, CartFault, GREATEST};
@@ -55,19 +55,19 @@ pub(crate) fn read_cart<D: Depot>(alloc: Global, rom: &str, depot: &mut D) -> Re
             Ok(cart) => Ok(cart),
             Err(fault) => Err(refusal_of(fault)),
         },
-        Err(Fetch::Failed) => Err(Ending::ReadFault),
-        Err(Fetch::TooLong) => Err(Ending::TooLong),
+        Err(Fetch::Failed) => Err(Ending::ReadFault(Input::First)),
+        Err(Fetch::TooLong) => Err(Ending::TooLong(Input::First)),
         Err(Fetch::NoMemory) => Err(Ending::Memory),
     }
 }
 
-/// What a command comes to whose cartridge is not accepted.
+/// What a command results in whose cartridge is not accepted.
 fn refusal_of(fault: CartFault) -> Ending
     ensures { result ≡ refusal_of fault }
 {
     match fault {
         CartFault::Short => Ending::Short,
-        CartFault::Long => Ending::TooLong,
+        CartFault::Long => Ending::TooLong(Input::First),
         CartFault::NoMark => Ending::NoMark,
         CartFault::NoMemory => Ending::Memory,
     }
@@ -105,8 +105,8 @@ fn fetch_recording<D: Depot>(alloc: Global, name: &str, depot: &mut D) -> Result
             Err(RecFault::Form { place }) => Err(Ending::RecordingWrong(place)),
             Err(RecFault::NoMemory) => Err(Ending::Memory),
         },
-        Err(Fetch::Failed) => Err(Ending::RecordingFault),
-        Err(Fetch::TooLong) => Err(Ending::RecordingTooLong),
+        Err(Fetch::Failed) => Err(Ending::ReadFault(Input::Recording)),
+        Err(Fetch::TooLong) => Err(Ending::TooLong(Input::Recording)),
         Err(Fetch::NoMemory) => Err(Ending::Memory),
     }
 }

@@ -1,143 +1,124 @@
-ghost use Rattle.std.specs.Prelude.{◌≡◌, ◌⊎◌, ◌++◌, [], Some, OnOk, OnErr, codes, decimal, unwrap_or};
+ghost use Rattle.std.specs.Prelude.{◌≡◌, ◌⊎◌, ◌++◌, Some, OnOk, OnErr, codes, decimal};
 ghost use Rattle.std.specs.Option.{option_copied};
 ghost use Rattle.hex.specs.Hex.{encode_lower};
 ghost use Rattle.md_outer.specs.Outside.{PutsText};
-ghost use Rattle.md_top.specs.Answers.{PutsAll, PutsOutput, PutsPart, Reports};
+ghost use Rattle.md_top.specs.Answers.{PutsAll, PutsEnding, PutsPart, Reports};
 ghost use Rattle.md_top.specs.Counts.{frames_between};
-ghost use Rattle.md_top.specs.Endings.{carts_line, counts_of, halted_line, lines_of, number_line, numbers_line};
+ghost use Rattle.md_top.specs.Endings.{failed_status, status_of};
+ghost use Rattle.md_top.specs.Texts.{carts_line, counts_of, file_line, halted_line, lines_of, number_line, numbers_line};
 ghost use Rattle.md_args.specs.Shown.{shown_command};
 
-use crate::assembling::refuse_source;
-use crate::converting::refuse_input;
-use crate::debugging::refuse_script;
+use crate::assembling::put_source_line;
+use crate::converting::put_input_fault;
+use crate::debugging::put_script_line;
 use crate::ending::Ending;
 use crate::put::{put_three, put_two};
 use crate::report_demo::put_summary;
-use crate::rolling::{put_rolled, refuse_line};
+use crate::rolling::{put_inputs_line, put_rolled};
 use crate::run_on::pairs_between;
 use hex::encode_to_slice;
 use itoa::Buffer;
 use md_args::CommandWords;
 use md_outer::{Failed, Sink};
 
-/// Puts what a command comes to, and answers its status.
+/// Puts what a command results in, and answers its status.
 pub(crate) fn report<S: Sink>(command: &CommandWords<'_>, ending: Ending, out: &mut S) -> u8
     ensures { Reports S.told (Some (shown_command command.now)) ending (S.state out.old) (S.state out.new) result }
 {
+    let status = ending.status();
+    status_after(status, put_ending(command, ending, out))
+}
+
+/// The status of an ending after what is put of it: where that could not be put, one that is 0 becomes 13.
+fn status_after(status: u8, put: Result<(), Failed>) -> u8
+    ensures ok { OnOk put (result ≡ status) }
+    ensures err { OnErr put (result ≡ failed_status status) }
+{
+    match put {
+        Ok(()) => status,
+        Err(Failed) => match status {
+            0 => 13,
+            _ => status,
+        },
+    }
+}
+
+/// Puts what a command results in: the output, or the line of a refusal.
+fn put_ending<S: Sink>(
+    command: &CommandWords<'_>,
+    ending: Ending,
+    out: &mut S,
+) -> Result<(), Failed>
+    ensures { PutsEnding S.told (Some (shown_command command.now)) ending (S.state out.old) (S.state out.new) result }
+{
     match ending {
-        Ending::Shown(lines) => status_of(out.put(lines.bytes())),
+        Ending::Shown(lines) => out.put(lines.bytes()),
         Ending::Done {
             from,
             frames,
             accesses,
             halted,
-        } => status_of(put_lines(out, from, command.end(), frames, accesses, halted)),
-        Ending::DemoDone(summary) => status_of(put_summary(out, command.end(), &summary)),
-        Ending::Usage => refuse(out, 2, "refused: usage\n", "", ""),
-        Ending::TooFar => refuse_cycle(out, 11, command.end(), " is too far\n"),
-        Ending::ReadFault => refuse(out, 3, "fault: reading ", command.rom(), "\n"),
-        Ending::TooLong => refuse(out, 14, "refused: ", command.rom(), " is too long\n"),
-        Ending::Short => refuse(out, 5, "refused: cartridge: short\n", "", ""),
-        Ending::NoMark => refuse(out, 5, "refused: cartridge: no mark\n", "", ""),
-        Ending::RecordingFault => refuse_file(out, 3, "fault: reading ", command.recording(), "\n"),
-        Ending::RecordingTooLong => refuse_file(
+        } => put_lines(out, from, command.end(), frames, accesses, halted),
+        Ending::DemoDone(summary) => put_summary(out, command.end(), &summary),
+        Ending::Converted(size) => put_number(out, "bytes ", size),
+        Ending::Played | Ending::ReplyFault => Ok(()),
+        Ending::RolledBack(rolled) => put_rolled(out, &rolled),
+        Ending::Usage => out.put(b"refused: usage\n"),
+        Ending::ReadFault(which) => put_file(out, "fault: reading ", command.input(which), "\n"),
+        Ending::WriteFault(which) => put_file(out, "fault: writing ", command.output(which), "\n"),
+        Ending::Short => out.put(b"refused: cartridge: short\n"),
+        Ending::NoMark => out.put(b"refused: cartridge: no mark\n"),
+        Ending::RecordingWrong(place) => put_number(out, "refused: recording at ", place),
+        Ending::StateWrong(place) => put_number(out, "refused: state at ", place),
+        Ending::OtherCart { kept, given } => put_digests(out, &kept, &given),
+        Ending::Behind(from) => put_numbers(
             out,
-            14,
+            "refused: cycle ",
+            command.end(),
+            " is not above ",
+            from,
+        ),
+        Ending::Memory | Ending::ScriptMemory => out.put(b"refused: memory\n"),
+        Ending::TooFar => put_cycle(out, command.end(), " is too far\n"),
+        Ending::TooLong(which) => put_file(
+            out,
             "refused: ",
-            command.recording(),
+            command.input(which),
             " is too long\n",
         ),
-        Ending::RecordingWrong(place) => refuse_place(out, 6, "refused: recording at ", place),
-        Ending::LoadFault => refuse_file(out, 3, "fault: reading ", command.load(), "\n"),
-        Ending::StateTooLong => {
-            refuse_file(out, 14, "refused: ", command.load(), " is too long\n")
-        }
-        Ending::StateWrong(place) => refuse_place(out, 7, "refused: state at ", place),
-        Ending::OtherCart { kept, given } => refuse_other(out, &kept, &given),
-        Ending::Behind(from) => refuse_behind(out, command.end(), from),
-        Ending::FramesFault => refuse_file(out, 4, "fault: writing ", command.frames(), "\n"),
-        Ending::SoundFault => refuse_file(out, 4, "fault: writing ", command.sound(), "\n"),
-        Ending::JournalFault => refuse_file(out, 4, "fault: writing ", command.journal(), "\n"),
-        Ending::SaveFault => refuse_file(out, 4, "fault: writing ", command.save(), "\n"),
-        Ending::Converted(size) => status_of(put_number(out, "bytes ", size)),
-        Ending::InputRefused(fault) => refuse_input(out, fault),
-        Ending::OutputFault => refuse(out, 4, "fault: writing ", command.output(), "\n"),
-        Ending::SourceRefused(line, kind) => refuse_source(out, line, kind),
-        Ending::ListFault => refuse_file(out, 4, "fault: writing ", command.list(), "\n"),
-        Ending::ScriptFault => refuse_file(out, 3, "fault: reading ", command.script(), "\n"),
-        Ending::ScriptTooLong => {
-            refuse_file(out, 14, "refused: ", command.script(), " is too long\n")
-        }
-        Ending::Played => 0,
-        Ending::ReplyFault => 13,
-        Ending::ScriptRefused { line, fault } => refuse_script(out, line, fault),
-        Ending::ScriptMemory => refuse(out, 10, "refused: memory\n", "", ""),
-        Ending::RolledBack(rolled) => status_of(put_rolled(out, &rolled)),
-        Ending::LineRefused { line, fault } => refuse_line(out, line, fault),
-        Ending::Memory => refuse(out, 10, "refused: memory\n", "", ""),
+        Ending::ScriptRefused { line, fault } => put_script_line(out, line, fault),
+        Ending::SourceRefused(line, kind) => put_source_line(out, line, kind),
+        Ending::InputRefused(fault) => put_input_fault(out, fault),
+        Ending::LineRefused { line, fault } => put_inputs_line(out, line, fault),
     }
 }
 
-/// The status of a command that ended well and whose output was put, or could not be.
-fn status_of(put: Result<(), Failed>) -> u8
-    ensures ok { OnOk put (result ≡ 0) }
-    ensures err { OnErr put (result ≡ 13) }
+/// Puts the line of a refusal, and answers its status, whether the line could be put or not.
+pub(crate) fn refuse<S: Sink>(out: &mut S, ending: Ending, line: &str) -> u8
+    ensures status { result ≡ status_of ending }
+    ensures put { PutsAll S.told line.now (S.state out.old) (S.state out.new)
+        ⊎ PutsPart S.told line.now (S.state out.old) (S.state out.new) }
 {
-    match put {
-        Ok(()) => 0,
-        Err(Failed) => 13,
+    let _ = out.put(line.as_bytes());
+    ending.status()
+}
+
+/// Puts the line of a file, by its name.
+fn put_file<S: Sink>(out: &mut S, word: &str, name: Option<&str>, end: &str) -> Result<(), Failed>
+    ensures { PutsText S.told (file_line word.now (option_copied name.entry) end.now) (S.state out.old) (S.state out.new) result }
+{
+    match name {
+        Some(name) => put_three(out, word, name.as_bytes(), end),
+        None => put_three(out, word, &[], end),
     }
 }
 
-/// Puts the line of a refusal in three parts, and answers its status, whether the line could be put
-/// or not.
-pub(crate) fn refuse<S: Sink>(out: &mut S, status: u8, first: &str, second: &str, third: &str) -> u8
-    ensures status { result ≡ status }
-    ensures put { PutsAll S.told (first.now ++ second.now ++ third.now) (S.state out.old) (S.state out.new)
-        ⊎ PutsPart S.told (first.now ++ second.now ++ third.now) (S.state out.old) (S.state out.new) }
-{
-    let _ = put_three(out, first, second.as_bytes(), third);
-    status
-}
-
-/// Refuses the cycle of a run's end.
-fn refuse_cycle<S: Sink>(out: &mut S, status: u8, cycle: u64, why: &str) -> u8
-    ensures status { result ≡ status }
-    ensures put { let line = codes "refused: cycle " ++ decimal cycle ++ why.now in
-        PutsAll S.told line (S.state out.old) (S.state out.new) ⊎ PutsPart S.told line (S.state out.old) (S.state out.new) }
+/// Puts the line of the cycle of a run's end.
+fn put_cycle<S: Sink>(out: &mut S, cycle: u64, why: &str) -> Result<(), Failed>
+    ensures { PutsText S.told (codes "refused: cycle " ++ decimal cycle ++ why.now) (S.state out.old) (S.state out.new) result }
 {
     let mut digits = Buffer::new();
-    refuse(out, status, "refused: cycle ", digits.format(cycle), why)
-}
-
-/// Refuses the end of a run that is not above the cycle at which it begins.
-fn refuse_behind<S: Sink>(out: &mut S, end: u64, from: u64) -> u8
-    ensures status { result ≡ 9 }
-    ensures put { let line = numbers_line (codes "refused: cycle ") end (codes " is not above ") from in
-        PutsAll S.told line (S.state out.old) (S.state out.new) ⊎ PutsPart S.told line (S.state out.old) (S.state out.new) }
-{
-    let _ = put_numbers(out, "refused: cycle ", end, " is not above ", from);
-    9
-}
-
-/// Refuses an input that goes wrong at this byte.
-pub(crate) fn refuse_place<S: Sink>(out: &mut S, status: u8, before: &str, place: u64) -> u8
-    ensures status { result ≡ status }
-    ensures put { let line = before.now ++ decimal place ++ codes "\n" in
-        PutsAll S.told line (S.state out.old) (S.state out.new) ⊎ PutsPart S.told line (S.state out.old) (S.state out.new) }
-{
-    let mut digits = Buffer::new();
-    refuse(out, status, before, digits.format(place), "\n")
-}
-
-/// Refuses a saved state of another cartridge, by both digests.
-fn refuse_other<S: Sink>(out: &mut S, kept: &[u8; 32], given: &[u8; 32]) -> u8
-    ensures status { result ≡ 8 }
-    ensures put { let line = carts_line kept.now given.now in
-        PutsAll S.told line (S.state out.old) (S.state out.new) ⊎ PutsPart S.told line (S.state out.old) (S.state out.new) }
-{
-    let _ = put_digests(out, kept, given);
-    8
+    put_three(out, "refused: cycle ", digits.format(cycle).as_bytes(), why)
 }
 
 /// Puts the line of a saved state of another cartridge.
@@ -166,24 +147,6 @@ pub(crate) fn hexadecimal(digest: &[u8; 32]) -> [u8; 64]
     let mut digits = [0; 64];
     let _ = encode_to_slice(digest.as_slice(), &mut digits);
     digits
-}
-
-/// Refuses the file of an option, by its name.
-fn refuse_file<S: Sink>(
-    out: &mut S,
-    status: u8,
-    before: &str,
-    name: Option<&str>,
-    behind: &str,
-) -> u8
-    ensures status { result ≡ status }
-    ensures put { let line = before.now ++ unwrap_or (option_copied name.entry) [] ++ behind.now in
-        PutsAll S.told line (S.state out.old) (S.state out.new) ⊎ PutsPart S.told line (S.state out.old) (S.state out.new) }
-{
-    match name {
-        Some(name) => refuse(out, status, before, name, behind),
-        None => refuse(out, status, before, "", behind),
-    }
 }
 
 /// Puts the lines of a run that ends well.

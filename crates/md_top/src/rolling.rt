@@ -1,19 +1,18 @@
-ghost use Rattle.std.specs.Prelude.{◌≡◌, ◌≤◌, ◌⊎◌};
+ghost use Rattle.std.specs.Prelude.{◌≡◌, ◌≤◌};
 ghost use Rattle.md_args.specs.Shown.{shown_rolling};
 ghost use Rattle.md_outer.specs.Outside.{PutsText};
 ghost use Rattle.md_rollback.specs.Rolls.{ComesTo};
-ghost use Rattle.md_top.specs.Answers.{PutsAll, PutsPart};
 ghost use Rattle.md_top.specs.Rollings.{RollEnds, comes_ending, counts_lines, inputs_line, line_fault_text, rolled_lines};
 
 use crate::ending::Ending;
+use crate::put::put_three;
 use crate::reading::read_cart;
-use crate::report::{put_number, refuse};
+use crate::report::put_number;
 use crate::report_demo::put_digest_line;
 use itoa::Buffer;
-use md_args::RollbackWords;
+use md_args::{Input, RollbackWords};
 use md_outer::{Depot, Failed, Fetch, Sink};
-use md_rollback::LineFault;
-use md_rollback::{Comes, Rolled, run_script};
+use md_rollback::{Comes, LineFault, Rolled, run_script};
 use rom_header::Cart;
 use std::alloc::Global;
 use std::sync::Arc;
@@ -32,13 +31,13 @@ pub(crate) fn roll_cart<D: Depot>(alloc: Global, words: &RollbackWords<'_>, depo
     };
     match depot.fetch(alloc, words.inputs, LONGEST_INPUTS) {
         Ok(inputs) => ended(outcome(alloc, cart, words.window, inputs.as_slice())),
-        Err(Fetch::Failed) => Ending::ScriptFault,
-        Err(Fetch::TooLong) => Ending::ScriptTooLong,
+        Err(Fetch::Failed) => Ending::ReadFault(Input::Script),
+        Err(Fetch::TooLong) => Ending::TooLong(Input::Script),
         Err(Fetch::NoMemory) => Ending::Memory,
     }
 }
 
-/// What the lines come to.
+/// What the lines result in.
 fn outcome(alloc: Global, cart: Cart, window: u32, inputs: &[u8]) -> Comes
     requires some { 1 ≤ window }
     requires most { window ≤ 16 }
@@ -61,7 +60,7 @@ fn ended(comes: Comes) -> Ending
     }
 }
 
-/// Puts what a session has come to.
+/// Puts what a session resulted in.
 pub(crate) fn put_rolled<S: Sink>(out: &mut S, rolled: &Rolled) -> Result<(), Failed>
     ensures { PutsText S.told (rolled_lines rolled.now) (S.state out.old) (S.state out.new) result }
 {
@@ -81,18 +80,19 @@ fn put_rolled_counts<S: Sink>(out: &mut S, rolled: &Rolled) -> Result<(), Failed
     }
 }
 
-/// Refuses a line of what two players press.
-pub(crate) fn refuse_line<S: Sink>(out: &mut S, line: u64, fault: LineFault) -> u8
-    ensures status { result ≡ 18 }
-    ensures put { PutsAll S.told (inputs_line line fault) (S.state out.old) (S.state out.new)
-        ⊎ PutsPart S.told (inputs_line line fault) (S.state out.old) (S.state out.new) }
+/// Puts the line of a refusal of what two players press.
+pub(crate) fn put_inputs_line<S: Sink>(
+    out: &mut S,
+    line: u64,
+    fault: LineFault,
+) -> Result<(), Failed>
+    ensures { PutsText S.told (inputs_line line fault) (S.state out.old) (S.state out.new) result }
 {
     let mut digits = Buffer::new();
-    refuse(
+    put_three(
         out,
-        18,
         "refused: inputs line ",
-        digits.format(line),
+        digits.format(line).as_bytes(),
         fault_text(fault),
     )
 }

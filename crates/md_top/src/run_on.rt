@@ -16,12 +16,12 @@ ghost use Rattle.md_args.specs.Shown.{shown_run};
 use crate::course::Course;
 use crate::ending::Ending;
 use crate::laws::states_keep_laws;
-use crate::output::{append_all, append_sound};
+use crate::output::{append, append_all};
 use crate::outputs::Outputs;
 use crate::saving::save;
 use crate::segment::advance;
 use crate::state_buffers::StateBuffers;
-use md_args::RunWords;
+use md_args::{Output, RunWords};
 use md_files::wav_head;
 use md_machine::Machine;
 use md_machine::laws::lists_end_as_run;
@@ -116,7 +116,7 @@ fn append_head<D: Depot>(
     course.pairs.clear();
     let pairs = pairs_between(course.machine.at(), run.cycles);
     wav_head(pairs as u32, course.machine.pal(), &mut course.pairs);
-    append_sound(run, outputs, depot, course.pairs.as_slice())
+    append(run, outputs, depot, Output::Sound, course.pairs.as_slice())
 }
 
 /// A segment has a frame's cycles at most. Where the one ends that begins at the cycle `at` of a run of a
@@ -166,7 +166,7 @@ fn run_segment<F: Fn(&mut Machine, u64), D: Depot>(
 }
 
 /// Runs from its start to the end in as few segments as reach it, appends what each makes, and saves
-/// the state that it comes to, if it is asked for.
+/// the state that it results in, if it is asked for.
 fn run_on<F: Fn(&mut Machine, u64), D: Depot>(
     go_on: &F,
     run: &RunWords<'_>,

@@ -7,10 +7,10 @@ ghost use Rattle.md_args.specs.Shown.{shown_run};
 ghost use Rattle.save_state.specs.States.{state_bytes};
 
 use crate::ending::Ending;
-use crate::output::append_state;
+use crate::output::append;
 use crate::outputs::Outputs;
 use crate::state_buffers::StateBuffers;
-use md_args::RunWords;
+use md_args::{Output, RunWords};
 use md_machine::Machine;
 use md_outer::Depot;
 use md_word::NoMemory;
@@ -95,10 +95,10 @@ fn append_pieces<D: Depot>(
     let mut rest = bytes;
     'pieces: while rest.len() > PIECE {
         let (piece, later) = rest.split_at(PIECE);
-        if let Err(ending) = append_state(run, outputs, depot, piece) {
+        if let Err(ending) = append(run, outputs, depot, Output::Save, piece) {
             return Err(ending);
         }
         rest = later;
     }
-    append_state(run, outputs, depot, rest)
+    append(run, outputs, depot, Output::Save, rest)
 }

@@ -1,6 +1,6 @@
 use crate::digests::Digests;
 
-/// What is told of a run from power-on that keeps no file.
+/// What is reported of a run from power-on that keeps no file.
 #[derive(Clone, Copy)]
 pub(crate) struct Summary {
     /// How many frames were finished.

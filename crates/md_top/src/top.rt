@@ -1,7 +1,7 @@
 ghost use Rattle.std.specs.Prelude.{map, string_bytes};
 ghost use Rattle.md_top.specs.Answers.{Answers, Causes};
 ghost use Rattle.md_top.specs.Laws.{ProgramLaws};
-ghost use Rattle.md_args.specs.Words.{command_of};
+ghost use Rattle.md_args.specs.Commands.{command_of};
 
 use crate::finishing::{finish, finish_one};
 use crate::laws::program_laws;
@@ -14,7 +14,7 @@ use std::thread::Threads;
 /// Does what the words of the command line ask for, and answers the status that the program ends
 /// with.
 ///
-/// The words are those behind the program's name. `info ROM` puts the lines of the header of the
+/// The words are those after the program's name. `info ROM` puts the lines of the header of the
 /// cartridge ROM. `run ROM --cycles N`, with `--in P`, `--load S`, `--save T`, `--frames F`,
 /// `--sound W` and `--journal J` where they are wanted, runs the cartridge ROM up to the master cycle
 /// N, 1 to 549,755,813,888, with what the recording P presses on the pads: from power-on, or from the
@@ -25,7 +25,7 @@ use std::thread::Threads;
 /// file; with `--pal` by the master clock of PAL. `asm SOURCE OUT` assembles a source, with `--list L` for the list
 /// of its instructions. `debug ROM SCRIPT` obeys the lines of a script of the debugger, at power-on of the
 /// cartridge, and puts the reply to each when it was obeyed. `rollback ROM INPUTS --window W` obeys the lines of
-/// what two players press, and puts what their session comes to.
+/// what two players press, and puts what their session results in.
 /// It is `prepare` and then `finish_one`, and waits for nobody: whatever `--workers` asks for, one worker makes the
 /// run.
 pub fn drive_one<D: Depot, S: Sink>(

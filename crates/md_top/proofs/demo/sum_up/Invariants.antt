@@ -3,7 +3,7 @@ use Rattle.md_top.specs.Courses.{CameFrom, cycle_of, start_in}
 use Rattle.md_top.specs.Demos.{HaveUntil}
 use Rattle.md_top.proofs.demo.sum_up.Given as goal
 
--- the run stands at the end of a segment, and the digests have what it made
+-- the run is at the end of a segment, and the digests have what it made
 abbrev pub invariant-segments : goal.invariant-segments
 invariant-segments g l =
     (cycle_of l.course ≤ l.end) × CameFrom (start_in l.initial.course) l.course

@@ -1,6 +1,7 @@
 use Rattle.std.proofs.Common.{◌≡◌, Global, None, Option, Some, map, refl, string_bytes, subst, sym}
 use Rattle.md_args.specs.Shown.{shown_command}
-use Rattle.md_args.specs.Words.{Command, command_of}
+use Rattle.md_args.specs.Commands.{command_of}
+use Rattle.md_args.specs.Words.{Command}
 use Rattle.md_top.specs.Stages.{LeavesBegun, Stands}
 use Rattle.md_top.proofs.Stages.{unbegun}
 use Rattle.md_top.proofs.preparing.prepare.Goals as goal

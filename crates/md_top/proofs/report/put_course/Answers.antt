@@ -1,5 +1,5 @@
 use Rattle.std.specs.Prelude.{codes}
-use Rattle.md_top.specs.Endings.{number_line, numbers_line}
+use Rattle.md_top.specs.Texts.{number_line, numbers_line}
 use Rattle.md_top.proofs.Puts.{puts_on, puts_stop}
 use Rattle.md_top.proofs.report.put_course.Goals as goal
 

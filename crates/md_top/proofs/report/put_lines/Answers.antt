@@ -1,4 +1,4 @@
-use Rattle.md_top.specs.Endings.{counts_of, halted_line}
+use Rattle.md_top.specs.Texts.{counts_of, halted_line}
 use Rattle.md_top.proofs.Puts.{puts_on, puts_stop}
 use Rattle.md_top.proofs.report.put_lines.Goals as goal
 

@@ -1,5 +1,5 @@
 use Rattle.std.specs.Prelude.{◌++◌, codes}
-use Rattle.md_top.specs.Endings.{digest_line}
+use Rattle.md_top.specs.Texts.{digest_line}
 use Rattle.md_top.proofs.Puts.{puts_on, puts_stop}
 use Rattle.md_top.proofs.report_demo.put_digest_lines.Goals as goal
 

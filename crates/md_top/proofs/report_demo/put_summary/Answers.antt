@@ -1,4 +1,4 @@
-use Rattle.md_top.specs.Endings.{digest_lines, lines_of}
+use Rattle.md_top.specs.Texts.{digest_lines, lines_of}
 use Rattle.md_top.proofs.Puts.{puts_on, puts_stop}
 use Rattle.md_top.proofs.report_demo.put_summary.Goals as goal
 

@@ -19,11 +19,11 @@ returns-clause-files g c =
     ∙ ap (λ (pairs : ℕ). wav_head pairs c.pal.result) c.pairs_between-pairs.ensures ∙ ap (λ (from : ℕ). wav_head (pairs_between from end) c.pal.result) c.at.ensures
     ∙ ap (wav_head (pairs_between start.at end)) c.pal.ensures.value
     ∙ head-first start end c.requires.start.from c.requires.start.laws (omega (arith, c.requires.before, c.requires.end.1)) c.requires.end in
-    on-ok c.append_sound.result
+    on-ok c.append.result
     (λ adds t first holds.
-    head-held (shown_run c.args.run.now) start first (g.D.Depot.state c.append_sound.new.depot).files c.as_slice.result.now c.requires.start.from c.requires.start.laws
+    head-held (shown_run c.args.run.now) start first (g.D.Depot.state c.append.new.depot).files c.as_slice.result.now c.requires.start.from c.requires.start.laws
     (omega (arith, c.requires.before, c.requires.end.1)) head (adds t first nothing holds))
-    c.append_sound.ensures.files
+    c.append.ensures.files
 
 pub returns-clause-err_files : goal.returns-clause-err_files
 returns-clause-err_files g c =
@@ -34,8 +34,8 @@ returns-clause-err_files g c =
     ∙ ap (λ (pairs : ℕ). wav_head pairs c.pal.result) c.pairs_between-pairs.ensures ∙ ap (λ (from : ℕ). wav_head (pairs_between from end) c.pal.result) c.at.ensures
     ∙ ap (wav_head (pairs_between start.at end)) c.pal.ensures.value
     ∙ head-first start end c.requires.start.from c.requires.start.laws (omega (arith, c.requires.before, c.requires.end.1)) c.requires.end in
-    on-err c.append_sound.result
+    on-err c.append.result
     (λ adds t first holds.
-    head-parts (shown_run c.args.run.now) start first (g.D.Depot.state c.append_sound.new.depot).files c.as_slice.result.now c.requires.start.from c.requires.start.laws
+    head-parts (shown_run c.args.run.now) start first (g.D.Depot.state c.append.new.depot).files c.as_slice.result.now c.requires.start.from c.requires.start.laws
     (omega (arith, c.requires.before)) (omega (arith, c.requires.end.1)) head (adds t first nothing holds))
-    c.append_sound.ensures.err_files
+    c.append.ensures.err_files

@@ -7,7 +7,7 @@ use Rattle.md_top.specs.Saves.{CanSave}
 use Rattle.md_args.specs.Shown.{shown_run}
 use Rattle.md_top.proofs.run_on.run_on.Given as goal
 
--- the run stands at the end of a segment, and the outputs hold what it made
+-- the run is at the end of a segment, and the outputs hold what it made
 abbrev pub invariant-segments : goal.invariant-segments
 invariant-segments g l =
     (cycle_of l.course ≤ l.run.cycles)

@@ -3,7 +3,9 @@ use Rattle.md_top.specs.Outputs.{Adds, AddsParts, nothing}
 use Rattle.md_top.specs.Saves.{CanSave}
 use Rattle.save_state.specs.States.{state_bytes}
 use Rattle.md_args.specs.Shown.{shown_run}
-use Rattle.md_top.proofs.Appends.{adds-no_state}
+use Rattle.md_args.specs.declared.files.Output.TheVariants.{Save}
+use Rattle.md_top.proofs.Appends.{adds-none}
+use Rattle.md_top.proofs.Named.{outputs_apart}
 use Rattle.md_top.proofs.Ends.{on-err, on-ok}
 use Rattle.md_top.proofs.saving.save.Goals as goal
 
@@ -23,5 +25,5 @@ returns-in-Some-clause-err_files g c =
 
 pub returns-in-None-clause-files : goal.returns-in-None-clause-files
 returns-in-None-clause-files g c = λ t.
-    adds-no_state (shown_run c.args.run.now) (g.D.Depot.state c.args.depot.now).files (state_bytes c.args.machine.now.at c.args.machine.now.console)
+    adds-none (shown_run c.args.run.now) (outputs_apart c.args.run.now) Save (g.D.Depot.state c.args.depot.now).files (state_bytes c.args.machine.now.at c.args.machine.now.console)
     (subst (CanSave (shown_run c.args.run.now)) c.in-None.is c.requires.buffers)

@@ -1,5 +1,5 @@
 use Rattle.std.proofs.Common.{Global, map, string_bytes}
-use Rattle.md_args.specs.Words.{command_of}
+use Rattle.md_args.specs.Commands.{command_of}
 use Rattle.md_top.proofs.top.drive.Goals as goal
 
 pub returns-clause-answer : goal.returns-clause-answer
