@@ -13,5 +13,5 @@ pub fn confirmed_machines_stay()
         → IsMore local more_local → IsMore remote more_remote
         → IsMachineOf cart (expected_frames local remote frames) frames machine → IsMachineOf cart (expected_frames more_local more_remote frames) frames machine }
 {
-    laws::confirmed_frames_stay();
+    input_laws::confirmed_frames_stay();
 }

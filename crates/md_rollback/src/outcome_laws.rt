@@ -10,7 +10,7 @@ ghost use Rattle.md_rollback.specs.declared.rolled.Comes.{Comes};
 ghost use Rattle.md_rollback.specs.declared.rolled.Comes.TheVariants.{NoMemory};
 
 use crate::input_laws::expected_is_latest;
-use crate::outcome_laws::confirmed_machines_stay;
+use crate::laws::confirmed_machines_stay;
 use machine_laws::saved;
 use md_machine::laws;
 

@@ -30,9 +30,3 @@ pub const SUB_GAP: u64 = 45;
 
 /// The last cycle to which a run may go: nearly three hours.
 pub const LAST_CYCLE: u64 = 549_755_813_888;
-
-/// The least number of cycles between two events of the 68000: an access takes four of its clocks.
-pub const MAIN_GAP: u64 = 28;
-
-/// The least number of cycles between two events of the Z80: an access takes three of its clocks.
-pub const SUB_GAP: u64 = 45;
