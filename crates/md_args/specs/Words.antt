@@ -1,6 +1,5 @@
 -- What the words of the command line ask for. This project's profile.
 use Rattle.std.specs.Prelude.{ℕ, Bool, List, Option, Some, None}
-use Rattle.md_args.specs.Given.{given}
 use Rattle.md_args.specs.declared.convert_words.Product.{Product}
 
 -- a run of a cartridge, from power-on or from a saved state: the cartridge's name, the cycle of its end, the name of the
@@ -66,70 +65,37 @@ pub data Command : Type 0 where
 
 -- the conversion, if one is asked for
 abbrev pub conversion_in : Command → Option Conversion
-conversion_in (Info rom) = None
-conversion_in (RunCart run) = None
-conversion_in (RunDemo demo) = None
 conversion_in (Convert conversion) = Some conversion
-conversion_in (Assemble assembling) = None
-conversion_in (Debug debugging) = None
-conversion_in (Rollback rolling) = None
+conversion_in command = None
 
 -- the source that is assembled, if one is
 abbrev pub assembling_in : Command → Option Assembling
-assembling_in (Info rom) = None
-assembling_in (RunCart run) = None
-assembling_in (RunDemo demo) = None
-assembling_in (Convert conversion) = None
 assembling_in (Assemble assembling) = Some assembling
-assembling_in (Debug debugging) = None
-assembling_in (Rollback rolling) = None
+assembling_in command = None
 
 -- the session of the debugger, if one is asked for
 abbrev pub debugging_in : Command → Option Debugging
-debugging_in (Info rom) = None
-debugging_in (RunCart run) = None
-debugging_in (RunDemo demo) = None
-debugging_in (Convert conversion) = None
-debugging_in (Assemble assembling) = None
 debugging_in (Debug debugging) = Some debugging
-debugging_in (Rollback rolling) = None
+debugging_in command = None
 
 -- the session of two players, if one is asked for
 abbrev pub rolling_in : Command → Option Rolling
-rolling_in (Info rom) = None
-rolling_in (RunCart run) = None
-rolling_in (RunDemo demo) = None
-rolling_in (Convert conversion) = None
-rolling_in (Assemble assembling) = None
-rolling_in (Debug debugging) = None
 rolling_in (Rollback rolling) = Some rolling
+rolling_in command = None
 
 -- the run of a cartridge that is named, if one is asked for
 abbrev pub run_in : Command → Option Run
-run_in (Info rom) = None
 run_in (RunCart run) = Some run
-run_in (RunDemo demo) = None
-run_in (Convert conversion) = None
-run_in (Assemble assembling) = None
-run_in (Debug debugging) = None
-run_in (Rollback rolling) = None
+run_in command = None
 
 -- the cycle of the run's end; 0 where none is asked for
 abbrev pub end_of : Command → ℕ
-end_of (Info rom) = 0
 end_of (RunCart run) = run.cycles
 end_of (RunDemo demo) = demo.cycles
-end_of (Convert conversion) = 0
-end_of (Assemble assembling) = 0
-end_of (Debug debugging) = 0
-end_of (Rollback rolling) = 0
+end_of command = 0
 
 -- how many workers make it; 1 where none is asked for
 abbrev pub workers_in : Command → ℕ
-workers_in (Info rom) = 1
 workers_in (RunCart run) = run.workers
 workers_in (RunDemo demo) = demo.workers
-workers_in (Convert conversion) = 1
-workers_in (Assemble assembling) = 1
-workers_in (Debug debugging) = 1
-workers_in (Rollback rolling) = 1
+workers_in command = 1

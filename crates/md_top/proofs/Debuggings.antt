@@ -1,7 +1,6 @@
 -- A session of the debugger: what its ending says.
-use Rattle.std.proofs.Common.{◌≡◌, ◌≢◌, ◌⊎◌, inl, inr, ℕ, ◌<◌, ◌≤◌, Bool, cond, List, [], ◌++◌, length, Err, Option, Some, None, refl, sym, ap, subst, ◌∙◌, arith}
+use Rattle.std.proofs.Common.{◌≡◌, ◌≢◌, ◌⊎◌, inl, inr, ℕ, ◌<◌, ◌≤◌, List, [], ◌++◌, length, Err, Option, Some, None, refl, sym, ap, subst, ◌∙◌, arith}
 use Rattle.std.specs.Prelude.{IsSomeAnd, unwrap_or}
-use Rattle.std.proofs.lemmas.Bool.{le-ltb, lt-ltb}
 use Rattle.md_debug.specs.Sessions.{reply_to}
 use Rattle.md_outer.specs.Outside.{DepotState, Files, GoesOn, Rose, SinkState}
 use Rattle.md_args.specs.Words.{Debug, Debugging}
@@ -18,7 +17,7 @@ use Rattle.md_top.specs.declared.ending.Ending.{Ending}
 use Rattle.md_top.specs.declared.ending.Ending.TheVariants.{Played, ReadFault, ReplyFault, ScriptMemory, ScriptRefused, TooLong}
 use Rattle.md_top.proofs.Kept.{unread_before}
 use Rattle.md_top.proofs.Puts.{puts_on}
-use Rattle.md_top.proofs.Right.{right_accepted}
+use Rattle.md_top.proofs.Right.{read_long, read_missing, read_within, right_accepted}
 use Rattle.md_top.proofs.RunsRight.{cart_always, cart_there, file_there, file_within}
 use Rattle.md_top.proofs.Statuses.{Says, cart_says, missing}
 
@@ -51,19 +50,17 @@ debug_without words files right ending always is =
     (nothing, inr (λ other. always other ∙ sym (always nothing)), is ∙ sym (ap status_of (always nothing)))
 
 script_missing : (file : Option (List ℕ)) (script : Scripted) → file ≡ None → script_ending file script ≡ ReadFault Script
-script_missing file script none = ap (λ (f : Option (List ℕ)). script_ending f script) none
+script_missing file script none = read_missing Script script_limit file (λ bytes. played_ending script.ending) none
 
 script_long : (file : Option (List ℕ)) (script : Scripted) → IsSomeAnd file (λ bytes. script_limit < length bytes) → script_ending file script ≡ TooLong Script
-script_long None script long = absurd long
-script_long (Some bytes) script long =
-    ap (λ (b : Bool). cond b (TooLong Script) (played_ending script.ending)) (lt-ltb script_limit (length bytes) long)
+script_long file script long = read_long Script script_limit file (λ bytes. played_ending script.ending) long
 
 -- the script that is played
 script_played : (file : Option (List ℕ)) (cart replies : List ℕ) (ending : ScriptEnding) → IsSomeAnd file (λ script. (length script ≤ script_limit) × PlaysScript cart script replies ending)
     → (script_ending file (record { replies = replies; ending = ending }) ≡ played_ending ending) × PlaysScript cart (unwrap_or file []) replies ending
 script_played None cart replies ending played = absurd played
 script_played (Some bytes) cart replies ending (within, plays) =
-    (ap (λ (b : Bool). cond b (TooLong Script) (played_ending ending)) (le-ltb script_limit (length bytes) within), plays)
+    (read_within Script script_limit bytes (λ held. played_ending ending) within, plays)
 
 debug_played : (words : Debugging) (files : Files) (replies : List ℕ) (ending : ScriptEnding) → IsPlayed words files replies ending
     → debug_ending words files (record { replies = replies; ending = ending }) ≡ played_ending ending

@@ -8,12 +8,13 @@ use Rattle.rom_header.specs.declared.cart.CartFault.TheVariants as fault
 use Rattle.md_outer.specs.Outside.{DepotState, Files, Rose}
 use Rattle.md_pads.specs.Recording.{GoesWrongAt, Recorded, Spells}
 use Rattle.md_top.specs.Endings.{status_of}
-use Rattle.md_top.specs.Refusals.{cart_ending, file_ending, kept_ending, loaded_ending, recorded_ending, recording_ending, run_ending, state_ending, verdict_ending}
+use Rattle.md_top.specs.Refusals.{cart_ending, file_ending, kept_ending, loaded_ending, read_ending, recorded_ending, recording_ending, run_ending, state_ending, verdict_ending}
 use Rattle.md_top.specs.Inputs.{CartCause, IsAccepted, IsJudged, IsVerdict, Spelled, RecordingCause, Records, Verdict, WrongAt, cart_limit, recording_limit}
 use Rattle.md_top.specs.Loads.{BeginsWith, IsFound, IsFoundIn, IsLoadJudged, StateCause, recording_by, state_limit}
 use Rattle.state_laws.specs.Verdicts.{Keeps, OfOther, StateVerdict, StateWrongAt}
 use Rattle.md_top.specs.Runs.{entries_from, halted_from, media_from, powered_on}
 use Rattle.md_machine.specs.Starts.{Start}
+use Rattle.md_args.specs.declared.files.Input.{Input}
 use Rattle.md_args.specs.declared.files.Input.TheVariants.{First, Recording, State}
 use Rattle.md_top.specs.declared.ending.Ending.{Ending}
 use Rattle.md_top.specs.declared.ending.Ending.TheVariants.{Done, ReadFault, Short, NoMark, RecordingWrong, StateWrong, OtherCart, Behind, Memory, TooLong}
@@ -21,7 +22,20 @@ use Rattle.md_top.specs.declared.inputs.Inputs.{Inputs}
 use Rattle.md_pads.proofs.Whole.{one_recording}
 use Rattle.state_laws.proofs.Whole.{one_verdict}
 
--- BEHIND THE CARTRIDGE'S FILE
+-- AFTER THE FILE OF AN INPUT
+
+pub read_missing : (which : Input) (limit : ℕ) (file : Option (List ℕ)) (ending : List ℕ → Ending) → file ≡ None → read_ending which limit file ending ≡ ReadFault which
+read_missing which limit file ending missing = ap (λ (held : Option (List ℕ)). read_ending which limit held ending) missing
+
+pub read_long : (which : Input) (limit : ℕ) (file : Option (List ℕ)) (ending : List ℕ → Ending) → IsSomeAnd file (λ bytes. limit < length bytes)
+    → read_ending which limit file ending ≡ TooLong which
+read_long which limit None ending long = absurd long
+read_long which limit (Some bytes) ending long = ap (λ (too_long : Bool). cond too_long (TooLong which) (ending bytes)) (lt-ltb limit (length bytes) long)
+
+pub read_within : (which : Input) (limit : ℕ) (bytes : List ℕ) (ending : List ℕ → Ending) → length bytes ≤ limit → read_ending which limit (Some bytes) ending ≡ ending bytes
+read_within which limit bytes ending within = ap (λ (long : Bool). cond long (TooLong which) (ending bytes)) (le-ltb limit (length bytes) within)
+
+-- AFTER THE CARTRIDGE'S FILE
 
 -- a file within the limit is not refused as too long
 not_long : (short mark : Bool) → cond short (Some fault.Short) (cond false (Some fault.Long) (cond mark None (Some fault.NoMark))) ≡ Some fault.Long → ⊥
@@ -37,22 +51,21 @@ long_is_long bytes within why =
 pub right_accepted : (file : Option (List ℕ)) (rest : Ending) → IsAccepted file → file_ending file rest ≡ rest
 right_accepted None rest accepted = absurd accepted
 right_accepted (Some bytes) rest (within, ok) =
-    ap (λ (long : Bool). cond long (TooLong First) (cart_ending (fault_of bytes) rest)) (le-ltb cart_limit (length bytes) within)
+    read_within First cart_limit bytes (λ held. cart_ending (fault_of held) rest) within
     ∙ ap (λ (fault : Option CartFault). cart_ending fault rest) ok
 
 pub right_long : (file : Option (List ℕ)) (rest : Ending) → IsSomeAnd file (λ bytes. cart_limit < length bytes) → file_ending file rest ≡ TooLong First
-right_long None rest long = absurd long
-right_long (Some bytes) rest long = ap (λ (too_long : Bool). cond too_long (TooLong First) (cart_ending (fault_of bytes) rest)) (lt-ltb cart_limit (length bytes) long)
+right_long file rest long = read_long First cart_limit file (λ held. cart_ending (fault_of held) rest) long
 
 pub right_refused : (file : Option (List ℕ)) (rest : Ending) (why : CartFault)
     → IsSomeAnd file (λ bytes. (length bytes ≤ cart_limit) × (fault_of bytes ≡ Some why)) → file_ending file rest ≡ cart_ending (Some why) rest
 right_refused None rest why refused = absurd refused
 right_refused (Some bytes) rest why (within, is) =
-    ap (λ (long : Bool). cond long (TooLong First) (cart_ending (fault_of bytes) rest)) (le-ltb cart_limit (length bytes) within)
+    read_within First cart_limit bytes (λ held. cart_ending (fault_of held) rest) within
     ∙ ap (λ (refused : Option CartFault). cart_ending refused rest) is
 
 pub right_missing : (file : Option (List ℕ)) (rest : Ending) → file ≡ None → file_ending file rest ≡ ReadFault First
-right_missing file rest missing = ap (λ (file : Option (List ℕ)). file_ending file rest) missing
+right_missing file rest missing = read_missing First cart_limit file (λ held. cart_ending (fault_of held) rest) missing
 
 -- without a fault the ending is the right one, or memory runs out
 pub cart_right : (told : Type 0) (rom : List ℕ) (old new : DepotState) (rest ending : Ending) → CartCause told rom old new ending
@@ -65,7 +78,7 @@ cart_right told rom old new rest NoMark cause clean t = inl (sym (ap status_of (
 cart_right told rom old new rest Memory cause clean t = inr refl
 cart_right told rom old new rest _ cause clean t = absurd cause
 
--- BEHIND THE RECORDING'S FILE
+-- AFTER THE RECORDING'S FILE
 
 -- the recording is the one that the verdict tells
 file_recording : (file : Option (List ℕ)) (verdict : Verdict) (recording : Recorded) (name : List ℕ)
@@ -85,7 +98,7 @@ file_recorded : (file : Option (List ℕ)) (verdict : Verdict) (recording : Reco
     → recording_ending file verdict ready ≡ ready recording
 file_recorded None verdict recording ready is judged = absurd is
 file_recorded (Some bytes) (Spelled found) recording ready (within, spells) judged =
-    ap (λ (long : Bool). cond long (TooLong Recording) (ready found)) (le-ltb recording_limit (length bytes) within)
+    read_within Recording recording_limit bytes (λ held. ready found) within
     ∙ ap ready (one_recording bytes found recording judged spells)
 file_recorded (Some bytes) (WrongAt place) recording ready (within, spells) judged = absurd (judged.none (recording, spells))
 
@@ -96,9 +109,7 @@ right_recorded (Some name) files verdict recording ready is judged = file_record
 
 pub file_long : (file : Option (List ℕ)) (verdict : Verdict) (ready : Recorded → Ending) → IsSomeAnd file (λ bytes. recording_limit < length bytes)
     → recording_ending file verdict ready ≡ TooLong Recording
-file_long None verdict ready long = absurd long
-file_long (Some bytes) verdict ready long =
-    ap (λ (too_long : Bool). cond too_long (TooLong Recording) (verdict_ending verdict ready)) (lt-ltb recording_limit (length bytes) long)
+file_long file verdict ready long = read_long Recording recording_limit file (λ held. verdict_ending verdict ready) long
 
 -- whatever the verdict, there is a place at which the bytes go wrong
 file_wrong : (file : Option (List ℕ)) (verdict : Verdict) (place : ℕ) (ready : Recorded → Ending)
@@ -107,7 +118,7 @@ file_wrong : (file : Option (List ℕ)) (verdict : Verdict) (place : ℕ) (ready
 file_wrong None verdict place ready is judged = absurd is
 file_wrong (Some bytes) (Spelled recording) place ready (within, wrong) judged = absurd (wrong.none (recording, judged))
 file_wrong (Some bytes) (WrongAt other) place ready (within, wrong) judged =
-    ap (λ (long : Bool). status_of (cond long (TooLong Recording) (RecordingWrong other))) (le-ltb recording_limit (length bytes) within)
+    ap status_of (read_within Recording recording_limit bytes (λ held. RecordingWrong other) within)
 
 pub recording_right : (told : Type 0) (name : Option (List ℕ)) (old new : DepotState) (verdict : Verdict) (ready : Recorded → Ending) (ending : Ending)
     → RecordingCause told name old new ending → IsJudged name old.files verdict → ¬ Rose old.read_faults new.read_faults → told
@@ -123,7 +134,7 @@ recording_right told (Some name) old new verdict ready (RecordingWrong place) ca
 recording_right told (Some name) old new verdict ready Memory cause judged clean t = inr refl
 recording_right told (Some name) old new verdict ready _ cause judged clean t = absurd cause
 
--- BEHIND THE SAVED STATE'S FILE
+-- AFTER THE SAVED STATE'S FILE
 
 -- a run whose end is not above its start, and one whose end is
 ended_by : (b : Bool) (start : Start) (end : ℕ) → status_of (cond b (Behind start.at) (Done start.at (length (media_from start end).frames) (length (entries_from start end)) (halted_from start end))) ≡ cond b 9 0
@@ -137,13 +148,11 @@ file_kept : (file : Option (List ℕ)) (inputs : Inputs) (verdict state : StateV
     → IsFound inputs (unwrap_or file []) state → state_ending file state end ≡ kept_ending verdict end
 file_kept None inputs verdict state end found judged = absurd found
 file_kept (Some bytes) inputs verdict state end (within, found) judged =
-    ap (λ (long : Bool). cond long (TooLong State) (kept_ending state end)) (le-ltb state_limit (length bytes) within)
+    read_within State state_limit bytes (λ held. kept_ending state end) within
     ∙ ap (λ (s : StateVerdict). kept_ending s end) (one_verdict inputs.cart inputs.recording bytes state verdict judged found)
 
 pub file_state_long : (file : Option (List ℕ)) (state : StateVerdict) (end : ℕ) → IsSomeAnd file (λ bytes. state_limit < length bytes) → state_ending file state end ≡ TooLong State
-file_state_long None state end long = absurd long
-file_state_long (Some bytes) state end long =
-    ap (λ (too_long : Bool). cond too_long (TooLong State) (kept_ending state end)) (lt-ltb state_limit (length bytes) long)
+file_state_long file state end long = read_long State state_limit file (λ held. kept_ending state end) long
 
 -- where a run begins
 pub loaded_run : (load : Option (List ℕ)) (files : Files) (inputs : Inputs) (state : StateVerdict) (start : Start) (end : ℕ) → BeginsWith load files inputs start

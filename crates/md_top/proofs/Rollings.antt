@@ -1,7 +1,6 @@
 -- A session of two players: what its ending says.
-use Rattle.std.proofs.Common.{◌≡◌, ◌≢◌, ◌⊎◌, inl, inr, ℕ, ◌<◌, ◌≤◌, Bool, cond, List, [], length, Option, Some, None, refl, sym, ap, subst, ◌∙◌, arith}
+use Rattle.std.proofs.Common.{◌≡◌, ◌≢◌, ◌⊎◌, inl, inr, ℕ, ◌<◌, ◌≤◌, List, [], length, Option, Some, None, refl, sym, ap, subst, ◌∙◌, arith}
 use Rattle.std.specs.Prelude.{IsSomeAnd, unwrap_or}
-use Rattle.std.proofs.lemmas.Bool.{le-ltb, lt-ltb}
 use Rattle.md_outer.specs.Outside.{DepotState, Files, GoesOn, Rose}
 use Rattle.md_args.specs.Words.{Rollback, Rolling}
 use Rattle.md_args.specs.declared.files.Input.TheVariants.{Script}
@@ -18,7 +17,7 @@ use Rattle.md_top.specs.Rollings.{CanRoll, IsRollFound, IsRolledTo, RollEnds, co
 use Rattle.md_top.specs.declared.ending.Ending.{Ending}
 use Rattle.md_top.specs.declared.ending.Ending.TheVariants.{LineRefused, ReadFault, RolledBack, TooLong}
 use Rattle.md_top.proofs.Kept.{unread_before}
-use Rattle.md_top.proofs.Right.{right_accepted}
+use Rattle.md_top.proofs.Right.{read_long, read_missing, read_within, right_accepted}
 use Rattle.md_top.proofs.RunsRight.{cart_always, cart_there, file_there, file_within}
 use Rattle.md_top.proofs.Statuses.{Says, cart_says, missing}
 
@@ -46,18 +45,17 @@ roll_without words files right ending always is =
     (comes.NoMemory, inr (λ other. always other ∙ sym (always comes.NoMemory)), is ∙ sym (ap status_of (always comes.NoMemory)))
 
 inputs_missing : (file : Option (List ℕ)) (outcome : Comes) → file ≡ None → inputs_ending file outcome ≡ ReadFault Script
-inputs_missing file outcome none = ap (λ (f : Option (List ℕ)). inputs_ending f outcome) none
+inputs_missing file outcome none = read_missing Script inputs_limit file (λ bytes. comes_ending outcome) none
 
 inputs_long : (file : Option (List ℕ)) (outcome : Comes) → IsSomeAnd file (λ bytes. inputs_limit < length bytes) → inputs_ending file outcome ≡ TooLong Script
-inputs_long None outcome long = absurd long
-inputs_long (Some bytes) outcome long = ap (λ (b : Bool). cond b (TooLong Script) (comes_ending outcome)) (lt-ltb inputs_limit (length bytes) long)
+inputs_long file outcome long = read_long Script inputs_limit file (λ bytes. comes_ending outcome) long
 
 -- the lines that are obeyed
 inputs_obeyed : (file : Option (List ℕ)) (cart : List ℕ) (window : ℕ) (outcome : Comes) → IsSomeAnd file (λ inputs. (length inputs ≤ inputs_limit) × ComesTo cart window inputs outcome)
     → (inputs_ending file outcome ≡ comes_ending outcome) × ComesTo cart window (unwrap_or file []) outcome
 inputs_obeyed None cart window outcome obeyed = absurd obeyed
 inputs_obeyed (Some bytes) cart window outcome (within, is) =
-    (ap (λ (b : Bool). cond b (TooLong Script) (comes_ending outcome)) (le-ltb inputs_limit (length bytes) within), is)
+    (read_within Script inputs_limit bytes (λ held. comes_ending outcome) within, is)
 
 roll_to : (words : Rolling) (files : Files) (outcome : Comes) → IsRolledTo words files outcome → roll_ending words files outcome ≡ comes_ending outcome
 roll_to words files outcome (accepted, obeyed) =

@@ -17,7 +17,7 @@ use Rattle.md_args.specs.declared.files.Input.TheVariants.{First, Recording, Sta
 use Rattle.md_top.specs.declared.ending.Ending.{Ending}
 use Rattle.md_top.specs.declared.ending.Ending.TheVariants.{Shown, ReadFault, Short, NoMark, RecordingWrong, StateWrong, OtherCart, Memory, TooFar, TooLong}
 use Rattle.md_top.specs.declared.inputs.Inputs.{Inputs}
-use Rattle.md_top.proofs.Right.{file_long, file_state_long, load_right, loaded_run, recording_same, right_accepted, right_long, right_missing, right_recorded, right_refused}
+use Rattle.md_top.proofs.Right.{file_long, file_state_long, load_right, loaded_run, read_within, recording_same, right_accepted, right_long, right_missing, right_recorded, right_refused}
 
 -- OF A RUN
 
@@ -163,7 +163,7 @@ wrong_always : (file : Option (List ℕ)) (verdict : Verdict) (place : ℕ)
 wrong_always None verdict place is judged = absurd is
 wrong_always (Some bytes) (Spelled recording) place (within, wrong) judged = absurd (wrong.none (recording, judged))
 wrong_always (Some bytes) (WrongAt other) place (within, wrong) judged =
-    (RecordingWrong other, (λ ready. ap (λ (long : Bool). cond long (TooLong Recording) (RecordingWrong other)) (le-ltb recording_limit (length bytes) within)), refl)
+    (RecordingWrong other, (λ ready. read_within Recording recording_limit bytes (λ held. RecordingWrong other) within), refl)
 
 -- and so is a recording
 pub recording_always : (told : Type 0) (name : Option (List ℕ)) (old new : DepotState) (verdict : Verdict) (ending : Ending)

@@ -10,6 +10,7 @@ use Rattle.state_laws.specs.Verdicts.{Keeps, OfOther, StateVerdict, StateWrongAt
 use Rattle.md_vgm.specs.Outcomes.{Outcome}
 use Rattle.md_rollback.specs.declared.rolled.Comes.{Comes}
 use Rattle.md_args.specs.Words.{Assemble, Command, Convert, Debug, Debugging, Demo, Info, Rollback, Rolling, Run, RunCart, RunDemo}
+use Rattle.md_args.specs.declared.files.Input.{Input}
 use Rattle.md_args.specs.declared.files.Input.TheVariants.{First, Recording, Script, State}
 use Rattle.md_top.specs.Assemblies.{asm_ending}
 use Rattle.md_top.specs.Conversions.{convert_ending}
@@ -24,6 +25,11 @@ use Rattle.md_top.specs.declared.ending.Ending.{Ending}
 use Rattle.md_top.specs.declared.ending.Ending.TheVariants.{Shown, Done, DemoDone, Usage, ReadFault, RecordingWrong, StateWrong, OtherCart, Behind, TooFar, TooLong}
 use Rattle.md_top.specs.declared.inputs.Inputs.{Inputs}
 
+-- after the file of an input: it could not be read, it is longer than its limit, or its bytes have an ending
+abbrev pub read_ending : Input → ℕ → Option (List ℕ) → (List ℕ → Ending) → Ending
+read_ending which limit None ending = ReadFault which
+read_ending which limit (Some bytes) ending = if nat_lt limit (length bytes) then TooLong which else ending bytes
+
 -- after the bytes of the cartridge's file; `accepted` is the ending where they are accepted
 abbrev pub cart_ending : Option CartFault → Ending → Ending
 cart_ending (Some fault) accepted = refusal_of fault
@@ -31,8 +37,7 @@ cart_ending None accepted = accepted
 
 -- after the cartridge's file
 abbrev pub file_ending : Option (List ℕ) → Ending → Ending
-file_ending None accepted = ReadFault First
-file_ending (Some bytes) accepted = if nat_lt cart_limit (length bytes) then TooLong First else cart_ending (fault_of bytes) accepted
+file_ending file accepted = read_ending First cart_limit file (λ bytes. cart_ending (fault_of bytes) accepted)
 
 -- after the bytes of the recording's file; `ready` is the ending after what they spell
 abbrev pub verdict_ending : Verdict → (Recorded → Ending) → Ending
@@ -41,8 +46,7 @@ verdict_ending (Spelled recording) ready = ready recording
 
 -- after the recording's file
 abbrev pub recording_ending : Option (List ℕ) → Verdict → (Recorded → Ending) → Ending
-recording_ending None verdict ready = ReadFault Recording
-recording_ending (Some bytes) verdict ready = if nat_lt recording_limit (length bytes) then TooLong Recording else verdict_ending verdict ready
+recording_ending file verdict ready = read_ending Recording recording_limit file (λ bytes. verdict_ending verdict ready)
 
 -- after an accepted cartridge, with the recording of this name, if one is named
 abbrev pub recorded_ending : Option (List ℕ) → Files → Verdict → (Recorded → Ending) → Ending
@@ -62,8 +66,7 @@ kept_ending (Keeps start) end = run_ending start end
 
 -- after the saved state's file
 abbrev pub state_ending : Option (List ℕ) → StateVerdict → ℕ → Ending
-state_ending None state end = ReadFault State
-state_ending (Some bytes) state end = if nat_lt state_limit (length bytes) then TooLong State else kept_ending state end
+state_ending file state end = read_ending State state_limit file (λ bytes. kept_ending state end)
 
 -- after the inputs of a run, with the saved state of this name, if one is named
 abbrev pub loaded_ending : Option (List ℕ) → Files → StateVerdict → Inputs → ℕ → Ending
@@ -87,8 +90,7 @@ asked_ending run files verdict state =
 
 -- after the script's file
 abbrev pub script_ending : Option (List ℕ) → Scripted → Ending
-script_ending None script = ReadFault Script
-script_ending (Some bytes) script = if nat_lt script_limit (length bytes) then TooLong Script else played_ending script.ending
+script_ending file script = read_ending Script script_limit file (λ bytes. played_ending script.ending)
 
 -- what a session of the debugger results in, with these files and this outcome of the lines of its script
 abbrev pub debug_ending : Debugging → Files → Scripted → Ending
@@ -96,8 +98,7 @@ debug_ending words files script = file_ending (files words.rom) (script_ending (
 
 -- after the file of what two players press
 abbrev pub inputs_ending : Option (List ℕ) → Comes → Ending
-inputs_ending None outcome = ReadFault Script
-inputs_ending (Some bytes) outcome = if nat_lt inputs_limit (length bytes) then TooLong Script else comes_ending outcome
+inputs_ending file outcome = read_ending Script inputs_limit file (λ bytes. comes_ending outcome)
 
 -- what a session of two players results in, with these files and this outcome of its lines
 abbrev pub roll_ending : Rolling → Files → Comes → Ending
