@@ -17,7 +17,7 @@ use Rattle.md_disasm.specs.declared.operand80.Operand80.{Operand80}
 use Rattle.asm_z80.specs.Coded80.{AreBytes}
 use Rattle.asm_z80.specs.Instruction.{is_db}
 use Rattle.asm_z80.proofs.Operands.{shown}
-use Rattle.asm_z80.proofs.Sources.{led_pieces}
+use Rattle.asm_z80.proofs.Sources.{led_tokens}
 use Rattle.md_asm.specs.Contents.{under}
 use Rattle.asm_laws.proofs.Fits.{number_of}
 use Rattle.asm_laws.proofs.Fill80.{IsDecoded, IsReached, ix_decoded, iy_decoded, not_odd, plain_decoded, reach, row_named, row_read}
@@ -71,8 +71,8 @@ if_there _ n h = cc
 -- a number alone at the start, and after it
 abbrev pub AreAlone : Op80 → ℕ → Type 0
 AreAlone op at =
-    ((n : ℕ) → number_of (led_pieces 32 (row_of op at).first) ≡ Some n → IsThere (row_kept true false (row_of op at)) (under true n))
-    × ((n : ℕ) → number_of (led_pieces 44 (row_of op at).second) ≡ Some n → IsThere (row_kept false true (row_of op at)) (under true n))
+    ((n : ℕ) → number_of (led_tokens 32 (row_of op at).first) ≡ Some n → IsThere (row_kept true false (row_of op at)) (under true n))
+    × ((n : ℕ) → number_of (led_tokens 44 (row_of op at).second) ≡ Some n → IsThere (row_kept false true (row_of op at)) (under true n))
 
 to_number : (row : Row80) (t n : ℕ) → t ≡ n → IsThere row (under true t) → IsThere row (under true n)
 to_number row t n e h = subst (λ (k : ℕ). IsThere row (under true k)) e h
@@ -149,7 +149,7 @@ kept_first row h = ap (λ (o : Operand80). record row { second = o }) (sym (same
 kept_second : (row : Row80) → is_numbered row.first ≡ false → row ≡ row_kept false true row
 kept_second row h = ap (λ (o : Operand80). record row { first = o }) (sym (same_filled row.first h))
 
-numbered_by : (b : Bool) (c : ℕ) (o : Operand80) (n : ℕ) → is_numbered o ≡ b → number_of (led_pieces c o) ≡ Some n → b ≡ true
+numbered_by : (b : Bool) (c : ℕ) (o : Operand80) (n : ℕ) → is_numbered o ≡ b → number_of (led_tokens c o) ≡ Some n → b ≡ true
 numbered_by true c o n is has = refl
 numbered_by false c o n is has = let none = no_number c o is in cc
 

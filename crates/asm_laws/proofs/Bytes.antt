@@ -1,7 +1,7 @@
 -- Up to four bytes are filled up with others after them.
 use Rattle.std.proofs.Common.{◌≡◌, ℕ, zero, suc, ◌<◌, ◌≤◌, List, [], ◌∷◌, ◌++◌, length, replicate, refl, arith}
 use Rattle.asm_z80.specs.Coded80.{AreBytes}
-use Rattle.asm_z80.specs.Judged.{padded}
+use Rattle.asm_z80.specs.Checked.{padded}
 
 pub four : (a b c d : ℕ) → a < 256 → b < 256 → c < 256 → d < 256 → AreBytes (a ∷ b ∷ c ∷ d ∷ [])
 four a b c d ha hb hc hd zero = ha

@@ -11,8 +11,8 @@ use Rattle.md_disasm.specs.Digits.{four_digits, marked_word}
 use Rattle.md_disasm.specs.Rows68.{Row68, one}
 use Rattle.md_disasm.specs.Texts68.{row_text, text_of}
 use Rattle.md_disasm.specs.declared.operand68.Operand68.TheVariants as operands
-use Rattle.md_asm_text.specs.Pieces as pieces
-use Rattle.md_asm_text.specs.Pieces.{Piece, is_name, is_worded, opened, split}
+use Rattle.md_asm_text.specs.Tokens as tokens
+use Rattle.md_asm_text.specs.Tokens.{Token, is_name, is_worded, opened, split}
 use Rattle.md_asm_text.proofs.Splits.{mark_split, name_opens, number_4, word_split}
 use Rattle.md_asm_text.specs.Bodies.{are_values, directive_of}
 use Rattle.md_asm_text.specs.Lines.{line_of}
@@ -23,7 +23,7 @@ use Rattle.md_asm.specs.Contents.{Good, settled_line}
 use Rattle.md_asm.specs.Numbers.{Names, any_over, count, has_name, resolved, words_of}
 use Rattle.md_asm.specs.Assembly.{Done, assembly, places_of, second}
 use Rattle.md_asm.specs.Places.{blank, image_limit, put}
-use Rattle.md_asm.specs.Rounds.{On, behind, line_step, round_one, round_two, start}
+use Rattle.md_asm.specs.Rounds.{On, following, line_step, round_one, round_two, start}
 use Rattle.md_asm.specs.declared.placed.Placed.{Placed}
 use Rattle.asm_laws.specs.Places.{words_from}
 use Rattle.asm_laws.specs.Sources.{main_source}
@@ -40,8 +40,8 @@ word_row w = one (codes "dc.w") (operands.Opcode w)
 abbrev word_text : ℕ → List ℕ
 word_text w = row_text (word_row w)
 
-abbrev line_tokens : ℕ → List Piece
-line_tokens w = pieces.Word (codes "dc") ∷ pieces.Mark 46 ∷ pieces.Word (codes "w") ∷ pieces.Mark 32 ∷ pieces.Number w ∷ []
+abbrev line_tokens : ℕ → List Token
+line_tokens w = tokens.Word (codes "dc") ∷ tokens.Mark 46 ∷ tokens.Word (codes "w") ∷ tokens.Mark 32 ∷ tokens.Number w ∷ []
 
 -- ---- the line
 
@@ -52,19 +52,19 @@ text_shape : (w : ℕ) → word_text w ≡ codes "dc" ++ (46 ∷ 119 ∷ 32 ∷ 
 unfolding marked_word
 text_shape w = append-nil _
 
-word_pieces : (w : ℕ) → w < 65536 → pieces.pieces (word_text w) ≡ line_tokens w
-unfolding is_worded pieces.token_of is_name split
-word_pieces w h =
+word_tokens : (w : ℕ) → w < 65536 → tokens.tokens (word_text w) ≡ line_tokens w
+unfolding is_worded tokens.token_of is_name split
+word_tokens w h =
     ap (opened []) (text_shape w)
     ∙ name_opens (codes "dc") (46 ∷ 119 ∷ 32 ∷ 36 ∷ (four_digits w ++ [])) refl refl
-    ∙ ap (λ (l : List Piece). pieces.Word (codes "dc") ∷ l) (mark_split 46 (119 ∷ 32 ∷ 36 ∷ (four_digits w ++ [])) refl
-    ∙ ap (λ (l : List Piece). pieces.Mark 46 ∷ l) (word_split (codes "w") (32 ∷ 36 ∷ (four_digits w ++ [])) refl refl
-    ∙ ap (λ (l : List Piece). pieces.Word (codes "w") ∷ l) (mark_split 32 (36 ∷ (four_digits w ++ [])) refl
-    ∙ ap (λ (l : List Piece). pieces.Mark 32 ∷ l) (number_4 w [] h refl))))
+    ∙ ap (λ (l : List Token). tokens.Word (codes "dc") ∷ l) (mark_split 46 (119 ∷ 32 ∷ 36 ∷ (four_digits w ++ [])) refl
+    ∙ ap (λ (l : List Token). tokens.Mark 46 ∷ l) (word_split (codes "w") (32 ∷ 36 ∷ (four_digits w ++ [])) refl refl
+    ∙ ap (λ (l : List Token). tokens.Word (codes "w") ∷ l) (mark_split 32 (36 ∷ (four_digits w ++ [])) refl
+    ∙ ap (λ (l : List Token). tokens.Mark 32 ∷ l) (number_4 w [] h refl))))
 
 word_line : (w : ℕ) → w < 65536 → line_of (word_text w) ≡ plain_line (word_text w) bodies.Words
 unfolding directive_of are_values
-word_line w h = line_is (word_text w) bodies.Words (word_is_text w) (ap directive_of (word_pieces w h))
+word_line w h = line_is (word_text w) bodies.Words (word_is_text w) (ap directive_of (word_tokens w h))
 
 -- ---- the rounds
 
@@ -75,13 +75,13 @@ fits w h = cases (nat_le 65536 w) refl
     cases true is = absurd (grind (arith, nat_tests))
     cases false is = refl
 
-word_step : (first text : List ℕ) (at w : ℕ) → pieces.pieces text ≡ line_tokens w → w < 65536 → at % 2 ≡ 0 → at + 2 ≤ image_limit
-    → line_step (behind start 1 (plain_line first (bodies.Org at)) 0) 2 (plain_line text bodies.Words) ≡ On (behind (behind start 1 (plain_line first (bodies.Org at)) 0) 2 (plain_line text bodies.Words) 2)
+word_step : (first text : List ℕ) (at w : ℕ) → tokens.tokens text ≡ line_tokens w → w < 65536 → at % 2 ≡ 0 → at + 2 ≤ image_limit
+    → line_step (following start 1 (plain_line first (bodies.Org at)) 0) 2 (plain_line text bodies.Words) ≡ On (following (following start 1 (plain_line first (bodies.Org at)) 0) 2 (plain_line text bodies.Words) 2)
 unfolding count any_over
 word_step first text at w is h e room = rw (is, fits w h, even at e, small at 2 room) refl
 
-settled : (names : Names) (text : List ℕ) (at w : ℕ) → pieces.pieces text ≡ line_tokens w → w < 65536
-    → settled_line false bodies.Words 2 (resolved names (pieces.pieces text)) at ≡ Good (w / 256 % 256 ∷ w % 256 ∷ [])
+settled : (names : Names) (text : List ℕ) (at w : ℕ) → tokens.tokens text ≡ line_tokens w → w < 65536
+    → settled_line false bodies.Words 2 (resolved names (tokens.tokens text)) at ≡ Good (w / 256 % 256 ∷ w % 256 ∷ [])
 unfolding has_name any_over words_of
 settled names text at w is h = rw (is, fits w h) refl
 
@@ -89,9 +89,9 @@ word_done : (at w : ℕ) → w < 65536 → at % 2 ≡ 0 → at + 2 ≤ image_lim
     → assembly (main_source at (word_text w)) ≡ Done (take (at + 2) (put blank at (w / 256 % 256 ∷ w % 256 ∷ []))) []
 unfolding assembly round_one round_two places_of
 word_done at w h e room =
-    let own = settled (λ name. None) (word_text w) at w (word_pieces w h) h in
+    let own = settled (λ name. None) (word_text w) at w (word_tokens w h) h in
     ap (λ (l : List (List ℕ)). second (round_one start 1 l)) (two_lines (org_line at) (word_text w) (org_text at) (word_is_text w))
-    ∙ rw (org_is at (omega arith), word_line w h, word_step (org_line at) (word_text w) at w (word_pieces w h) h e room, own, max_zero (at + 2)) refl
+    ∙ rw (org_is at (omega arith), word_line w h, word_step (org_line at) (word_text w) at w (word_tokens w h) h e room, own, max_zero (at + 2)) refl
 
 -- ---- what words decode to that are no instruction
 

@@ -1,6 +1,6 @@
 -- What a source's fault says of its line.
 use Rattle.std.proofs.Common.{◌≡◌, inl, inr, ℕ, ◌+◌, ◌≤◌, ◌==◌, ◌%◌, Bool, true, false, ◌&&◌, List, [], ◌∷◌, ◌++◌, length, refl, ap, sym, arith, Option, Some, None, if◌then◌else◌}
-use Rattle.md_asm_text.specs.Pieces as pieces
+use Rattle.md_asm_text.specs.Tokens as tokens
 use Rattle.md_asm_text.specs.Lines.{Line, line_of}
 use Rattle.md_asm_text.specs.Texts.{lines as lines_of}
 use Rattle.md_asm.specs.Contents.{Far, Good, Settled, Unfit, Unknown, content, is_unfit, size, sized}
@@ -28,8 +28,8 @@ RefusesAs (Refused own reason) line kind = (own ≡ line) × (number_of reason �
 record IsStop (ls : List (List ℕ)) (round : Round) (first line kind : ℕ) : Type 0 where
   front : List (List ℕ)
   text : List ℕ
-  behind : List (List ℕ)
-  lines : ls ≡ front ++ text ∷ behind
+  following : List (List ℕ)
+  lines : ls ≡ front ++ text ∷ following
   number : line ≡ first + length front
   stopped : Round
   read : round_one round first front ≡ Read stopped
@@ -48,7 +48,7 @@ stop_at (text ∷ more) round first line kind h = by (line_step round first (lin
         let n = there.number in record {
           front = text ∷ there.front;
           text = there.text;
-          behind = there.behind;
+          following = there.following;
           lines = ap (λ (l : List (List ℕ)). text ∷ l) there.lines;
           number = omega (arith, n);
           stopped = there.stopped;
@@ -60,7 +60,7 @@ stop_at (text ∷ more) round first line kind h = by (line_step round first (lin
         let n = stop.0 in record {
           front = [];
           text = text;
-          behind = more;
+          following = more;
           lines = refl;
           number = omega (arith, n);
           stopped = round;
@@ -70,8 +70,8 @@ stop_at (text ∷ more) round first line kind h = by (line_step round first (lin
 
 -- a line that is refused has no length where the kind is 1, and a number that does not fit where it is 2; the kind is below 7
 record StepMeans (z80 : Bool) (line : Line) (kind : ℕ) : Type 0 where
-  bad : kind ≡ 1 → size z80 line.body (pieces.pieces line.text) ≡ None
-  unfit : kind ≡ 2 → is_unfit z80 line.body (pieces.pieces line.text) ≡ true
+  bad : kind ≡ 1 → size z80 line.body (tokens.tokens line.text) ≡ None
+  unfit : kind ≡ 2 → is_unfit z80 line.body (tokens.tokens line.text) ≡ true
   first : kind ≤ 6
 
 other_kind : (z80 : Bool) (line : Line) (own kind : ℕ) → own ≡ kind → 3 ≤ own → own ≤ 6 → StepMeans z80 line kind
@@ -83,10 +83,10 @@ other_kind z80 line own kind is low high = record {
 
 step_means : (round : Round) (number : ℕ) (line : Line) (kind : ℕ) → StopsAs (line_step round number line) kind → StepMeans (is_sub round.processor) line kind
 step_means round number line kind h =
-    elim (none_or (size (is_sub round.processor) line.body (pieces.pieces line.text))) [
+    elim (none_or (size (is_sub round.processor) line.body (tokens.tokens line.text))) [
       | inl none ↦ (let own : 1 ≡ kind = rw none at h in record { bad = λ one. none; unfit = λ two. absurd (omega (arith, two)); first = omega (arith, own) })
       | inr some ↦ (let sized_on = rw some.1 at h in
-          elim (bool_cases (is_unfit (is_sub round.processor) line.body (pieces.pieces line.text))) [
+          elim (bool_cases (is_unfit (is_sub round.processor) line.body (tokens.tokens line.text))) [
             | inl a ↦ (let own : 2 ≡ kind = rw a at sized_on in record { bad = λ one. absurd (omega (arith, one)); unfit = λ two. a; first = omega (arith, own) })
             | inr a ↦ (let fit_on = rw a at sized_on in
                 elim (bool_cases (is_twice round.names line.label)) [
@@ -121,8 +121,8 @@ FaultyAs (Faulty own reason) line kind = (own ≡ line) × (number_of reason ≡
 record IsHit (names : Names) (slots : List Slot) (line kind : ℕ) : Type 0 where
   front : List Slot
   slot : Slot
-  behind : List Slot
-  are : slots ≡ front ++ slot ∷ behind
+  following : List Slot
+  are : slots ≡ front ++ slot ∷ following
   number : slot.line ≡ line
   memory : List ℕ
   hits : HitsAs (with_slot names memory slot) kind
@@ -138,7 +138,7 @@ hit_at names (slot ∷ more) memory line kind h = by (with_slot names memory slo
         let there = later next (rw is at r) in record {
           front = slot ∷ there.front;
           slot = there.slot;
-          behind = there.behind;
+          following = there.following;
           are = ap (λ (l : List Slot). slot ∷ l) there.are;
           number = there.number;
           memory = there.memory;
@@ -148,7 +148,7 @@ hit_at names (slot ∷ more) memory line kind h = by (with_slot names memory slo
         let stop : (slot.line ≡ line) × (number_of own ≡ kind) = rw is at r in record {
           front = [];
           slot = slot;
-          behind = more;
+          following = more;
           are = refl;
           number = stop.0;
           memory = memory;
@@ -183,9 +183,9 @@ settled_means true unfit long found is = cc
 settled_means false true long found is = refl
 settled_means false false long found is = absurd (sized_means long found is)
 
-slot_means : (names : Names) (slot : Slot) → settled_slot names slot ≡ Unfit → is_unfit slot.sub slot.body (resolved names (pieces.pieces slot.text)) ≡ true
+slot_means : (names : Names) (slot : Slot) → settled_slot names slot ≡ Unfit → is_unfit slot.sub slot.body (resolved names (tokens.tokens slot.text)) ≡ true
 slot_means names slot is =
-    settled_means (has_name (resolved names (pieces.pieces slot.text))) _ slot.long (content slot.sub slot.body (resolved names (pieces.pieces slot.text)) slot.address) is
+    settled_means (has_name (resolved names (tokens.tokens slot.text))) _ slot.long (content slot.sub slot.body (resolved names (tokens.tokens slot.text)) slot.address) is
 
 -- ---- the source
 
@@ -198,9 +198,9 @@ module _ (source : List ℕ) (line kind : ℕ) where
   from_first stop =
       let means = step_means stop.stopped line (line_of stop.text) kind stop.stops in
       let read : IsRead source line stop.stopped stop.text
-      = record { front = stop.front; behind = stop.behind; lines = stop.lines; number = stop.number; read = stop.read } in record {
+      = record { front = stop.front; following = stop.following; lines = stop.lines; number = stop.number; read = stop.read } in record {
         bad_line = λ one. (stop.stopped, stop.text, read, bad_is (is_sub stop.stopped.processor) (line_of stop.text) (means.bad one));
-        bad_number = λ two. (stop.stopped, stop.text, read, unfit_is (is_sub stop.stopped.processor) (line_of stop.text).body (pieces.pieces (line_of stop.text).text) (means.unfit two));
+        bad_number = λ two. (stop.stopped, stop.text, read, unfit_is (is_sub stop.stopped.processor) (line_of stop.text).body (tokens.tokens (line_of stop.text).text) (means.unfit two));
         does_not_fit = λ eight. let f = means.first in absurd (omega (arith, eight, f));
         far = λ nine. let f = means.first in absurd (omega (arith, nine, f));
       }
@@ -209,14 +209,14 @@ module _ (source : List ℕ) (line kind : ℕ) where
   from_second round is hit =
       let means = put_means hit.memory hit.slot.place kind (settled_slot round.names hit.slot) hit.hits in
       let low = means.second in
-      let slot : IsSlot source line round hit.slot = record { read = is; front = hit.front; behind = hit.behind; slots = hit.are; number = hit.number } in record {
+      let slot : IsSlot source line round hit.slot = record { read = is; front = hit.front; following = hit.following; slots = hit.are; number = hit.number } in record {
         bad_line = λ one. absurd (omega (arith, one, low));
         bad_number = λ two. absurd (omega (arith, two, low));
         does_not_fit = λ eight.
-            (round, hit.slot, slot, unfit_is hit.slot.sub hit.slot.body (resolved round.names (pieces.pieces hit.slot.text)) (slot_means round.names hit.slot (means.unfit eight)));
+            (round, hit.slot, slot, unfit_is hit.slot.sub hit.slot.body (resolved round.names (tokens.tokens hit.slot.text)) (slot_means round.names hit.slot (means.unfit eight)));
         far = λ nine.
-            let out = far_means round.names hit.slot (slot_among IsSized hit.front hit.slot hit.behind (rw hit.are at (all_sized round (lines_of source) is)))
-            (slot_among (IsPut round.written round.end) hit.front hit.slot hit.behind (rw hit.are at ((read_round round (lines_of source) is).put))).addressed (means.far nine) in
+            let out = far_means round.names hit.slot (slot_among IsSized hit.front hit.slot hit.following (rw hit.are at (all_sized round (lines_of source) is)))
+            (slot_among (IsPut round.written round.end) hit.front hit.slot hit.following (rw hit.are at ((read_round round (lines_of source) is).put))).addressed (means.far nine) in
             (round, hit.slot, slot, out.0, out.1);
       }
 

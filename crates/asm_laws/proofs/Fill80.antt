@@ -18,9 +18,9 @@ use Rattle.asm_z80.specs.Coded80.{AreBytes}
 use Rattle.asm_z80.proofs.Again80.{is_prefix}
 use Rattle.asm_z80.specs.Instruction.{is_db}
 use Rattle.asm_z80.proofs.Pages.{by_index, by_page}
-use Rattle.asm_z80.proofs.Read.{read, read_behind, read_bits, read_extended, read_ix, read_ix_bits, read_iy, read_iy_bits, read_plain}
+use Rattle.asm_z80.proofs.Read.{read, read_after, read_bits, read_extended, read_ix, read_ix_bits, read_iy, read_iy_bits, read_plain}
 use Rattle.asm_z80.proofs.Sources.{is_read}
-use Rattle.asm_z80.proofs.Judged.{name_stays}
+use Rattle.asm_z80.proofs.Checked.{name_stays}
 use Rattle.asm_laws.proofs.Line.{is_free}
 use Rattle.asm_laws.proofs.Named80.{op_free}
 use Rattle.asm_laws.proofs.Pages80.{Shape, both_numbered, code8, filled_bits, filled_extended, filled_ix, filled_ix_bits, filled_iy, filled_iy_bits, filled_plain, filled_shape, first8, is_far, is_odd, is_relative, is_restart, is_two, is_uneven, named, named_odd, odd_bits, odd_extended, odd_ix, odd_ix_bits, odd_iy, odd_iy_bits, odd_plain, own_shape, second8}
@@ -228,7 +228,7 @@ nested_known at b0 b1 b2 b3 h k l m = by_page (IsKnown at) b0 b1 b2 b3
       same_at (λ w. is_odd (of_bytes 4 (bits w (memory_of indexes.Ix b2)))) (λ w. false) 256 0 (odd_ix_bits b2) b3 (omega arith) (omega arith),
     ))
     (λ names. (
-      rw names at (same_at (λ w. read_behind at (by_opcode indexes.Ix w b2 b3) w) (λ w. true) 256 0 (read_ix at b2 b3 l m) b1 (omega arith) (omega arith)),
+      rw names at (same_at (λ w. read_after at (by_opcode indexes.Ix w b2 b3) w) (λ w. true) 256 0 (read_ix at b2 b3 l m) b1 (omega arith) (omega arith)),
       rw names at (same_at (named_odd (λ w. by_opcode indexes.Ix w b2 b3)) (λ w. false) 256 0 (odd_ix b2 b3) b1 (omega arith) (omega arith)),
     ))
     (refl, refl) _ _ refl refl)
@@ -242,7 +242,7 @@ nested_known at b0 b1 b2 b3 h k l m = by_page (IsKnown at) b0 b1 b2 b3
       same_at (λ w. is_odd (of_bytes 4 (bits w (memory_of indexes.Iy b2)))) (λ w. false) 256 0 (odd_iy_bits b2) b3 (omega arith) (omega arith),
     ))
     (λ names. (
-      rw names at (same_at (λ w. read_behind at (by_opcode indexes.Iy w b2 b3) w) (λ w. true) 256 0 (read_iy at b2 b3 l m) b1 (omega arith) (omega arith)),
+      rw names at (same_at (λ w. read_after at (by_opcode indexes.Iy w b2 b3) w) (λ w. true) 256 0 (read_iy at b2 b3 l m) b1 (omega arith) (omega arith)),
       rw names at (same_at (named_odd (λ w. by_opcode indexes.Iy w b2 b3)) (λ w. false) 256 0 (odd_iy b2 b3) b1 (omega arith) (omega arith)),
     ))
     (refl, refl) _ _ refl refl)

@@ -9,7 +9,7 @@ use Rattle.m68k_decode.specs.declared.op.Op.TheVariants as ops
 use Rattle.m68k_decode.specs.declared.displacement.Displacement.{Displacement}
 use Rattle.m68k_decode.specs.declared.displacement.Displacement.TheVariants as displacements
 use Rattle.asm_m68k.specs.Encoding.{displacement_words, encoded, extension, mode_words, number_words}
-use Rattle.asm_m68k.specs.Judged.{padded}
+use Rattle.asm_m68k.specs.Checked.{padded}
 use Rattle.asm_m68k.specs.Table.{AreWords}
 
 number_few : (size : Size) (n : ℕ) → length (number_words size n) ≤ 2

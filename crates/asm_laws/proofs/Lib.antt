@@ -38,7 +38,7 @@ pub mod RoundTrip80
 pub mod Rounds
 pub mod Rows68
 pub mod Rows80
-pub mod Said
+pub mod RoundTrips
 pub mod Shown68
 pub mod Solid
 pub mod Sound68

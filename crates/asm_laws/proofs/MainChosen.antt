@@ -5,13 +5,13 @@ use Rattle.m68k_decode.specs.Instructions.{instruction_of}
 use Rattle.m68k_decode.specs.Nested.{nested}
 use Rattle.asm_m68k.specs.Encoding.{encoded}
 use Rattle.md_disasm.specs.Texts68.{text_of}
-use Rattle.md_asm_text.specs.Pieces.{Piece, pieces}
+use Rattle.md_asm_text.specs.Tokens.{Token, tokens}
 use Rattle.asm_m68k.specs.Reading.{read_source}
 use Rattle.asm_m68k.specs.Building.{meant}
-use Rattle.asm_m68k.specs.Judged.{tried}
-use Rattle.asm_m68k.specs.Said.{Says}
+use Rattle.asm_m68k.specs.Checked.{tried}
+use Rattle.asm_m68k.specs.RoundTrips.{Says}
 use Rattle.asm_m68k.specs.Table.{AreWords, IsInstruction}
-use Rattle.asm_m68k.proofs.Judged.{meant_again}
+use Rattle.asm_m68k.proofs.Checked.{meant_again}
 use Rattle.md_asm.specs.Codes.{main_code}
 use Rattle.asm_laws.specs.Chosen.{AreLeast, IsBefore}
 use Rattle.asm_laws.proofs.MainCodes.{encoded_long, own_or_later}
@@ -19,14 +19,14 @@ use Rattle.asm_laws.proofs.Texts.{assembled_again, found, going_on, keeps_text}
 
 -- ---- other words that say the tokens
 
-text_alone : (other : List ℕ) (line_tokens : List Piece) (at : ℕ) → Says other line_tokens at → pieces (text_of (instruction_of other) at) ≡ line_tokens
-text_alone other line_tokens at say = ap (λ (l : List ℕ). pieces (text_of (instruction_of l) at)) (sym (append-nil other)) ∙ say.text []
+text_alone : (other : List ℕ) (line_tokens : List Token) (at : ℕ) → Says other line_tokens at → tokens (text_of (instruction_of other) at) ≡ line_tokens
+text_alone other line_tokens at say = ap (λ (l : List ℕ). tokens (text_of (instruction_of l) at)) (sym (append-nil other)) ∙ say.text []
 
 zero_word : AreWords (0 ∷ [])
 zero_word zero = omega arith
 zero_word (suc i) = omega arith
 
-best_of : (line_tokens : List Piece) (words other : List ℕ) (at : ℕ) → AreWords other → at < 4294967296 → words ≡ tried line_tokens at → IsInstruction (nested (slice_index other 0))
+best_of : (line_tokens : List Token) (words other : List ℕ) (at : ℕ) → AreWords other → at < 4294967296 → words ≡ tried line_tokens at → IsInstruction (nested (slice_index other 0))
     → Says other line_tokens at → (other ≡ words) ⊎ ((length words ≡ length other) × IsBefore words other)
 best_of line_tokens words [] at k a own entered say =
     let none = say.whole (0 ∷ []) in
@@ -36,7 +36,7 @@ best_of line_tokens words (w ∷ tail) at k a own entered say =
     let text = text_alone (w ∷ tail) line_tokens at say in
     let whole : (instruction_of (w ∷ tail)).length ≡ 2 * length (w ∷ tail) = ap (λ (l : List ℕ). (instruction_of l).length) (sym (append-nil (w ∷ tail))) ∙ say.whole [] in
     let made : meant (read_source line_tokens) at ≡ (instruction_of (w ∷ tail)).op
-    = ap (λ (s : List Piece). meant (read_source s) at) (sym text) ∙ meant_again w tail at (k 0) entered k a in
+    = ap (λ (s : List Token). meant (read_source s) at) (sym text) ∙ meant_again w tail at (k 0) entered k a in
     let code : words ≡ encoded (instruction_of (w ∷ tail)).op = own ∙ ap encoded made in
     let long = encoded_long w tail k in
     let same : length (encoded (instruction_of (w ∷ tail)).op) ≡ length (w ∷ tail) = omega (arith, long, whole) in
@@ -50,16 +50,16 @@ best_of line_tokens words (w ∷ tail) at k a own entered say =
 -- ---- what is found
 
 -- it takes all its words, whatever follows them
-whole_of : (line_tokens : List Piece) (word : ℕ) (tail rest : List ℕ) (at : ℕ) → AreWords (word ∷ tail) → at < 4294967296 → main_code line_tokens at ≡ Some (word ∷ tail)
+whole_of : (line_tokens : List Token) (word : ℕ) (tail rest : List ℕ) (at : ℕ) → AreWords (word ∷ tail) → at < 4294967296 → main_code line_tokens at ≡ Some (word ∷ tail)
     → (instruction_of (word ∷ (tail ++ rest))).length ≡ 2 * length (word ∷ tail)
 whole_of line_tokens word tail rest at h a is =
     let there = going_on line_tokens word tail at h a is in
     let made : meant (read_source line_tokens) at ≡ (instruction_of (word ∷ (tail ++ there.more))).op
-    = ap (λ (s : List Piece). meant (read_source s) at) (sym there.text) ∙ meant_again word (tail ++ there.more) at (h 0) there.instruction there.all a in
+    = ap (λ (s : List Token). meant (read_source s) at) (sym there.text) ∙ meant_again word (tail ++ there.more) at (h 0) there.instruction there.all a in
     let code : word ∷ tail ≡ encoded (instruction_of (word ∷ (tail ++ there.more))).op = there.own ∙ ap encoded made in
     ap (λ d. d.length) (there.same rest) ∙ encoded_long word (tail ++ there.more) there.all ∙ ap (λ (l : List ℕ). 2 * length l) (sym code)
 
-pub least : (line_tokens : List Piece) (words : List ℕ) (at : ℕ) → AreWords words → at < 4294967296 → main_code line_tokens at ≡ Some words → AreLeast words line_tokens at
+pub least : (line_tokens : List Token) (words : List ℕ) (at : ℕ) → AreWords words → at < 4294967296 → main_code line_tokens at ≡ Some words → AreLeast words line_tokens at
 least line_tokens [] at h a is = let own = (found line_tokens [] at is).own in cc
 least line_tokens (word ∷ tail) at h a is = record {
   instruction = (going_on line_tokens word tail at h a is).instruction;
@@ -74,7 +74,7 @@ pub none_by : (code : Option (List ℕ)) (found : List ℕ) → code ≡ None �
 none_by code found none some = cc
 
 -- where nothing is found, no words say the tokens
-pub none : (line_tokens : List Piece) (at : ℕ) → at < 4294967296 → main_code line_tokens at ≡ None
+pub none : (line_tokens : List Token) (at : ℕ) → at < 4294967296 → main_code line_tokens at ≡ None
     → (words : List ℕ) → AreWords words → IsInstruction (nested (slice_index words 0)) → Says words line_tokens at → ⊥
 none line_tokens at a is [] h entered say =
     let empty = say.whole (0 ∷ []) in
@@ -82,4 +82,4 @@ none line_tokens at a is [] h entered say =
     absurd (omega (arith, empty, some))
 none line_tokens at a is (word ∷ tail) h entered say =
     let again = assembled_again word tail at (h 0) entered h a in
-    none_by (main_code line_tokens at) again.0 is (ap (λ (s : List Piece). main_code s at) (sym (text_alone (word ∷ tail) line_tokens at say)) ∙ again.1)
+    none_by (main_code line_tokens at) again.0 is (ap (λ (s : List Token). main_code s at) (sym (text_alone (word ∷ tail) line_tokens at say)) ∙ again.1)

@@ -5,8 +5,8 @@ use Rattle.m68k_decode.specs.Instructions as main
 use Rattle.z80_decode.specs.Instructions as sub
 use Rattle.md_disasm.specs.Texts68 as main_texts
 use Rattle.md_disasm.specs.Texts80 as sub_texts
-use Rattle.md_asm_text.specs.Pieces as pieces
-use Rattle.md_asm_text.specs.Pieces.{Piece}
+use Rattle.md_asm_text.specs.Tokens as tokens
+use Rattle.md_asm_text.specs.Tokens.{Token}
 use Rattle.asm_m68k.specs.Table.{AreWords}
 use Rattle.asm_z80.specs.Coded80.{AreBytes}
 use Rattle.md_asm_text.specs.declared.body.Body.TheVariants.{Instruction}
@@ -28,72 +28,72 @@ use Rattle.asm_laws.proofs.Coded68.{in_bytes_long}
 
 -- ---- tokens with 8 for their numbers
 
-filled_again : (line_tokens : List Piece) → filled (filled line_tokens) ≡ filled line_tokens
+filled_again : (line_tokens : List Token) → filled (filled line_tokens) ≡ filled line_tokens
 filled_again [] = refl
-filled_again (pieces.Word word ∷ ps) = ap (λ (l : List Piece). pieces.Word word ∷ l) (filled_again ps)
-filled_again (pieces.Number n ∷ ps) = ap (λ (l : List Piece). pieces.Number 8 ∷ l) (filled_again ps)
-filled_again (pieces.Name name ∷ ps) = ap (λ (l : List Piece). pieces.Number 8 ∷ l) (filled_again ps)
-filled_again (pieces.Mark c ∷ ps) = ap (λ (l : List Piece). pieces.Mark c ∷ l) (filled_again ps)
+filled_again (tokens.Word word ∷ ps) = ap (λ (l : List Token). tokens.Word word ∷ l) (filled_again ps)
+filled_again (tokens.Number n ∷ ps) = ap (λ (l : List Token). tokens.Number 8 ∷ l) (filled_again ps)
+filled_again (tokens.Name name ∷ ps) = ap (λ (l : List Token). tokens.Number 8 ∷ l) (filled_again ps)
+filled_again (tokens.Mark c ∷ ps) = ap (λ (l : List Token). tokens.Mark c ∷ l) (filled_again ps)
 
-filled_longs : (line_tokens : List Piece) → AreLongs (filled line_tokens)
+filled_longs : (line_tokens : List Token) → AreLongs (filled line_tokens)
 filled_longs [] = tt
-filled_longs (pieces.Word word ∷ ps) = filled_longs ps
-filled_longs (pieces.Number n ∷ ps) = (omega arith, filled_longs ps)
-filled_longs (pieces.Name name ∷ ps) = (omega arith, filled_longs ps)
-filled_longs (pieces.Mark c ∷ ps) = filled_longs ps
+filled_longs (tokens.Word word ∷ ps) = filled_longs ps
+filled_longs (tokens.Number n ∷ ps) = (omega arith, filled_longs ps)
+filled_longs (tokens.Name name ∷ ps) = (omega arith, filled_longs ps)
+filled_longs (tokens.Mark c ∷ ps) = filled_longs ps
 
-longs_both : (xs ys : List Piece) → AreLongs xs → AreLongs ys → AreLongs (xs ++ ys)
+longs_both : (xs ys : List Token) → AreLongs xs → AreLongs ys → AreLongs (xs ++ ys)
 longs_both [] ys h k = k
-longs_both (pieces.Word word ∷ ps) ys h k = longs_both ps ys h k
-longs_both (pieces.Number n ∷ ps) ys h k = (h.0, longs_both ps ys h.1 k)
-longs_both (pieces.Name name ∷ ps) ys h k = longs_both ps ys h k
-longs_both (pieces.Mark c ∷ ps) ys h k = longs_both ps ys h k
+longs_both (tokens.Word word ∷ ps) ys h k = longs_both ps ys h k
+longs_both (tokens.Number n ∷ ps) ys h k = (h.0, longs_both ps ys h.1 k)
+longs_both (tokens.Name name ∷ ps) ys h k = longs_both ps ys h k
+longs_both (tokens.Mark c ∷ ps) ys h k = longs_both ps ys h k
 
 -- with one number beside
-single_filled : (front behind : List Piece) (n : ℕ) → filled (filled front ++ pieces.Number n ∷ filled behind) ≡ filled (front ++ pieces.Number n ∷ behind)
-single_filled front behind n =
-    filled_both (filled front) (pieces.Number n ∷ filled behind)
-    ∙ ap (λ (l : List Piece). l ++ pieces.Number 8 ∷ filled (filled behind)) (filled_again front)
-    ∙ ap (λ (l : List Piece). filled front ++ pieces.Number 8 ∷ l) (filled_again behind)
-    ∙ sym (filled_both front (pieces.Number n ∷ behind))
+single_filled : (front following : List Token) (n : ℕ) → filled (filled front ++ tokens.Number n ∷ filled following) ≡ filled (front ++ tokens.Number n ∷ following)
+single_filled front following n =
+    filled_both (filled front) (tokens.Number n ∷ filled following)
+    ∙ ap (λ (l : List Token). l ++ tokens.Number 8 ∷ filled (filled following)) (filled_again front)
+    ∙ ap (λ (l : List Token). filled front ++ tokens.Number 8 ∷ l) (filled_again following)
+    ∙ sym (filled_both front (tokens.Number n ∷ following))
 
 -- ---- what is assembled has a text
 
 -- bytes of the Z80 that are found for tokens
-record IsSubText (line_tokens : List Piece) (at : ℕ) (bytes : List ℕ) : Type 0 where
-  form : (other : List Piece) → filled other ≡ filled line_tokens → IsSubForm other bytes at
-  text : pieces.pieces (sub_texts.text_of (sub.instruction_of bytes) at) ≡ line_tokens
+record IsSubText (line_tokens : List Token) (at : ℕ) (bytes : List ℕ) : Type 0 where
+  form : (other : List Token) → filled other ≡ filled line_tokens → IsSubForm other bytes at
+  text : tokens.tokens (sub_texts.text_of (sub.instruction_of bytes) at) ≡ line_tokens
   long : (sub.instruction_of bytes).length ≡ length bytes
 
-sub_text : (line_tokens : List Piece) (at : ℕ) (bytes : List ℕ) → at < 65536 → sub_code line_tokens at ≡ Some bytes → IsSubText line_tokens at bytes
+sub_text : (line_tokens : List Token) (at : ℕ) (bytes : List ℕ) → at < 65536 → sub_code line_tokens at ≡ Some bytes → IsSubText line_tokens at bytes
 sub_text line_tokens at bytes a is =
     let own = sub_found.found line_tokens bytes at is in
     let all : AreBytes bytes = rw own.own (tried_bytes line_tokens at) in
     let best = chosen line_tokens bytes at all a is in
-    let text : pieces.pieces (sub_texts.text_of (sub.instruction_of bytes) at) ≡ line_tokens
-    = ap (λ (l : List ℕ). pieces.pieces (sub_texts.text_of (sub.instruction_of l) at)) (sym (append-nil bytes)) ∙ best.text.text [] none_byte in record {
+    let text : tokens.tokens (sub_texts.text_of (sub.instruction_of bytes) at) ≡ line_tokens
+    = ap (λ (l : List ℕ). tokens.tokens (sub_texts.text_of (sub.instruction_of l) at)) (sym (append-nil bytes)) ∙ best.text.text [] none_byte in record {
       form = λ other same. record { all = all; instruction = best.text.instruction; address = a; alike = same ∙ ap filled (sym text) };
       text = text;
       long = ap (λ (l : List ℕ). (sub.instruction_of l).length) (sym (append-nil bytes)) ∙ best.text.whole [] none_byte;
     }
 
 -- words of the 68000
-record IsMainText (line_tokens : List Piece) (at : ℕ) (words : List ℕ) : Type 0 where
+record IsMainText (line_tokens : List Token) (at : ℕ) (words : List ℕ) : Type 0 where
   word : ℕ
   tail : List ℕ
   are : words ≡ word ∷ tail
-  form : (other : List Piece) → filled other ≡ filled line_tokens → IsMainForm other word tail at
-  text : pieces.pieces (main_texts.text_of (main.instruction_of (word ∷ tail)) at) ≡ line_tokens
+  form : (other : List Token) → filled other ≡ filled line_tokens → IsMainForm other word tail at
+  text : tokens.tokens (main_texts.text_of (main.instruction_of (word ∷ tail)) at) ≡ line_tokens
   long : (main.instruction_of (word ∷ tail)).length ≡ length (in_bytes words)
 
-main_text : (line_tokens : List Piece) (at : ℕ) (words : List ℕ) → AreLongs line_tokens → at < 4294967296 → main_code line_tokens at ≡ Some words → IsMainText line_tokens at words
+main_text : (line_tokens : List Token) (at : ℕ) (words : List ℕ) → AreLongs line_tokens → at < 4294967296 → main_code line_tokens at ≡ Some words → IsMainText line_tokens at words
 main_text line_tokens at [] longs a is = let own = (main_found.found line_tokens [] at is).own in cc
 main_text line_tokens at (word ∷ tail) longs a is =
     let own = main_found.found line_tokens (word ∷ tail) at is in
     let all : AreWords (word ∷ tail) = rw own.own (tried_words line_tokens at longs) in
     let best = least line_tokens (word ∷ tail) at all a is in
-    let text : pieces.pieces (main_texts.text_of (main.instruction_of (word ∷ tail)) at) ≡ line_tokens
-    = ap (λ (l : List ℕ). pieces.pieces (main_texts.text_of (main.instruction_of l) at)) (sym (append-nil (word ∷ tail))) ∙ best.text.text [] in record {
+    let text : tokens.tokens (main_texts.text_of (main.instruction_of (word ∷ tail)) at) ≡ line_tokens
+    = ap (λ (l : List ℕ). tokens.tokens (main_texts.text_of (main.instruction_of l) at)) (sym (append-nil (word ∷ tail))) ∙ best.text.text [] in record {
       word = word;
       tail = tail;
       are = refl;
@@ -118,7 +118,7 @@ main_mapped (Some words) bytes h = (words, refl, cc)
 
 -- ---- the other direction
 
-pub size_form : (z80 : Bool) (line_tokens : List Piece) (long : ℕ) → size z80 Instruction line_tokens ≡ Some long → IsForm z80 line_tokens long
+pub size_form : (z80 : Bool) (line_tokens : List Token) (long : ℕ) → size z80 Instruction line_tokens ≡ Some long → IsForm z80 line_tokens long
 size_form true line_tokens long h =
     let there = mapped (sub_code (filled line_tokens) 4) long h in
     let own = sub_text (filled line_tokens) 4 there.0 (omega arith) there.1 in
@@ -136,33 +136,33 @@ under_main : (n : ℕ) → under false n < 4294967296
 under_main n = omega arith
 
 -- with 8 for all numbers but one
-alone_stands : (line_tokens front behind : List Piece) (place n : ℕ) → line_tokens ≡ front ++ pieces.Number n ∷ behind → length front ≡ place
-    → alone line_tokens place (pieces.Number n) ≡ filled front ++ pieces.Number n ∷ filled behind
-alone_stands line_tokens front behind place n is long =
-    ap (λ (l : List Piece). alone l place (pieces.Number n)) is ∙ ap (λ (k : ℕ). alone (front ++ pieces.Number n ∷ behind) k (pieces.Number n)) (sym long) ∙ alone_is front behind n
+alone_stands : (line_tokens front following : List Token) (place n : ℕ) → line_tokens ≡ front ++ tokens.Number n ∷ following → length front ≡ place
+    → alone line_tokens place (tokens.Number n) ≡ filled front ++ tokens.Number n ∷ filled following
+alone_stands line_tokens front following place n is long =
+    ap (λ (l : List Token). alone l place (tokens.Number n)) is ∙ ap (λ (k : ℕ). alone (front ++ tokens.Number n ∷ following) k (tokens.Number n)) (sym long) ∙ alone_is front following n
 
-pub fits_has : (z80 : Bool) (line_tokens : List Piece) (place n : ℕ) → n < 4294967296 → StandsIn line_tokens place (pieces.Number n) → misfit z80 line_tokens place (pieces.Number n) ≡ false
+pub fits_has : (z80 : Bool) (line_tokens : List Token) (place n : ℕ) → n < 4294967296 → StandsIn line_tokens place (tokens.Number n) → misfit z80 line_tokens place (tokens.Number n) ≡ false
     → HasNumber z80 line_tokens place n
-fits_has true line_tokens place n low (front, behind, is, long) h =
-    let tried = alone line_tokens place (pieces.Number n) in
+fits_has true line_tokens place n low (front, following, is, long) h =
+    let tried = alone line_tokens place (tokens.Number n) in
     let there = found_of (sub_code tried (under true n)) (not_false _ h) in
     let own = sub_text tried (under true n) there.0 (under_sub n) there.1 in
-    let same = alone_stands line_tokens front behind place n is long in (
+    let same = alone_stands line_tokens front following place n is long in (
       there.0,
       under true n,
-      own.form line_tokens (ap filled is ∙ sym (single_filled front behind n) ∙ ap filled (sym same)),
-      (filled front, filled behind, own.text ∙ same, filled_long front ∙ long),
+      own.form line_tokens (ap filled is ∙ sym (single_filled front following n) ∙ ap filled (sym same)),
+      (filled front, filled following, own.text ∙ same, filled_long front ∙ long),
     )
-fits_has false line_tokens place n low (front, behind, is, long) h =
-    let tried = alone line_tokens place (pieces.Number n) in
-    let same = alone_stands line_tokens front behind place n is long in
-    let longs : AreLongs tried = rw same (longs_both (filled front) (pieces.Number n ∷ filled behind) (filled_longs front) (low, filled_longs behind)) in
+fits_has false line_tokens place n low (front, following, is, long) h =
+    let tried = alone line_tokens place (tokens.Number n) in
+    let same = alone_stands line_tokens front following place n is long in
+    let longs : AreLongs tried = rw same (longs_both (filled front) (tokens.Number n ∷ filled following) (filled_longs front) (low, filled_longs following)) in
     let found = found_of (code false tried (under false n)) (not_false _ h) in
     let words = main_mapped (main_code tried (under false n)) found.0 found.1 in
     let own = main_text tried (under false n) words.0 longs (under_main n) words.1 in (
       own.word,
       own.tail,
       under false n,
-      own.form line_tokens (ap filled is ∙ sym (single_filled front behind n) ∙ ap filled (sym same)),
-      (filled front, filled behind, own.text ∙ same, filled_long front ∙ long),
+      own.form line_tokens (ap filled is ∙ sym (single_filled front following n) ∙ ap filled (sym same)),
+      (filled front, filled following, own.text ∙ same, filled_long front ∙ long),
     )

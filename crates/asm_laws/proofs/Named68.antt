@@ -18,8 +18,8 @@ use Rattle.md_disasm.specs.Rows68.{Row68, row_of}
 use Rattle.md_disasm.specs.Texts68.{led, row_text, size_text}
 use Rattle.md_disasm.specs.declared.operand68.Operand68.{Operand68}
 use Rattle.md_disasm.specs.declared.operand68.Operand68.TheVariants as operands
-use Rattle.md_asm_text.specs.Pieces.{every, is_worded, opened, split}
-use Rattle.md_asm_text.specs.Pieces as pieces
+use Rattle.md_asm_text.specs.Tokens.{every, is_worded, opened, split}
+use Rattle.md_asm_text.specs.Tokens as tokens
 use Rattle.md_asm_text.proofs.Splits.{every_both, is_end, name_opens}
 use Rattle.md_asm_text.specs.Bodies.{directive_of}
 use Rattle.md_asm_text.specs.Lines.{line_of}
@@ -161,7 +161,7 @@ led_end true c o e none is ends = rw (led_by (c ∷ []) o, none) ends
 led_end false c o e none is ends = rw (led_by (c ∷ []) o, none, is) refl
 
 row_opens : (row : Row68) → every is_worded row.name ≡ true
-    → pieces.pieces (row_text row) ≡ pieces.Word row.name ∷ split [] (size_text row.size ++ (led (codes " ") row.first ++ (led (codes ",") row.second ++ [])))
+    → tokens.tokens (row_text row) ≡ tokens.Word row.name ∷ split [] (size_text row.size ++ (led (codes " ") row.first ++ (led (codes ",") row.second ++ [])))
 unfolding is_worded
 row_opens row worded =
     let last = led (codes ",") row.second ++ [] in

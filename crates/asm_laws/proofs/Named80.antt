@@ -26,7 +26,7 @@ use Rattle.md_disasm.specs.Rows80.{Row80, arithmetic, change, load_extended, row
 use Rattle.md_disasm.specs.Texts80.{led, row_text}
 use Rattle.md_disasm.specs.declared.operand80.Operand80.{Operand80}
 use Rattle.md_disasm.specs.declared.operand80.Operand80.TheVariants as operands
-use Rattle.md_asm_text.specs.Pieces.{every, is_worded, split}
+use Rattle.md_asm_text.specs.Tokens.{every, is_worded, split}
 use Rattle.md_asm_text.specs.Bodies.{directive_of}
 use Rattle.md_asm_text.specs.Lines.{line_of}
 use Rattle.md_asm_text.specs.declared.body.Body.TheVariants as bodies

@@ -8,10 +8,10 @@ use Rattle.z80_decode.specs.declared.place8.Place8.TheVariants as places
 use Rattle.md_disasm.specs.Rows80.{Row80, row_of}
 use Rattle.md_disasm.specs.declared.operand80.Operand80.{Operand80}
 use Rattle.md_disasm.specs.declared.operand80.Operand80.TheVariants as operands
-use Rattle.md_asm_text.specs.Pieces as pieces
-use Rattle.md_asm_text.specs.Pieces.{Piece}
-use Rattle.asm_z80.proofs.Operands.{place_pieces, shown}
-use Rattle.asm_z80.proofs.Sources.{led_pieces, row_pieces}
+use Rattle.md_asm_text.specs.Tokens as tokens
+use Rattle.md_asm_text.specs.Tokens.{Token}
+use Rattle.asm_z80.proofs.Operands.{place_tokens, shown}
+use Rattle.asm_z80.proofs.Sources.{led_tokens, row_tokens}
 use Rattle.asm_laws.specs.Ranges.{byte_allows, place_limit, sub_allows}
 use Rattle.asm_laws.proofs.Among.{not_false, put_all, put_both}
 use Rattle.asm_laws.proofs.Fits.{number_of}
@@ -24,7 +24,7 @@ use Rattle.asm_laws.proofs.With80.{row_with}
 same_below : (n m limit : ℕ) → m ≡ n → nat_lt m limit ≡ true → nat_lt n limit ≡ true
 same_below n m limit e h = subst (λ (k : ℕ). nat_lt k limit ≡ true) e h
 
-place_allows : (place : Place8) (n c : ℕ) → shown (operands.Place place) ≡ true → number_of (pieces.Mark c ∷ place_pieces place) ≡ Some n → nat_lt n (place_limit place) ≡ true
+place_allows : (place : Place8) (n c : ℕ) → shown (operands.Place place) ≡ true → number_of (tokens.Mark c ∷ place_tokens place) ≡ Some n → nat_lt n (place_limit place) ≡ true
 place_allows (places.AtIx by) n c h is = let e : by ≡ n = cc in same_below n by 256 e h
 place_allows (places.AtIy by) n c h is = let e : by ≡ n = cc in same_below n by 256 e h
 place_allows (places.At address) n c h is = let e : address ≡ n = cc in same_below n address 65536 e h
@@ -33,7 +33,7 @@ place_allows places.A n c h is = cc
 place_allows _ n c h is = cc
 
 operand_allows : (op : Op80) (c : ℕ) (o : Operand80) (n : ℕ) → ((m : ℕ) → o ≡ operands.Byte m → nat_lt m 256 ≡ true → byte_allows op m ≡ true) → shown o ≡ true
-    → number_of (led_pieces c o) ≡ Some n → sub_allows op o n ≡ true
+    → number_of (led_tokens c o) ≡ Some n → sub_allows op o n ≡ true
 operand_allows op c (operands.Place place) n byte h is = place_allows place n c h is
 operand_allows op c (operands.Byte m) n byte h is = let e : m ≡ n = cc in subst (λ (k : ℕ). byte_allows op k ≡ true) e (byte m refl h)
 operand_allows op c (operands.Port m) n byte h is = let e : m ≡ n = cc in same_below n m 256 e h
@@ -46,28 +46,28 @@ operand_allows op c _ n byte h is = cc
 restart_allows : (address m : ℕ) → is_uneven (ops.Restart address) ≡ false → operands.Byte address ≡ operands.Byte m → byte_allows (ops.Restart address) m ≡ true
 restart_allows address m even is = let e : address ≡ m = cc in subst (λ (k : ℕ). (nat_le k 56 && k % 8 == 0) ≡ true) e (not_false _ even)
 
-pub first_allows : (op : Op80) (at n : ℕ) → is_uneven op ≡ false → shown (row_of op at).first ≡ true → number_of (led_pieces 32 (row_of op at).first) ≡ Some n → sub_allows op (row_of op at).first n ≡ true
+pub first_allows : (op : Op80) (at n : ℕ) → is_uneven op ≡ false → shown (row_of op at).first ≡ true → number_of (led_tokens 32 (row_of op at).first) ≡ Some n → sub_allows op (row_of op at).first n ≡ true
 first_allows (ops.Restart address) at n even h is = operand_allows (ops.Restart address) 32 (operands.Byte address) n (λ m e low. restart_allows address m even e) h is
 first_allows op at n even h is = operand_allows op 32 (row_of op at).first n (λ m e low. low) h is
 
-pub second_allows : (op : Op80) (at n : ℕ) → is_uneven op ≡ false → shown (row_of op at).second ≡ true → number_of (led_pieces 44 (row_of op at).second) ≡ Some n → sub_allows op (row_of op at).second n ≡ true
+pub second_allows : (op : Op80) (at n : ℕ) → is_uneven op ≡ false → shown (row_of op at).second ≡ true → number_of (led_tokens 44 (row_of op at).second) ≡ Some n → sub_allows op (row_of op at).second n ≡ true
 second_allows (ops.Restart address) at n even h is = cc
 second_allows op at n even h is = operand_allows op 44 (row_of op at).second n (λ m e low. low) h is
 
 -- ---- another number in its place
 
-place_put : (n : ℕ) (place : Place8) → place_pieces (place_with n place) ≡ put_all n (place_pieces place)
+place_put : (n : ℕ) (place : Place8) → place_tokens (place_with n place) ≡ put_all n (place_tokens place)
 place_put n places.A = refl
 place_put n _ = refl
 
-led_put : (n c : ℕ) (o : Operand80) → led_pieces c (operand_with n o) ≡ put_all n (led_pieces c o)
+led_put : (n c : ℕ) (o : Operand80) → led_tokens c (operand_with n o) ≡ put_all n (led_tokens c o)
 led_put n c operands.Nothing = refl
-led_put n c (operands.Place place) = ap (λ (l : List Piece). pieces.Mark c ∷ l) (place_put n place)
+led_put n c (operands.Place place) = ap (λ (l : List Token). tokens.Mark c ∷ l) (place_put n place)
 led_put n c o = refl
 
-pub row_put : (n : ℕ) (row : Row80) → row_pieces (row_with n row) ≡ put_all n (row_pieces row)
+pub row_put : (n : ℕ) (row : Row80) → row_tokens (row_with n row) ≡ put_all n (row_tokens row)
 row_put n row =
-    ap (λ (l : List Piece). pieces.Word row.name ∷ l)
-    (ap (λ (l : List Piece). l ++ led_pieces 44 (operand_with n row.second)) (led_put n 32 row.first)
-    ∙ ap (λ (l : List Piece). put_all n (led_pieces 32 row.first) ++ l) (led_put n 44 row.second)
-    ∙ (sym (put_both n (led_pieces 32 row.first) (led_pieces 44 row.second))))
+    ap (λ (l : List Token). tokens.Word row.name ∷ l)
+    (ap (λ (l : List Token). l ++ led_tokens 44 (operand_with n row.second)) (led_put n 32 row.first)
+    ∙ ap (λ (l : List Token). put_all n (led_tokens 32 row.first) ++ l) (led_put n 44 row.second)
+    ∙ (sym (put_both n (led_tokens 32 row.first) (led_tokens 44 row.second))))

@@ -17,10 +17,10 @@ use Rattle.asm_m68k.proofs.Again.{halves}
 
 -- ---- four words after the first
 
-abbrev behind : (ℕ → ℕ) → List ℕ
-behind f = f 1 ∷ f 2 ∷ f 3 ∷ f 4 ∷ []
+abbrev following : (ℕ → ℕ) → List ℕ
+following f = f 1 ∷ f 2 ∷ f 3 ∷ f 4 ∷ []
 
-read : (w : ℕ) (f : ℕ → ℕ) (j : ℕ) → 1 ≤ j → j < 5 → slice_index (w ∷ behind f) j ≡ f j
+read : (w : ℕ) (f : ℕ → ℕ) (j : ℕ) → 1 ≤ j → j < 5 → slice_index (w ∷ following f) j ≡ f j
 read w f zero low high = absurd (omega arith)
 read w f (suc zero) low high = refl
 read w f (suc (suc zero)) low high = refl
@@ -28,8 +28,8 @@ read w f (suc (suc (suc zero))) low high = refl
 read w f (suc (suc (suc (suc zero)))) low high = refl
 read w f (suc (suc (suc (suc (suc j))))) low high = absurd (omega arith)
 
-all_behind : (w : ℕ) (f : ℕ → ℕ) → w < 65536 → ((j : ℕ) → f j < 65536) → AreWords (w ∷ behind f)
-all_behind w f low each = cons_low w (behind f) low (cons_low (f 1) (f 2 ∷ f 3 ∷ f 4 ∷ []) (each 1) (cons_low (f 2) (f 3 ∷ f 4 ∷ []) (each 2) (cons_low (f 3) (f 4 ∷ []) (each 3) (cons_low (f 4) [] (each 4) none_low))))
+all_after : (w : ℕ) (f : ℕ → ℕ) → w < 65536 → ((j : ℕ) → f j < 65536) → AreWords (w ∷ following f)
+all_after w f low each = cons_low w (following f) low (cons_low (f 1) (f 2 ∷ f 3 ∷ f 4 ∷ []) (each 1) (cons_low (f 2) (f 3 ∷ f 4 ∷ []) (each 2) (cons_low (f 3) (f 4 ∷ []) (each 3) (cons_low (f 4) [] (each 4) none_low))))
 
 -- words that are the same but from one on, so many
 pub record IsPut (k count w : ℕ) (tail rest : List ℕ) : Type 0 where
@@ -57,11 +57,11 @@ record IsOne (k v w : ℕ) (tail rest : List ℕ) : Type 0 where
   put : IsPut k 1 w tail rest
   at : slice_index (w ∷ rest) k ≡ v
 
-one_word : (k v w : ℕ) (tail : List ℕ) → 1 ≤ k → k < 5 → v < 65536 → AreWords (w ∷ tail) → IsOne k v w tail (behind (one k v (w ∷ tail)))
+one_word : (k v w : ℕ) (tail : List ℕ) → 1 ≤ k → k < 5 → v < 65536 → AreWords (w ∷ tail) → IsOne k v w tail (following (one k v (w ∷ tail)))
 one_word k v w tail low high fits all =
     let f = one k v (w ∷ tail) in record {
       put = record {
-        all = all_behind w f (all 0) (λ j. by_low (j == k) v (slice_index (w ∷ tail) j) fits (all j));
+        all = all_after w f (all 0) (λ j. by_low (j == k) v (slice_index (w ∷ tail) j) fits (all j));
         before = λ j a b. read w f j a (omega (arith, b, high)) ∙ by_other j k v (slice_index (w ∷ tail) j) (j == k) refl (λ e. omega (arith, e, b));
         after = λ j a b. read w f j (omega (arith, a)) b ∙ by_other j k v (slice_index (w ∷ tail) j) (j == k) refl (λ e. omega (arith, e, a));
       };
@@ -77,11 +77,11 @@ record IsTwo (k u v w : ℕ) (tail rest : List ℕ) : Type 0 where
   at : slice_index (w ∷ rest) k ≡ u
   next : slice_index (w ∷ rest) (k + 1) ≡ v
 
-two_words : (k u v w : ℕ) (tail : List ℕ) → 1 ≤ k → k + 1 < 5 → u < 65536 → v < 65536 → AreWords (w ∷ tail) → IsTwo k u v w tail (behind (two k u v (w ∷ tail)))
+two_words : (k u v w : ℕ) (tail : List ℕ) → 1 ≤ k → k + 1 < 5 → u < 65536 → v < 65536 → AreWords (w ∷ tail) → IsTwo k u v w tail (following (two k u v (w ∷ tail)))
 two_words k u v w tail low high fits too all =
     let f = two k u v (w ∷ tail) in record {
       put = record {
-        all = all_behind w f (all 0) (λ j. by_low (j == k) u _ fits (by_low (j == k + 1) v (slice_index (w ∷ tail) j) too (all j)));
+        all = all_after w f (all 0) (λ j. by_low (j == k) u _ fits (by_low (j == k + 1) v (slice_index (w ∷ tail) j) too (all j)));
         before = λ j a b. read w f j a (omega (arith, b, high)) ∙ by_other j k u _ (j == k) refl (λ e. omega (arith, e, b))
             ∙ by_other j (k + 1) v (slice_index (w ∷ tail) j) (j == k + 1) refl (λ e. omega (arith, e, b));
         after = λ j a b. read w f j (omega (arith, a)) b ∙ by_other j k u _ (j == k) refl (λ e. omega (arith, e, a))
@@ -102,12 +102,12 @@ pub record IsNumber (size : Size) (k n w : ℕ) (tail : List ℕ) : Type 0 where
 pub number_put : (size : Size) (k n w : ℕ) (tail : List ℕ) → 1 ≤ k → k < 4 → n < modulus_of size → AreWords (w ∷ tail) → IsNumber size k n w tail
 unfolding number_at
 number_put Byte k n w tail low high fits all =
-    let o = one_word k n w tail low (omega arith) (omega (arith, fits)) all in record { rest = behind (one k n (w ∷ tail)); put = o.put; is = rw o.at (byte_stays n fits) }
+    let o = one_word k n w tail low (omega arith) (omega (arith, fits)) all in record { rest = following (one k n (w ∷ tail)); put = o.put; is = rw o.at (byte_stays n fits) }
 number_put Word k n w tail low high fits all =
-    let o = one_word k n w tail low (omega arith) fits all in record { rest = behind (one k n (w ∷ tail)); put = o.put; is = o.at }
+    let o = one_word k n w tail low (omega arith) fits all in record { rest = following (one k n (w ∷ tail)); put = o.put; is = o.at }
 number_put Long k n w tail low high fits all =
     let o = two_words k (n / 65536) (n % 65536) w tail low (omega arith) (omega (arith, fits)) (omega arith) all in
-    record { rest = behind (two k (n / 65536) (n % 65536) (w ∷ tail)); put = o.put; is = rw (o.at, o.next) (halves n) }
+    record { rest = following (two k (n / 65536) (n % 65536) (w ∷ tail)); put = o.put; is = rw (o.at, o.next) (halves n) }
 
 -- two lists have the same words from one on, so many
 abbrev pub AreSame : ℕ → ℕ → List ℕ → List ℕ → Type 0
@@ -148,23 +148,23 @@ mode_put (suc (suc zero)) r size k n w tail g h low high all fits = absurd (no_n
 mode_put (suc (suc (suc zero))) r size k n w tail g h low high all fits = absurd (no_number n fits)
 mode_put (suc (suc (suc (suc zero)))) r size k n w tail g h low high all fits = absurd (no_number n fits)
 mode_put (suc (suc (suc (suc (suc zero))))) r size k n w tail g h low high all fits =
-    let o = one_word k n w tail low (omega arith) (below n 65536 fits) all in record { rest = behind (one k n (w ∷ tail)); put = o.put; is = rw o.at refl }
+    let o = one_word k n w tail low (omega arith) (below n 65536 fits) all in record { rest = following (one k n (w ∷ tail)); put = o.put; is = rw o.at refl }
 mode_put (suc (suc (suc (suc (suc (suc zero)))))) r size k n w tail g h low high all fits =
     let x = slice_index (w ∷ tail) k in
     let b = below n 256 fits in
     let o = one_word k (x / 256 * 256 + n) w tail low (omega arith) (brief_fits x n (all k) b) all in
-    record { rest = behind (one k (x / 256 * 256 + n) (w ∷ tail)); put = o.put; is = rw (o.at, brief_index x n b, brief_long x n b, brief_by x n b) refl }
+    record { rest = following (one k (x / 256 * 256 + n) (w ∷ tail)); put = o.put; is = rw (o.at, brief_index x n b, brief_long x n b, brief_by x n b) refl }
 mode_put (suc (suc (suc (suc (suc (suc (suc zero))))))) zero size k n w tail g h low high all fits =
-    let o = one_word k n w tail low (omega arith) (below n 65536 fits) all in record { rest = behind (one k n (w ∷ tail)); put = o.put; is = rw o.at refl }
+    let o = one_word k n w tail low (omega arith) (below n 65536 fits) all in record { rest = following (one k n (w ∷ tail)); put = o.put; is = rw o.at refl }
 mode_put (suc (suc (suc (suc (suc (suc (suc zero))))))) (suc zero) size k n w tail g h low high all fits =
     let o = number_put Long k n w tail low high (below n 4294967296 fits) all in record { rest = o.rest; put = o.put; is = rw o.is refl }
 mode_put (suc (suc (suc (suc (suc (suc (suc zero))))))) (suc (suc zero)) size k n w tail g h low high all fits =
-    let o = one_word k n w tail low (omega arith) (below n 65536 fits) all in record { rest = behind (one k n (w ∷ tail)); put = o.put; is = rw o.at refl }
+    let o = one_word k n w tail low (omega arith) (below n 65536 fits) all in record { rest = following (one k n (w ∷ tail)); put = o.put; is = rw o.at refl }
 mode_put (suc (suc (suc (suc (suc (suc (suc zero))))))) (suc (suc (suc zero))) size k n w tail g h low high all fits =
     let x = slice_index (w ∷ tail) k in
     let b = below n 256 fits in
     let o = one_word k (x / 256 * 256 + n) w tail low (omega arith) (brief_fits x n (all k) b) all in
-    record { rest = behind (one k (x / 256 * 256 + n) (w ∷ tail)); put = o.put; is = rw (o.at, brief_index x n b, brief_long x n b, brief_by x n b) refl }
+    record { rest = following (one k (x / 256 * 256 + n) (w ∷ tail)); put = o.put; is = rw (o.at, brief_index x n b, brief_long x n b, brief_by x n b) refl }
 mode_put (suc (suc (suc (suc (suc (suc (suc zero))))))) (suc (suc (suc (suc zero)))) size k n w tail g h low high all fits =
     let o = number_put size k n w tail low high (below n (modulus_of size) fits) all in record { rest = o.rest; put = o.put; is = rw o.is refl }
 mode_put (suc (suc (suc (suc (suc (suc (suc zero))))))) (suc (suc (suc (suc (suc zero))))) size k n w tail g h low high all fits =
@@ -242,8 +242,8 @@ with_counted n size (modes.Data r) = refl
 with_counted n size _ = refl
 
 -- what follows, and at the start
-pub same_behind : (k count from more w : ℕ) (tail rest : List ℕ) → IsPut k count w tail rest → k + count ≤ from → from + more ≤ 5 → AreSame from more (w ∷ rest) (w ∷ tail)
-same_behind k count from more w tail rest put high few = λ j a b. put.after j (omega (arith, a, high)) (omega (arith, b, few))
+pub same_after : (k count from more w : ℕ) (tail rest : List ℕ) → IsPut k count w tail rest → k + count ≤ from → from + more ≤ 5 → AreSame from more (w ∷ rest) (w ∷ tail)
+same_after k count from more w tail rest put high few = λ j a b. put.after j (omega (arith, a, high)) (omega (arith, b, few))
 
 pub same_front : (k count from more w : ℕ) (tail rest : List ℕ) → IsPut k count w tail rest → 1 ≤ from → from + more ≤ k → AreSame from more (w ∷ rest) (w ∷ tail)
 same_front k count from more w tail rest put low high = λ j a b. put.before j (omega (arith, a, low)) (omega (arith, b, high))

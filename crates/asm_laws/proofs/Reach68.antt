@@ -17,7 +17,7 @@ use Rattle.m68k_decode.proofs.Table.{decoded_is_picked}
 use Rattle.md_disasm.specs.Rows68.{Row68, row_of, target}
 use Rattle.asm_m68k.specs.Encoding.{extension}
 use Rattle.asm_m68k.specs.Table.{AreWords, IsInstruction}
-use Rattle.asm_m68k.proofs.Sources.{led_pieces}
+use Rattle.asm_m68k.proofs.Sources.{led_tokens}
 use Rattle.asm_m68k.proofs.Instructions.{target_below}
 use Rattle.md_asm.specs.Contents.{under}
 use Rattle.asm_laws.proofs.Alone68.{filled_row, first_row, is_quick, second_row}
@@ -114,8 +114,8 @@ IsThere row at = (long : ℕ) × IsReached row at long
 
 pub record AreReached (d : Decoded) (at : ℕ) : Type 0 where
   pub filled : IsReached (row_kept false false (row_of d.op at)) 4 d.length
-  pub first : (n : ℕ) → number_of (led_pieces 32 (row_of d.op at).first) ≡ Some n → IsThere (row_kept true false (row_of d.op at)) (under false n)
-  pub second : (n : ℕ) → number_of (led_pieces 44 (row_of d.op at).second) ≡ Some n → IsThere (row_kept false true (row_of d.op at)) (under false n)
+  pub first : (n : ℕ) → number_of (led_tokens 32 (row_of d.op at).first) ≡ Some n → IsThere (row_kept true false (row_of d.op at)) (under false n)
+  pub second : (n : ℕ) → number_of (led_tokens 44 (row_of d.op at).second) ≡ Some n → IsThere (row_kept false true (row_of d.op at)) (under false n)
 
 plain_reached : (row : Row) (w : ℕ) (tail : List ℕ) (at : ℕ) → AreOf row w tail → is_branch row ≡ false → is_quick (made row (w ∷ tail)).op ≡ false → AreReached (made row (w ∷ tail)) at
 plain_reached row w tail at of none plain =
@@ -128,7 +128,7 @@ plain_reached row w tail at of none plain =
 quick_reached : (row : Row) (w : ℕ) (tail : List ℕ) (at : ℕ) → AreOf row w tail → is_branch row ≡ false
     → ((other : ℕ) → row_of (op_kept false false (op8 (made row (w ∷ tail)).op)) other ≡ row_kept false false (row_of (made row (w ∷ tail)).op at))
     → ((other : ℕ) → row_of (op_kept true false (made row (w ∷ tail)).op) other ≡ row_kept true false (row_of (made row (w ∷ tail)).op at))
-    → ((n other : ℕ) → number_of (led_pieces 44 (row_of (made row (w ∷ tail)).op at).second) ≡ Some n → row_of (op8 (made row (w ∷ tail)).op) other ≡ row_kept false true (row_of (made row (w ∷ tail)).op at))
+    → ((n other : ℕ) → number_of (led_tokens 44 (row_of (made row (w ∷ tail)).op at).second) ≡ Some n → row_of (op8 (made row (w ∷ tail)).op) other ≡ row_kept false true (row_of (made row (w ∷ tail)).op at))
     → AreReached (made row (w ∷ tail)) at
 quick_reached row w tail at of none f a b =
     let d = made row (w ∷ tail) in record {

@@ -6,7 +6,7 @@ use Rattle.std.proofs.Math.Seq.{take-append_seam}
 use Rattle.m68k_decode.specs.Instructions.{instruction_of}
 use Rattle.m68k_decode.specs.Nested.{nested}
 use Rattle.md_disasm.specs.Texts68.{text_of}
-use Rattle.asm_m68k.specs.Judged.{padded}
+use Rattle.asm_m68k.specs.Checked.{padded}
 use Rattle.asm_m68k.specs.Table.{AreWords, IsInstruction}
 use Rattle.md_asm.specs.Codes.{in_bytes}
 use Rattle.asm_laws.proofs.Lengths.{filled_up}

@@ -4,7 +4,7 @@ use Rattle.std.proofs.Math.Seq.{take-append_seam}
 use Rattle.z80_decode.specs.Instructions.{instruction_of}
 use Rattle.md_disasm.specs.Texts80.{text_of}
 use Rattle.asm_z80.specs.Coded80.{AreBytes}
-use Rattle.asm_z80.specs.Judged.{padded}
+use Rattle.asm_z80.specs.Checked.{padded}
 use Rattle.asm_z80.specs.Instruction.{is_db}
 use Rattle.asm_z80.proofs.Lengths.{decoded_few}
 use Rattle.asm_laws.proofs.Bytes.{filled_up}

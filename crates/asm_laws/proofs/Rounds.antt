@@ -2,8 +2,8 @@
 use Rattle.std.proofs.Common.{◌≡◌, ℕ, zero, suc, ◌+◌, ◌-◌, ◌%◌, ◌<◌, ◌≤◌, Bool, true, false, ◌==◌, List, [], ◌∷◌, ◌++◌, nat_lt, nat_le, length, take, max, append-nil, refl, ap, ◌∙◌, sym, arith, codes, None}
 use Rattle.std.proofs.lemmas.Bool.Decides.{nat_tests}
 use Rattle.md_disasm.specs.Digits.{eight_digits, four_digits, marked_long, marked_word}
-use Rattle.md_asm_text.specs.Pieces as pieces
-use Rattle.md_asm_text.specs.Pieces.{Piece, is_name, is_worded, opened, split}
+use Rattle.md_asm_text.specs.Tokens as tokens
+use Rattle.md_asm_text.specs.Tokens.{Token, is_name, is_worded, opened, split}
 use Rattle.md_asm_text.proofs.Splits.{mark_split, name_opens, number_4, number_8, word_split}
 use Rattle.md_asm_text.specs.Bodies.{directive_of}
 use Rattle.md_asm_text.specs.Lines.{Line, line_of}
@@ -15,7 +15,7 @@ use Rattle.md_asm.specs.Numbers.{Names, resolved}
 use Rattle.md_asm.specs.Assembly.{Done, assembly, places_of, second}
 use Rattle.md_asm.specs.Places.{any_written, blank, image_limit, put}
 use Rattle.md_asm.proofs.Slots.{resolved_plain}
-use Rattle.md_asm.specs.Rounds.{On, behind, line_step, round_one, round_two, start}
+use Rattle.md_asm.specs.Rounds.{On, following, line_step, round_one, round_two, start}
 use Rattle.asm_laws.specs.Sources.{main_source, sub_source}
 use Rattle.asm_laws.proofs.Line.{instruction_line, line_is}
 use Rattle.asm_laws.proofs.Solid.{IsText, eight_solid, four_solid, has_none, text_more, text_solid}
@@ -58,39 +58,39 @@ cpu_text at =
     rw (append-nil (codes "cpu z80 $" ++ four_digits at))
     (text_more (codes "cpu") (codes " z80 ") (36 ∷ four_digits at) (text_solid (codes "cpu") refl) refl (four_solid at))
 
-org_pieces : (at : ℕ) → at < 4294967296 → pieces.pieces (org_line at) ≡ pieces.Word (codes "org") ∷ pieces.Mark 32 ∷ pieces.Number at ∷ []
+org_tokens : (at : ℕ) → at < 4294967296 → tokens.tokens (org_line at) ≡ tokens.Word (codes "org") ∷ tokens.Mark 32 ∷ tokens.Number at ∷ []
 unfolding marked_long is_worded split
-org_pieces at h =
+org_tokens at h =
     ap (opened []) (append-nil (codes "org $" ++ eight_digits at))
     ∙ name_opens (codes "org") (32 ∷ 36 ∷ eight_digits at) refl refl
-    ∙ ap (λ (l : List Piece). pieces.Word (codes "org") ∷ l) (mark_split 32 (36 ∷ eight_digits at) refl
-    ∙ ap (λ (l : List Piece). pieces.Mark 32 ∷ l) (ap (λ (l : List ℕ). split [] (36 ∷ l)) (sym (append-nil (eight_digits at))) ∙ number_8 at [] h refl))
+    ∙ ap (λ (l : List Token). tokens.Word (codes "org") ∷ l) (mark_split 32 (36 ∷ eight_digits at) refl
+    ∙ ap (λ (l : List Token). tokens.Mark 32 ∷ l) (ap (λ (l : List ℕ). split [] (36 ∷ l)) (sym (append-nil (eight_digits at))) ∙ number_8 at [] h refl))
 
-cpu_pieces : (at : ℕ) → at < 65536
-    → pieces.pieces (cpu_line at) ≡ pieces.Word (codes "cpu") ∷ pieces.Mark 32 ∷ pieces.Name (codes "z80") ∷ pieces.Mark 32 ∷ pieces.Number at ∷ []
-unfolding marked_word is_worded is_name pieces.token_of split
-cpu_pieces at h =
+cpu_tokens : (at : ℕ) → at < 65536
+    → tokens.tokens (cpu_line at) ≡ tokens.Word (codes "cpu") ∷ tokens.Mark 32 ∷ tokens.Name (codes "z80") ∷ tokens.Mark 32 ∷ tokens.Number at ∷ []
+unfolding marked_word is_worded is_name tokens.token_of split
+cpu_tokens at h =
     ap (opened []) (append-nil (codes "cpu z80 $" ++ four_digits at))
     ∙ name_opens (codes "cpu") (32 ∷ 122 ∷ 56 ∷ 48 ∷ 32 ∷ 36 ∷ four_digits at) refl refl
-    ∙ ap (λ (l : List Piece). pieces.Word (codes "cpu") ∷ l) (mark_split 32 (122 ∷ 56 ∷ 48 ∷ 32 ∷ 36 ∷ four_digits at) refl
-    ∙ ap (λ (l : List Piece). pieces.Mark 32 ∷ l) (word_split (codes "z80") (32 ∷ 36 ∷ four_digits at) refl refl
-    ∙ ap (λ (l : List Piece). pieces.Name (codes "z80") ∷ l) (mark_split 32 (36 ∷ four_digits at) refl
-    ∙ ap (λ (l : List Piece). pieces.Mark 32 ∷ l) (ap (λ (l : List ℕ). split [] (36 ∷ l)) (sym (append-nil (four_digits at))) ∙ number_4 at [] h refl))))
+    ∙ ap (λ (l : List Token). tokens.Word (codes "cpu") ∷ l) (mark_split 32 (122 ∷ 56 ∷ 48 ∷ 32 ∷ 36 ∷ four_digits at) refl
+    ∙ ap (λ (l : List Token). tokens.Mark 32 ∷ l) (word_split (codes "z80") (32 ∷ 36 ∷ four_digits at) refl refl
+    ∙ ap (λ (l : List Token). tokens.Name (codes "z80") ∷ l) (mark_split 32 (36 ∷ four_digits at) refl
+    ∙ ap (λ (l : List Token). tokens.Mark 32 ∷ l) (ap (λ (l : List ℕ). split [] (36 ∷ l)) (sym (append-nil (four_digits at))) ∙ number_4 at [] h refl))))
 
 abbrev pub plain_line : List ℕ → Body → Line
 plain_line text body = record { label = None; text = text; body = body }
 
 pub org_is : (at : ℕ) → at < 4294967296 → line_of (org_line at) ≡ plain_line (org_line at) (bodies.Org at)
 unfolding directive_of
-org_is at h = line_is (org_line at) (bodies.Org at) (org_text at) (ap directive_of (org_pieces at h))
+org_is at h = line_is (org_line at) (bodies.Org at) (org_text at) (ap directive_of (org_tokens at h))
 
 cpu_is : (at : ℕ) → at < 65536 → line_of (cpu_line at) ≡ plain_line (cpu_line at) (bodies.Sub at)
 unfolding directive_of
-cpu_is at h = line_is (cpu_line at) (bodies.Sub at) (cpu_text at) (ap directive_of (cpu_pieces at h))
+cpu_is at h = line_is (cpu_line at) (bodies.Sub at) (cpu_text at) (ap directive_of (cpu_tokens at h))
 
 -- ---- the first line
 
-cpu_step : (text : List ℕ) (at : ℕ) → at < 65536 → line_step start 1 (plain_line text (bodies.Sub at)) ≡ On (behind start 1 (plain_line text (bodies.Sub at)) 0)
+cpu_step : (text : List ℕ) (at : ℕ) → at < 65536 → line_step start 1 (plain_line text (bodies.Sub at)) ≡ On (following start 1 (plain_line text (bodies.Sub at)) 0)
 cpu_step text at h =
     let fits : nat_le 65536 at ≡ false = cases (nat_le 65536 at) refl in rw fits refl
   where
@@ -120,13 +120,13 @@ small at long h = cases (nat_lt image_limit (at + long)) refl
 pub even : (at : ℕ) → at % 2 ≡ 0 → (at % 2 == 1) ≡ false
 even at h = rw h refl
 
-main_step : (first text : List ℕ) (at : ℕ) (bytes : List ℕ) → IsCoded false (pieces.pieces text) at bytes → at % 2 ≡ 0 → at + length bytes ≤ image_limit
-    → line_step (behind start 1 (plain_line first (bodies.Org at)) 0) 2 (instruction_line text) ≡ On (behind (behind start 1 (plain_line first (bodies.Org at)) 0) 2 (instruction_line text) (length bytes))
+main_step : (first text : List ℕ) (at : ℕ) (bytes : List ℕ) → IsCoded false (tokens.tokens text) at bytes → at % 2 ≡ 0 → at + length bytes ≤ image_limit
+    → line_step (following start 1 (plain_line first (bodies.Org at)) 0) 2 (instruction_line text) ≡ On (following (following start 1 (plain_line first (bodies.Org at)) 0) 2 (instruction_line text) (length bytes))
 main_step first text at bytes coded e h =
     rw (coded.sized, coded.long, coded.fits, even at e, none_written (length bytes) at, small at (length bytes) h) refl
 
-sub_step : (first text : List ℕ) (at : ℕ) (bytes : List ℕ) → IsCoded true (pieces.pieces text) at bytes → length bytes ≤ 4
-    → line_step (behind start 1 (plain_line first (bodies.Sub at)) 0) 2 (instruction_line text) ≡ On (behind (behind start 1 (plain_line first (bodies.Sub at)) 0) 2 (instruction_line text) (length bytes))
+sub_step : (first text : List ℕ) (at : ℕ) (bytes : List ℕ) → IsCoded true (tokens.tokens text) at bytes → length bytes ≤ 4
+    → line_step (following start 1 (plain_line first (bodies.Sub at)) 0) 2 (instruction_line text) ≡ On (following (following start 1 (plain_line first (bodies.Sub at)) 0) 2 (instruction_line text) (length bytes))
 sub_step first text at bytes coded h =
     rw (coded.sized, coded.long, coded.fits, none_written (length bytes) 0, small 0 (length bytes) (omega arith)) refl
 
@@ -139,30 +139,30 @@ same_long n = cases (n == n) refl
     cases true is = refl
     cases false is = absurd (grind (arith, nat_tests))
 
-settled : (sub : Bool) (names : Names) (line_tokens : List Piece) (at : ℕ) (bytes : List ℕ) → IsCoded sub line_tokens at bytes
+settled : (sub : Bool) (names : Names) (line_tokens : List Token) (at : ℕ) (bytes : List ℕ) → IsCoded sub line_tokens at bytes
     → settled_line sub bodies.Instruction (length bytes) (resolved names line_tokens) at ≡ Good bytes
 settled sub names line_tokens at bytes coded =
     rw (resolved_plain names line_tokens coded.plain, coded.plain, coded.fits, coded.own, same_long (length bytes)) refl
 
 -- ---- the source
 
-pub main_done : (text : List ℕ) (at : ℕ) (bytes : List ℕ) → IsText text → line_of text ≡ instruction_line text → IsCoded false (pieces.pieces text) at bytes
+pub main_done : (text : List ℕ) (at : ℕ) (bytes : List ℕ) → IsText text → line_of text ≡ instruction_line text → IsCoded false (tokens.tokens text) at bytes
     → at % 2 ≡ 0 → at + length bytes ≤ image_limit
     → assembly (main_source at text) ≡ Done (take (at + length bytes) (put blank at bytes)) (record { place = at; address = at; z80 = false } ∷ [])
 unfolding assembly round_one round_two places_of
 main_done text at bytes is line coded e h =
-    let own = settled false (λ name. None) (pieces.pieces text) at bytes coded in
+    let own = settled false (λ name. None) (tokens.tokens text) at bytes coded in
     ap (λ (l : List (List ℕ)). second (round_one start 1 l)) (two_lines (org_line at) text (org_text at) is)
     ∙ rw (org_is at (omega arith), line, main_step (org_line at) text at bytes coded e h, own, max_zero (at + length bytes)) refl
 
 at_start : (at : ℕ) → at < 65536 → (at + 0 + 4294967296 - 0) % 65536 ≡ at
 at_start at h = omega arith
 
-pub sub_done : (text : List ℕ) (at : ℕ) (bytes : List ℕ) → IsText text → line_of text ≡ instruction_line text → IsCoded true (pieces.pieces text) at bytes
+pub sub_done : (text : List ℕ) (at : ℕ) (bytes : List ℕ) → IsText text → line_of text ≡ instruction_line text → IsCoded true (tokens.tokens text) at bytes
     → at < 65536 → length bytes ≤ 4
     → assembly (sub_source at text) ≡ Done (take (length bytes) (put blank 0 bytes)) (record { place = 0; address = at; z80 = true } ∷ [])
 unfolding assembly round_one round_two places_of
 sub_done text at bytes is line coded a h =
-    let own = settled true (λ name. None) (pieces.pieces text) at bytes coded in
+    let own = settled true (λ name. None) (tokens.tokens text) at bytes coded in
     ap (λ (l : List (List ℕ)). second (round_one start 1 l)) (two_lines (cpu_line at) text (cpu_text at) is)
     ∙ rw (cpu_is at a, line, cpu_step (cpu_line at) at a, sub_step (cpu_line at) text at bytes coded h, at_start at a, own, max_both (length bytes)) refl

@@ -8,12 +8,12 @@ use Rattle.md_disasm.specs.Operands68.{register_name}
 use Rattle.md_disasm.specs.Rows68.{Row68}
 use Rattle.md_disasm.specs.declared.operand68.Operand68.{Operand68}
 use Rattle.md_disasm.specs.declared.operand68.Operand68.TheVariants as operands
-use Rattle.md_asm_text.specs.Pieces as pieces
-use Rattle.md_asm_text.specs.Pieces.{Piece}
+use Rattle.md_asm_text.specs.Tokens as tokens
+use Rattle.md_asm_text.specs.Tokens.{Token}
 use Rattle.md_asm.specs.Numbers.{filled}
-use Rattle.asm_m68k.proofs.Lists.{list_pieces, listed, more_pieces, names_pieces}
-use Rattle.asm_m68k.proofs.Operands.{mode_pieces, number_pieces}
-use Rattle.asm_m68k.proofs.Sources.{led_pieces, operand_pieces, row_pieces, size_pieces}
+use Rattle.asm_m68k.proofs.Lists.{list_tokens, listed, more_tokens, names_tokens}
+use Rattle.asm_m68k.proofs.Operands.{mode_tokens, number_tokens}
+use Rattle.asm_m68k.proofs.Sources.{led_tokens, operand_tokens, row_tokens, size_tokens}
 use Rattle.asm_laws.proofs.Fits.{filled_both, is_single}
 
 -- another number in the place of a mode's own
@@ -58,91 +58,91 @@ kept false o = operand_filled o
 abbrev pub row_kept : Bool → Bool → Row68 → Row68
 row_kept first second row = record { name = row.name; size = row.size; first = kept first row.first; second = kept second row.second }
 
-number_pieces_filled : (size : Size) (n : ℕ) → filled (number_pieces size n) ≡ number_pieces size 8
-number_pieces_filled Byte n = refl
-number_pieces_filled Word n = refl
-number_pieces_filled Long n = refl
+number_tokens_filled : (size : Size) (n : ℕ) → filled (number_tokens size n) ≡ number_tokens size 8
+number_tokens_filled Byte n = refl
+number_tokens_filled Word n = refl
+number_tokens_filled Long n = refl
 
-mode_pieces_filled : (size : Size) (mode : Mode) → filled (mode_pieces size mode) ≡ mode_pieces size (mode_filled mode)
-mode_pieces_filled size (modes.Immediate n) = number_pieces_filled size n
-mode_pieces_filled size (modes.Indexed n index true by) = refl
-mode_pieces_filled size (modes.Indexed n index false by) = refl
-mode_pieces_filled size (modes.PcIndexed index true by) = refl
-mode_pieces_filled size (modes.PcIndexed index false by) = refl
-mode_pieces_filled size mode = refl
+mode_tokens_filled : (size : Size) (mode : Mode) → filled (mode_tokens size mode) ≡ mode_tokens size (mode_filled mode)
+mode_tokens_filled size (modes.Immediate n) = number_tokens_filled size n
+mode_tokens_filled size (modes.Indexed n index true by) = refl
+mode_tokens_filled size (modes.Indexed n index false by) = refl
+mode_tokens_filled size (modes.PcIndexed index true by) = refl
+mode_tokens_filled size (modes.PcIndexed index false by) = refl
+mode_tokens_filled size mode = refl
 
-more_filled : (ns : List ℕ) → filled (more_pieces ns) ≡ more_pieces ns
+more_filled : (ns : List ℕ) → filled (more_tokens ns) ≡ more_tokens ns
 more_filled [] = refl
-more_filled (n ∷ ns) = ap (λ (l : List Piece). pieces.Mark 47 ∷ pieces.Word (register_name n) ∷ l) (more_filled ns)
+more_filled (n ∷ ns) = ap (λ (l : List Token). tokens.Mark 47 ∷ tokens.Word (register_name n) ∷ l) (more_filled ns)
 
-names_filled : (ns : List ℕ) → filled (names_pieces ns) ≡ names_pieces ns
+names_filled : (ns : List ℕ) → filled (names_tokens ns) ≡ names_tokens ns
 names_filled [] = refl
-names_filled (n ∷ ns) = ap (λ (l : List Piece). pieces.Word (register_name n) ∷ l) (more_filled ns)
+names_filled (n ∷ ns) = ap (λ (l : List Token). tokens.Word (register_name n) ∷ l) (more_filled ns)
 
-list_filled : (b : Bool) (turned : Bool) (list : ℕ) → (list == 0) ≡ b → filled (list_pieces turned list) ≡ list_pieces turned list
+list_filled : (b : Bool) (turned : Bool) (list : ℕ) → (list == 0) ≡ b → filled (list_tokens turned list) ≡ list_tokens turned list
 list_filled true turned list is = rw is refl
 list_filled false turned list is = rw is (names_filled (listed turned list))
 
-operand_pieces_filled : (o : Operand68) → filled (operand_pieces o) ≡ operand_pieces (operand_filled o)
-operand_pieces_filled (operands.Place size mode) = mode_pieces_filled size mode
-operand_pieces_filled (operands.Number size n) = number_pieces_filled size n
-operand_pieces_filled (operands.Registers turned list) = list_filled (list == 0) turned list refl
-operand_pieces_filled operands.Nothing = refl
-operand_pieces_filled _ = refl
+operand_tokens_filled : (o : Operand68) → filled (operand_tokens o) ≡ operand_tokens (operand_filled o)
+operand_tokens_filled (operands.Place size mode) = mode_tokens_filled size mode
+operand_tokens_filled (operands.Number size n) = number_tokens_filled size n
+operand_tokens_filled (operands.Registers turned list) = list_filled (list == 0) turned list refl
+operand_tokens_filled operands.Nothing = refl
+operand_tokens_filled _ = refl
 
-pub led_filled : (c : ℕ) (o : Operand68) → filled (led_pieces c o) ≡ led_pieces c (operand_filled o)
+pub led_filled : (c : ℕ) (o : Operand68) → filled (led_tokens c o) ≡ led_tokens c (operand_filled o)
 led_filled c operands.Nothing = refl
-led_filled c o = ap (λ (l : List Piece). pieces.Mark c ∷ l) (operand_pieces_filled o)
+led_filled c o = ap (λ (l : List Token). tokens.Mark c ∷ l) (operand_tokens_filled o)
 
-pub size_filled : (size : Option Size) → filled (size_pieces size) ≡ size_pieces size
+pub size_filled : (size : Option Size) → filled (size_tokens size) ≡ size_tokens size
 size_filled None = refl
 size_filled (Some Byte) = refl
 size_filled (Some Word) = refl
 size_filled (Some Long) = refl
 
-pub row_filled : (row : Row68) → filled (row_pieces row) ≡ row_pieces (row_kept false false row)
+pub row_filled : (row : Row68) → filled (row_tokens row) ≡ row_tokens (row_kept false false row)
 row_filled row =
-    ap (λ (l : List Piece). pieces.Word row.name ∷ l)
-    (filled_both (size_pieces row.size) (led_pieces 32 row.first ++ led_pieces 44 row.second)
-    ∙ ap (λ (l : List Piece). l ++ filled (led_pieces 32 row.first ++ led_pieces 44 row.second)) (size_filled row.size)
-    ∙ ap (λ (l : List Piece). size_pieces row.size ++ l)
-    (filled_both (led_pieces 32 row.first) (led_pieces 44 row.second)
-    ∙ ap (λ (l : List Piece). l ++ filled (led_pieces 44 row.second)) (led_filled 32 row.first)
-    ∙ ap (λ (l : List Piece). led_pieces 32 (operand_filled row.first) ++ l) (led_filled 44 row.second)))
+    ap (λ (l : List Token). tokens.Word row.name ∷ l)
+    (filled_both (size_tokens row.size) (led_tokens 32 row.first ++ led_tokens 44 row.second)
+    ∙ ap (λ (l : List Token). l ++ filled (led_tokens 32 row.first ++ led_tokens 44 row.second)) (size_filled row.size)
+    ∙ ap (λ (l : List Token). size_tokens row.size ++ l)
+    (filled_both (led_tokens 32 row.first) (led_tokens 44 row.second)
+    ∙ ap (λ (l : List Token). l ++ filled (led_tokens 44 row.second)) (led_filled 32 row.first)
+    ∙ ap (λ (l : List Token). led_tokens 32 (operand_filled row.first) ++ l) (led_filled 44 row.second)))
 
 -- ---- the number of an operand
 
-number_single : (size : Size) (n : ℕ) → is_single (number_pieces size n) ≡ true
+number_single : (size : Size) (n : ℕ) → is_single (number_tokens size n) ≡ true
 number_single Byte n = refl
 number_single Word n = refl
 number_single Long n = refl
 
-mode_single : (size : Size) (mode : Mode) → is_single (mode_pieces size mode) ≡ true
+mode_single : (size : Size) (mode : Mode) → is_single (mode_tokens size mode) ≡ true
 mode_single size (modes.Immediate n) = number_single size n
 mode_single size (modes.Indexed n index long by) = refl
 mode_single size (modes.PcIndexed index long by) = refl
 mode_single size mode = refl
 
-more_single : (ns : List ℕ) → is_single (more_pieces ns) ≡ true
+more_single : (ns : List ℕ) → is_single (more_tokens ns) ≡ true
 more_single [] = refl
 more_single (n ∷ ns) = more_single ns
 
-names_single : (ns : List ℕ) → is_single (names_pieces ns) ≡ true
+names_single : (ns : List ℕ) → is_single (names_tokens ns) ≡ true
 names_single [] = refl
 names_single (n ∷ ns) = more_single ns
 
-list_single : (b : Bool) (turned : Bool) (list : ℕ) → (list == 0) ≡ b → is_single (list_pieces turned list) ≡ true
+list_single : (b : Bool) (turned : Bool) (list : ℕ) → (list == 0) ≡ b → is_single (list_tokens turned list) ≡ true
 list_single true turned list is = rw is refl
 list_single false turned list is = rw is (names_single (listed turned list))
 
-pub led_single : (c : ℕ) (o : Operand68) → is_single (led_pieces c o) ≡ true
+pub led_single : (c : ℕ) (o : Operand68) → is_single (led_tokens c o) ≡ true
 led_single c operands.Nothing = refl
 led_single c (operands.Place size mode) = mode_single size mode
 led_single c (operands.Number size n) = number_single size n
 led_single c (operands.Registers turned list) = list_single (list == 0) turned list refl
 led_single c o = refl
 
-pub size_single : (size : Option Size) → is_single (size_pieces size) ≡ true
+pub size_single : (size : Option Size) → is_single (size_tokens size) ≡ true
 size_single None = refl
 size_single (Some Byte) = refl
 size_single (Some Word) = refl

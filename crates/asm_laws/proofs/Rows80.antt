@@ -7,25 +7,25 @@ use Rattle.md_disasm.specs.Rows80.{Row80}
 use Rattle.md_disasm.specs.Texts80.{led, row_text}
 use Rattle.md_disasm.specs.declared.operand80.Operand80.{Operand80}
 use Rattle.md_disasm.specs.declared.operand80.Operand80.TheVariants as operands
-use Rattle.md_asm_text.specs.Pieces as pieces
-use Rattle.md_asm_text.specs.Pieces.{Piece, every, is_worded, split}
-use Rattle.md_asm_text.proofs.Splits.{behind, is_end}
+use Rattle.md_asm_text.specs.Tokens as tokens
+use Rattle.md_asm_text.specs.Tokens.{Token, every, is_worded, split}
+use Rattle.md_asm_text.proofs.Splits.{following, is_end}
 use Rattle.md_asm.specs.Numbers.{filled}
-use Rattle.asm_z80.proofs.Operands.{operand_pieces, place_pieces, shown}
-use Rattle.asm_z80.proofs.Sources.{is_none, is_read, led_end, led_pieces, led_split, row_opens, row_pieces}
+use Rattle.asm_z80.proofs.Operands.{operand_tokens, place_tokens, shown}
+use Rattle.asm_z80.proofs.Sources.{is_none, is_read, led_end, led_tokens, led_split, row_opens, row_tokens}
 use Rattle.asm_laws.proofs.Fits.{filled_both, is_single, number_of}
 
 -- ---- a row falls into its tokens
 
-pub row_split : (row : Row80) → every is_worded row.name ≡ true → shown row.first ≡ true → shown row.second ≡ true → pieces.pieces (row_text row) ≡ row_pieces row
+pub row_split : (row : Row80) → every is_worded row.name ≡ true → shown row.first ≡ true → shown row.second ≡ true → tokens.tokens (row_text row) ≡ row_tokens row
 unfolding is_worded split
 row_split row named first second =
     let ends : is_end (led (codes ",") row.second ++ []) ≡ true = led_end (is_none row.second) 44 row.second [] refl refl refl in
     row_opens row named
-    ∙ behind _ _ _ (led_split (is_none row.first) 32 row.first (led (codes ",") row.second ++ []) refl refl first ends
-    ∙ ap (λ (l : List Piece). led_pieces 32 row.first ++ l) (led_split (is_none row.second) 44 row.second [] refl refl second refl ∙ append-nil (led_pieces 44 row.second)))
+    ∙ following _ _ _ (led_split (is_none row.first) 32 row.first (led (codes ",") row.second ++ []) refl refl first ends
+    ∙ ap (λ (l : List Token). led_tokens 32 row.first ++ l) (led_split (is_none row.second) 44 row.second [] refl refl second refl ∙ append-nil (led_tokens 44 row.second)))
 
-pub read_split : (row : Row80) → is_read row ≡ true → (shown row.first ≡ true) × (shown row.second ≡ true) × (pieces.pieces (row_text row) ≡ row_pieces row)
+pub read_split : (row : Row80) → is_read row ≡ true → (shown row.first ≡ true) × (shown row.second ≡ true) × (tokens.tokens (row_text row) ≡ row_tokens row)
 read_split row h =
     let a = and_parts (every is_worded row.name) (shown row.first && (shown row.second && (not (is_none row.first) || is_none row.second))) h in
     let b = and_parts (shown row.first) (shown row.second && (not (is_none row.first) || is_none row.second)) a.1 in
@@ -33,11 +33,11 @@ read_split row h =
     (b.0, c.0, row_split row a.0 b.0 c.0)
 
 -- without its second operand
-pub front_split : (row : Row80) → is_read row ≡ true → pieces.pieces (row_text (record row { second = operands.Nothing })) ≡ pieces.Word row.name ∷ led_pieces 32 row.first
+pub front_split : (row : Row80) → is_read row ≡ true → tokens.tokens (row_text (record row { second = operands.Nothing })) ≡ tokens.Word row.name ∷ led_tokens 32 row.first
 front_split row h =
     let a = and_parts (every is_worded row.name) (shown row.first && (shown row.second && (not (is_none row.first) || is_none row.second))) h in
     let b = and_parts (shown row.first) (shown row.second && (not (is_none row.first) || is_none row.second)) a.1 in
-    row_split (record row { second = operands.Nothing }) a.0 b.0 refl ∙ ap (λ (l : List Piece). pieces.Word row.name ∷ l) (append-nil (led_pieces 32 row.first))
+    row_split (record row { second = operands.Nothing }) a.0 b.0 refl ∙ ap (λ (l : List Token). tokens.Word row.name ∷ l) (append-nil (led_tokens 32 row.first))
 
 -- ---- 8 for the numbers
 
@@ -71,33 +71,33 @@ kept false o = operand_filled o
 abbrev pub row_kept : Bool → Bool → Row80 → Row80
 row_kept first second row = record { name = row.name; first = kept first row.first; second = kept second row.second }
 
-place_pieces_filled : (place : Place8) → filled (place_pieces place) ≡ place_pieces (place_filled place)
-place_pieces_filled places.A = refl
-place_pieces_filled _ = refl
+place_tokens_filled : (place : Place8) → filled (place_tokens place) ≡ place_tokens (place_filled place)
+place_tokens_filled places.A = refl
+place_tokens_filled _ = refl
 
-operand_pieces_filled : (o : Operand80) → filled (operand_pieces o) ≡ operand_pieces (operand_filled o)
-operand_pieces_filled (operands.Place place) = place_pieces_filled place
-operand_pieces_filled operands.Nothing = refl
-operand_pieces_filled _ = refl
+operand_tokens_filled : (o : Operand80) → filled (operand_tokens o) ≡ operand_tokens (operand_filled o)
+operand_tokens_filled (operands.Place place) = place_tokens_filled place
+operand_tokens_filled operands.Nothing = refl
+operand_tokens_filled _ = refl
 
-pub led_filled : (c : ℕ) (o : Operand80) → filled (led_pieces c o) ≡ led_pieces c (operand_filled o)
+pub led_filled : (c : ℕ) (o : Operand80) → filled (led_tokens c o) ≡ led_tokens c (operand_filled o)
 led_filled c operands.Nothing = refl
-led_filled c o = ap (λ (l : List Piece). pieces.Mark c ∷ l) (operand_pieces_filled o)
+led_filled c o = ap (λ (l : List Token). tokens.Mark c ∷ l) (operand_tokens_filled o)
 
-pub row_filled : (row : Row80) → filled (row_pieces row) ≡ row_pieces (row_kept false false row)
+pub row_filled : (row : Row80) → filled (row_tokens row) ≡ row_tokens (row_kept false false row)
 row_filled row =
-    ap (λ (l : List Piece). pieces.Word row.name ∷ l)
-    (filled_both (led_pieces 32 row.first) (led_pieces 44 row.second)
-    ∙ ap (λ (l : List Piece). l ++ filled (led_pieces 44 row.second)) (led_filled 32 row.first)
-    ∙ ap (λ (l : List Piece). led_pieces 32 (operand_filled row.first) ++ l) (led_filled 44 row.second))
+    ap (λ (l : List Token). tokens.Word row.name ∷ l)
+    (filled_both (led_tokens 32 row.first) (led_tokens 44 row.second)
+    ∙ ap (λ (l : List Token). l ++ filled (led_tokens 44 row.second)) (led_filled 32 row.first)
+    ∙ ap (λ (l : List Token). led_tokens 32 (operand_filled row.first) ++ l) (led_filled 44 row.second))
 
 -- ---- the number of an operand
 
-place_single : (place : Place8) → is_single (place_pieces place) ≡ true
+place_single : (place : Place8) → is_single (place_tokens place) ≡ true
 place_single places.A = refl
 place_single _ = refl
 
-pub led_single : (c : ℕ) (o : Operand80) → is_single (led_pieces c o) ≡ true
+pub led_single : (c : ℕ) (o : Operand80) → is_single (led_tokens c o) ≡ true
 led_single c operands.Nothing = refl
 led_single c (operands.Place place) = place_single place
 led_single c o = refl
@@ -132,14 +132,14 @@ same_filled (operands.Word n) h = cc
 same_filled (operands.AtWord address) h = cc
 same_filled o h = refl
 
-place_number : (place : Place8) → place_numbered place ≡ false → number_of (place_pieces place) ≡ None
+place_number : (place : Place8) → place_numbered place ≡ false → number_of (place_tokens place) ≡ None
 place_number (places.AtIx by) h = cc
 place_number (places.AtIy by) h = cc
 place_number (places.At address) h = cc
 place_number (places.Number n) h = cc
 place_number place h = refl
 
-pub no_number : (c : ℕ) (o : Operand80) → is_numbered o ≡ false → number_of (led_pieces c o) ≡ None
+pub no_number : (c : ℕ) (o : Operand80) → is_numbered o ≡ false → number_of (led_tokens c o) ≡ None
 no_number c operands.Nothing h = refl
 no_number c (operands.Place place) h = place_number place h
 no_number c (operands.Byte n) h = cc

@@ -10,13 +10,13 @@ use Rattle.m68k_decode.specs.declared.condition.Condition.{Condition}
 use Rattle.m68k_decode.specs.declared.condition.Condition.TheVariants as conditions
 use Rattle.m68k_decode.specs.declared.op.Op.{Op}
 use Rattle.m68k_decode.specs.declared.op.Op.TheVariants as ops
-use Rattle.md_asm_text.specs.Pieces.{Piece}
+use Rattle.md_asm_text.specs.Tokens.{Token}
 use Rattle.asm_m68k.specs.Encoding.{extension, first_word, mode_words, number_words}
 use Rattle.asm_m68k.specs.Reading.{read_source}
 use Rattle.asm_m68k.specs.declared.form.Form.{Form}
 use Rattle.asm_m68k.specs.Building as building
-use Rattle.asm_m68k.specs.Building.{Entry, base, bit, built, by_word, displacement, either, immediate, list, list_with, meant, move, movem, movep, number, offset, quick, register, shift, stem_in, stem_of, sum, table, written}
-use Rattle.asm_m68k.specs.Judged.{tried}
+use Rattle.asm_m68k.specs.Building.{Entry, base, bit, built, by_word, displacement, either, immediate, list, list_with, meant, move, movem, movep, number, offset, quick, register, shift, mnemonic_in, mnemonic_of, sum, table, written}
+use Rattle.asm_m68k.specs.Checked.{tried}
 use Rattle.asm_m68k.specs.Table.{AreWords}
 use Rattle.asm_laws.proofs.Low68.{cons_low, append_low, mode_low, none_low, size_low}
 use Rattle.asm_laws.proofs.Sound68.{AreLongs, IsSound, read_sound}
@@ -295,7 +295,7 @@ module _ (size : Size) (first second : Form) (f : IsSound first) (s : IsSound se
   -- so are those of all names of the table
   abbrev AreWhole : List Entry → ℕ → Type 0
   AreWhole [] at = Unit {0}
-  AreWhole (entry ∷ more) at = IsWhole (built entry.stem size first second at) × AreWhole more at
+  AreWhole (entry ∷ more) at = IsWhole (built entry.mnemonic size first second at) × AreWhole more at
 
   table_whole : (at : ℕ) → AreWhole table at
   unfolding built
@@ -420,21 +420,21 @@ module _ (size : Size) (first second : Form) (f : IsSound first) (s : IsSound se
       also unlk_whole
       also tt
 
-  stem_whole : (entries : List Entry) (text : List ℕ) (at : ℕ) → AreWhole entries at → IsWhole (built (stem_in entries text) size first second at)
-  unfolding stem_in built
-  stem_whole [] text at h = nop_whole
-  stem_whole (entry ∷ more) text at h = by (bytes_eq entry.text text) (h.0) (stem_whole more text at (h.1))
+  mnemonic_whole : (entries : List Entry) (text : List ℕ) (at : ℕ) → AreWhole entries at → IsWhole (built (mnemonic_in entries text) size first second at)
+  unfolding mnemonic_in built
+  mnemonic_whole [] text at h = nop_whole
+  mnemonic_whole (entry ∷ more) text at h = by (bytes_eq entry.text text) (h.0) (mnemonic_whole more text at (h.1))
     where
-      by : (b : Bool) → IsWhole (built entry.stem size first second at) → IsWhole (built (stem_in more text) size first second at)
-          → IsWhole (built (if b then entry.stem else stem_in more text) size first second at)
+      by : (b : Bool) → IsWhole (built entry.mnemonic size first second at) → IsWhole (built (mnemonic_in more text) size first second at)
+          → IsWhole (built (if b then entry.mnemonic else mnemonic_in more text) size first second at)
       by true own rest = own
       by false own rest = rest
 
 -- what is tried for tokens whose numbers have 32 bits
-pub tried_words : (line_tokens : List Piece) (at : ℕ) → AreLongs line_tokens → AreWords (tried line_tokens at)
-unfolding meant stem_of
+pub tried_words : (line_tokens : List Token) (at : ℕ) → AreLongs line_tokens → AreWords (tried line_tokens at)
+unfolding meant mnemonic_of
 tried_words line_tokens at h =
     let source = read_sound line_tokens h in
-    let whole = stem_whole (written (read_source line_tokens).size) (read_source line_tokens).first (read_source line_tokens).second source.first source.second table (read_source line_tokens).stem at
+    let whole = mnemonic_whole (written (read_source line_tokens).size) (read_source line_tokens).first (read_source line_tokens).second source.first source.second table (read_source line_tokens).mnemonic at
     (table_whole (written (read_source line_tokens).size) (read_source line_tokens).first (read_source line_tokens).second source.first source.second at) in
     cons_low (first_word (meant (read_source line_tokens) at)) (extension (meant (read_source line_tokens) at)) whole.first whole.more

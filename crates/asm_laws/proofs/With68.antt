@@ -25,7 +25,7 @@ use Rattle.asm_laws.specs.Ranges.{main_allows, mode_limit}
 use Rattle.asm_laws.proofs.Among.{at_most, below, no_number}
 use Rattle.asm_laws.proofs.First68.{high_low, high_with, low_low, low_with, moveq_row, quick_row, trap_row}
 use Rattle.asm_laws.proofs.Low68.{cons_low}
-use Rattle.asm_laws.proofs.Put68.{high_put, high_same, low_put, low_same, mode_few, number_few, number_put, number_same, same_behind, same_front, with_counted}
+use Rattle.asm_laws.proofs.Put68.{high_put, high_same, low_put, low_same, mode_few, number_few, number_put, number_same, same_after, same_front, with_counted}
 use Rattle.asm_laws.proofs.Reach68.{AreOf, IsDecoded, IsReached, bcc_by, bra_by, bsr_by, byte_under, dbcc_decoded, near, own_decoded, reach, word_under}
 use Rattle.asm_laws.proofs.Rows68.{mode_with, operand_with}
 
@@ -84,17 +84,17 @@ number_first size n w tail fits all =
       rest = p.rest;
       all = p.put.all;
       number = p.is;
-      mode = low_same size k w p.rest tail (same_behind 1 (words_of_number size) k (words_of_mode size mode) w tail p.rest p.put (omega arith) (omega (arith, few, short)));
+      mode = low_same size k w p.rest tail (same_after 1 (words_of_number size) k (words_of_mode size mode) w tail p.rest p.put (omega arith) (omega (arith, few, short)));
     }
 
-record IsModeBehind (size : Size) (n w : ℕ) (tail : List ℕ) : Type 0 where
+record IsModeAfter (size : Size) (n w : ℕ) (tail : List ℕ) : Type 0 where
   rest : List ℕ
   all : AreWords (w ∷ rest)
   number : number_at size 1 (w ∷ rest) ≡ number_at size 1 (w ∷ tail)
   mode : low_mode size (1 + words_of_number size) (w ∷ rest) ≡ mode_with n (low_mode size (1 + words_of_number size) (w ∷ tail))
 
-mode_behind : (size : Size) (n w : ℕ) (tail : List ℕ) → nat_lt n (mode_limit size (low_mode size (1 + words_of_number size) (w ∷ tail))) ≡ true → AreWords (w ∷ tail) → IsModeBehind size n w tail
-mode_behind size n w tail fits all =
+mode_after : (size : Size) (n w : ℕ) (tail : List ℕ) → nat_lt n (mode_limit size (low_mode size (1 + words_of_number size) (w ∷ tail))) ≡ true → AreWords (w ∷ tail) → IsModeAfter size n w tail
+mode_after size n w tail fits all =
     let k = 1 + words_of_number size in
     let short = number_few size in
     let p = low_put size k n w tail (omega arith) (omega (arith, short)) all fits in record {
@@ -105,15 +105,15 @@ mode_behind size n w tail fits all =
     }
 
 -- after one word, whatever the mode's size
-record IsBehindWord (size : Size) (n w : ℕ) (tail : List ℕ) : Type 0 where
+record IsAfterWord (size : Size) (n w : ℕ) (tail : List ℕ) : Type 0 where
   rest : List ℕ
   all : AreWords (w ∷ rest)
   byte : number_at Byte 1 (w ∷ rest) ≡ number_at Byte 1 (w ∷ tail)
   word : number_at Word 1 (w ∷ rest) ≡ number_at Word 1 (w ∷ tail)
   mode : low_mode size 2 (w ∷ rest) ≡ mode_with n (low_mode size 2 (w ∷ tail))
 
-behind_word : (size : Size) (n w : ℕ) (tail : List ℕ) → nat_lt n (mode_limit size (low_mode size 2 (w ∷ tail))) ≡ true → AreWords (w ∷ tail) → IsBehindWord size n w tail
-behind_word size n w tail fits all =
+following_word : (size : Size) (n w : ℕ) (tail : List ℕ) → nat_lt n (mode_limit size (low_mode size 2 (w ∷ tail))) ≡ true → AreWords (w ∷ tail) → IsAfterWord size n w tail
+following_word size n w tail fits all =
     let p = low_put size 2 n w tail (omega arith) (omega arith) all fits in
     let same = same_front 2 (words_of_mode size (low_mode size 2 (w ∷ tail))) 1 1 w tail p.rest p.put (omega arith) (omega arith) in record {
       rest = p.rest;
@@ -142,7 +142,7 @@ source_put size n w tail fits all =
       rest = p.rest;
       all = p.put.all;
       source_is = p.is;
-      target_is = high_same size (1 + count) w p.rest tail (same_behind 1 count (1 + count) (words_of_mode size target) w tail p.rest p.put (omega arith) (omega (arith, few, too)));
+      target_is = high_same size (1 + count) w p.rest tail (same_after 1 count (1 + count) (words_of_mode size target) w tail p.rest p.put (omega arith) (omega (arith, few, too)));
     }
 
 target_put : (size : Size) (n w : ℕ) (tail : List ℕ) → nat_lt n (mode_limit size (high_mode size (1 + words_of_mode size (low_mode size 1 (w ∷ tail))) (w ∷ tail))) ≡ true → AreWords (w ∷ tail)
@@ -261,7 +261,7 @@ module _ (at n : ℕ) (a : at < 4294967296) where
   first_there rows.MoveToSr w tail of h = let p = low_put Word 1 n w tail (omega arith) (omega arith) of.all h in there rows.MoveToSr w tail p.rest at _ a of p.put.all (rw p.is refl)
   first_there rows.Nbcd w tail of h = let p = low_put Byte 1 n w tail (omega arith) (omega arith) of.all h in there rows.Nbcd w tail p.rest at _ a of p.put.all (rw p.is refl)
   first_there rows.Pea w tail of h = let p = low_put Long 1 n w tail (omega arith) (omega arith) of.all h in there rows.Pea w tail p.rest at _ a of p.put.all (rw p.is refl)
-  first_there rows.MovemToRegisters w tail of h = let p = behind_word (word_or_long 64 (w ∷ tail)) n w tail h of.all in there rows.MovemToRegisters w tail p.rest at _ a of p.all (rw (p.word, p.mode) refl)
+  first_there rows.MovemToRegisters w tail of h = let p = following_word (word_or_long 64 (w ∷ tail)) n w tail h of.all in there rows.MovemToRegisters w tail p.rest at _ a of p.all (rw (p.word, p.mode) refl)
   first_there rows.Tst w tail of h = let p = low_put (size_of (w ∷ tail)) 1 n w tail (omega arith) (omega arith) of.all h in there rows.Tst w tail p.rest at _ a of p.put.all (rw p.is refl)
   first_there rows.Tas w tail of h = let p = low_put Byte 1 n w tail (omega arith) (omega arith) of.all h in there rows.Tas w tail p.rest at _ a of p.put.all (rw p.is refl)
   first_there rows.Trap w tail of h = let k = below n 16 h in other rows.Trap w (0x4e40 + n) tail at _ a of (vector_fits n k) (trap_row n k) (rw (vector_is n k) refl)
@@ -307,15 +307,15 @@ module _ (at n : ℕ) (a : at < 4294967296) where
   pub second_there : (row : Row) (w : ℕ) (tail : List ℕ) → AreOf row w tail → main_allows (made row (w ∷ tail)).op (row_of (made row (w ∷ tail)).op at).second n ≡ true
       → IsSomewhere (second_with n (row_of (made row (w ∷ tail)).op at))
   unfolding made high_register low_register size_of word_or_long paired quick condition_of
-  second_there (rows.Immediate own) w tail of h = let p = mode_behind (size_of (w ∷ tail)) n w tail h of.all in there (rows.Immediate own) w tail p.rest at _ a of p.all (rw (p.number, p.mode) refl)
-  second_there rows.CompareImmediate w tail of h = let p = mode_behind (size_of (w ∷ tail)) n w tail h of.all in there rows.CompareImmediate w tail p.rest at _ a of p.all (rw (p.number, p.mode) refl)
+  second_there (rows.Immediate own) w tail of h = let p = mode_after (size_of (w ∷ tail)) n w tail h of.all in there (rows.Immediate own) w tail p.rest at _ a of p.all (rw (p.number, p.mode) refl)
+  second_there rows.CompareImmediate w tail of h = let p = mode_after (size_of (w ∷ tail)) n w tail h of.all in there rows.CompareImmediate w tail p.rest at _ a of p.all (rw (p.number, p.mode) refl)
   second_there (rows.BitByRegister own) w tail of h = let p = low_put Byte 1 n w tail (omega arith) (omega arith) of.all h in there (rows.BitByRegister own) w tail p.rest at _ a of p.put.all (rw p.is refl)
-  second_there (rows.BitByNumber own) w tail of h = let p = behind_word Byte n w tail h of.all in there (rows.BitByNumber own) w tail p.rest at _ a of p.all (rw (p.byte, p.mode) refl)
+  second_there (rows.BitByNumber own) w tail of h = let p = following_word Byte n w tail h of.all in there (rows.BitByNumber own) w tail p.rest at _ a of p.all (rw (p.byte, p.mode) refl)
   second_there rows.MovepToMemory w tail of h = let p = number_first Word n w tail h of.all in there rows.MovepToMemory w tail p.rest at _ a of p.all (rw p.number refl)
   second_there (rows.Move size) w tail of h = let p = target_put size n w tail h of.all in there (rows.Move size) w tail p.rest at _ a of p.all (rw (p.source_is, p.target_is) refl)
   second_there rows.MoveFromSr w tail of h = let p = low_put Word 1 n w tail (omega arith) (omega arith) of.all h in there rows.MoveFromSr w tail p.rest at _ a of p.put.all (rw p.is refl)
   second_there rows.MovemToMemory w tail of h =
-      let p = behind_word (word_or_long 64 (w ∷ tail)) n w tail h of.all in
+      let p = following_word (word_or_long 64 (w ∷ tail)) n w tail h of.all in
       there rows.MovemToMemory w tail p.rest at _ a of p.all (rw (p.word, p.mode, turned_with n (low_mode (word_or_long 64 (w ∷ tail)) 2 (w ∷ tail))) refl)
   second_there rows.Link w tail of h = let p = number_first Word n w tail h of.all in there rows.Link w tail p.rest at _ a of p.all (rw p.number refl)
   second_there (rows.Quick own) w tail of h = let p = low_put (size_of (w ∷ tail)) 1 n w tail (omega arith) (omega arith) of.all h in there (rows.Quick own) w tail p.rest at _ a of p.put.all (rw p.is refl)

@@ -5,8 +5,8 @@ use Rattle.std.specs.Prelude.{◌≡◌, ◌⊎◌, ℕ, ◌<◌, ◌/◌, ◌%�
 use Rattle.m68k_decode.specs.Nested.{nested}
 use Rattle.z80_decode.specs.Instructions.{instruction_of}
 use Rattle.md_disasm.specs.Texts80.{text_of}
-use Rattle.md_asm_text.specs.Pieces.{Piece, pieces}
-use Rattle.asm_m68k.specs.Said as main
+use Rattle.md_asm_text.specs.Tokens.{Token, tokens}
+use Rattle.asm_m68k.specs.RoundTrips as main
 use Rattle.asm_m68k.specs.Table.{AreWords, IsInstruction}
 use Rattle.asm_z80.specs.Coded80.{AreBytes}
 use Rattle.asm_z80.specs.Instruction.{is_db}
@@ -15,9 +15,9 @@ use Rattle.asm_z80.specs.Instruction.{is_db}
 
 -- bytes say tokens at an address: whatever follows them, they are an instruction of their length whose text has
 -- these tokens
-pub record Says (bytes : List ℕ) (line_tokens : List Piece) (at : ℕ) : Type 0 where
+pub record Says (bytes : List ℕ) (line_tokens : List Token) (at : ℕ) : Type 0 where
   pub instruction : is_db (instruction_of bytes).op ≡ false
-  pub text : (rest : List ℕ) → AreBytes rest → pieces (text_of (instruction_of (bytes ++ rest)) at) ≡ line_tokens
+  pub text : (rest : List ℕ) → AreBytes rest → tokens (text_of (instruction_of (bytes ++ rest)) at) ≡ line_tokens
   pub whole : (rest : List ℕ) → AreBytes rest → (instruction_of (bytes ++ rest)).length ≡ length bytes
 
 -- after DD CB d and FD CB d the manual has the codes of (HL) alone, and none of SLL
@@ -37,7 +37,7 @@ IsPassed other bytes =
     × ((is_manual bytes ≡ true) ⊎ ((length bytes < length other) ⊎ ((length bytes ≡ length other) × IsBefore bytes other)))
 
 -- they say the tokens, and all others that do are passed over
-pub record AreChosen (bytes : List ℕ) (line_tokens : List Piece) (at : ℕ) : Type 0 where
+pub record AreChosen (bytes : List ℕ) (line_tokens : List Token) (at : ℕ) : Type 0 where
   pub text : Says bytes line_tokens at
   pub best : (other : List ℕ) → AreBytes other → Says other line_tokens at → (other ≡ bytes) ⊎ IsPassed other bytes
 
@@ -45,7 +45,7 @@ pub record AreChosen (bytes : List ℕ) (line_tokens : List Piece) (at : ℕ) : 
 
 -- words of an instruction of the 68000 say the tokens, and all others that do are as long and come later: those of
 -- other bits that the processor does not look at
-pub record AreLeast (words : List ℕ) (line_tokens : List Piece) (at : ℕ) : Type 0 where
+pub record AreLeast (words : List ℕ) (line_tokens : List Token) (at : ℕ) : Type 0 where
   pub instruction : IsInstruction (nested (slice_index words 0))
   pub text : main.Says words line_tokens at
   pub best : (other : List ℕ) → AreWords other → IsInstruction (nested (slice_index other 0)) → main.Says other line_tokens at

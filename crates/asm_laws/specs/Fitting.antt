@@ -1,6 +1,6 @@
 -- The numbers of a source that is assembled.
 use Rattle.std.specs.Prelude.{◌≡◌, ℕ, true, List, [], ◌∷◌}
-use Rattle.md_asm_text.specs.Pieces.{Number, pieces}
+use Rattle.md_asm_text.specs.Tokens.{Number, tokens}
 use Rattle.md_asm_text.specs.Texts.{lines as lines_of}
 use Rattle.md_asm.specs.Numbers.{Names, resolved}
 use Rattle.md_asm.specs.Assembly.{is_instruction}
@@ -11,8 +11,8 @@ use Rattle.asm_laws.specs.Ranges.{IsInRange}
 -- each number of a line that is an instruction, with the value of each name, is in the range of its place
 abbrev pub IsFitting : Names → Slot → Type 0
 IsFitting names slot =
-    is_instruction slot.body ≡ true → (place n : ℕ) → StandsIn (resolved names (pieces slot.text)) place (Number n)
-    → IsInRange slot.sub (resolved names (pieces slot.text)) place n
+    is_instruction slot.body ≡ true → (place n : ℕ) → StandsIn (resolved names (tokens slot.text)) place (Number n)
+    → IsInRange slot.sub (resolved names (tokens slot.text)) place n
 
 abbrev pub AreFitting : Names → List Slot → Type 0
 AreFitting names [] = Unit {0}

@@ -24,7 +24,7 @@ use Rattle.md_disasm.specs.declared.operand68.Operand68.{Operand68}
 use Rattle.md_disasm.specs.declared.operand68.Operand68.TheVariants as operands
 use Rattle.md_disasm.specs.declared.operand80.Operand80.{Operand80}
 use Rattle.md_disasm.specs.declared.operand80.Operand80.TheVariants as sub_operands
-use Rattle.md_asm_text.specs.Pieces.{Number, Piece, pieces}
+use Rattle.md_asm_text.specs.Tokens.{Number, Token, tokens}
 use Rattle.asm_laws.specs.Forms.{IsMainForm, IsSubForm, StandsIn}
 
 -- ---- the 68000
@@ -56,7 +56,7 @@ main_allows op operand n = false
 
 -- the operand in which a place of a row's text lies: the first, or the second after it
 abbrev pub main_operand : Row68 → ℕ → Operand68
-main_operand row place = if nat_lt place (length (pieces (main_texts.row_text (record row { second = operands.Nothing })))) then row.first else row.second
+main_operand row place = if nat_lt place (length (tokens (main_texts.row_text (record row { second = operands.Nothing })))) then row.first else row.second
 
 -- ---- the Z80
 
@@ -84,25 +84,25 @@ sub_allows op operand n = false
 
 -- the operand in which a place of a row's text lies: the first, or the second after it
 abbrev pub sub_operand : Row80 → ℕ → Operand80
-sub_operand row place = if nat_lt place (length (pieces (sub_texts.row_text (record row { second = sub_operands.Nothing })))) then row.first else row.second
+sub_operand row place = if nat_lt place (length (tokens (sub_texts.row_text (record row { second = sub_operands.Nothing })))) then row.first else row.second
 
 -- ---- a line's number
 
 -- an instruction of the 68000 of this form has some number at a place of its text, and there this one is allowed too
-pub record IsMainRange (line_tokens : List Piece) (place n word : ℕ) (tail : List ℕ) (at : ℕ) : Type 0 where
+pub record IsMainRange (line_tokens : List Token) (place n word : ℕ) (tail : List ℕ) (at : ℕ) : Type 0 where
   pub form : IsMainForm line_tokens word tail at
   pub own : ℕ
-  pub stands : StandsIn (pieces (main_texts.text_of (main.instruction_of (word ∷ tail)) at)) place (Number own)
+  pub stands : StandsIn (tokens (main_texts.text_of (main.instruction_of (word ∷ tail)) at)) place (Number own)
   pub allowed : main_allows (main.instruction_of (word ∷ tail)).op (main_operand (main_rows.row_of (main.instruction_of (word ∷ tail)).op at) place) n ≡ true
 
 -- one of the Z80 has
-pub record IsSubRange (line_tokens : List Piece) (place n : ℕ) (bytes : List ℕ) (at : ℕ) : Type 0 where
+pub record IsSubRange (line_tokens : List Token) (place n : ℕ) (bytes : List ℕ) (at : ℕ) : Type 0 where
   pub form : IsSubForm line_tokens bytes at
   pub own : ℕ
-  pub stands : StandsIn (pieces (sub_texts.text_of (sub.instruction_of bytes) at)) place (Number own)
+  pub stands : StandsIn (tokens (sub_texts.text_of (sub.instruction_of bytes) at)) place (Number own)
   pub allowed : sub_allows (sub.instruction_of bytes).op (sub_operand (sub_rows.row_of (sub.instruction_of bytes).op at) place) n ≡ true
 
 -- a number is in the range of its place in a line of the processor
-abbrev pub IsInRange : Bool → List Piece → ℕ → ℕ → Type 0
+abbrev pub IsInRange : Bool → List Token → ℕ → ℕ → Type 0
 IsInRange true line_tokens place n = (bytes : List ℕ) × (at : ℕ) × IsSubRange line_tokens place n bytes at
 IsInRange false line_tokens place n = (word : ℕ) × (tail : List ℕ) × (at : ℕ) × IsMainRange line_tokens place n word tail at

@@ -5,7 +5,7 @@ ghost use Rattle.m68k_decode.specs.Instructions as main;
 ghost use Rattle.z80_decode.specs.Instructions as sub;
 ghost use Rattle.md_disasm.specs.Texts68 as main_texts;
 ghost use Rattle.md_disasm.specs.Texts80 as sub_texts;
-ghost use Rattle.md_asm_text.specs.Pieces.{Number, Piece};
+ghost use Rattle.md_asm_text.specs.Tokens.{Number, Token};
 ghost use Rattle.asm_m68k.specs.Table.{AreWords};
 ghost use Rattle.asm_z80.specs.Coded80.{AreBytes};
 ghost use Rattle.asm_z80.specs.Instruction.{is_db};
@@ -43,16 +43,16 @@ pub fn instructions_are_kept()
 /// A line that is no directive has a length exactly where it has the form of some instruction, which is as long; and a number
 /// fits exactly where some instruction of the line's form has it at its place, at some address.
 pub fn forms_are_known()
-    ensures size { (z80 : Bool) (line_tokens : List Piece) (long : ℕ) → (size z80 Instruction line_tokens ≡ Some long) ↔ IsForm z80 line_tokens long }
-    ensures fits { (z80 : Bool) (line_tokens : List Piece) (place n : ℕ) → HasNumber z80 line_tokens place n → misfit z80 line_tokens place (Number n) ≡ false }
-    ensures fits_only { (z80 : Bool) (line_tokens : List Piece) (place n : ℕ) → n < 4294967296 → StandsIn line_tokens place (Number n) → misfit z80 line_tokens place (Number n) ≡ false
+    ensures size { (z80 : Bool) (line_tokens : List Token) (long : ℕ) → (size z80 Instruction line_tokens ≡ Some long) ↔ IsForm z80 line_tokens long }
+    ensures fits { (z80 : Bool) (line_tokens : List Token) (place n : ℕ) → HasNumber z80 line_tokens place n → misfit z80 line_tokens place (Number n) ≡ false }
+    ensures fits_only { (z80 : Bool) (line_tokens : List Token) (place n : ℕ) → n < 4294967296 → StandsIn line_tokens place (Number n) → misfit z80 line_tokens place (Number n) ≡ false
         → HasNumber z80 line_tokens place n }
 {}
 
 /// The numbers that instructions of a line's form have at a place are those in the range of that place: a byte, a word or a
 /// long, 1 to 8, 0 to 15, a multiple of 8 up to 38h, a displacement or an address, by the operand that the place lies in.
 pub fn numbers_have_their_range()
-    ensures { (z80 : Bool) (line_tokens : List Piece) (place n : ℕ) → HasNumber z80 line_tokens place n ↔ IsInRange z80 line_tokens place n }
+    ensures { (z80 : Bool) (line_tokens : List Token) (place n : ℕ) → HasNumber z80 line_tokens place n ↔ IsInRange z80 line_tokens place n }
 {}
 
 /// In a source that has an image each number of an instruction, with the value of each name, is in the range of its place.

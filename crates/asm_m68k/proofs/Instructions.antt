@@ -22,13 +22,13 @@ use Rattle.md_disasm.specs.Operands68.{condition_name}
 use Rattle.md_disasm.specs.Rows68.{is_turned, row_of, size_of, target}
 use Rattle.md_disasm.specs.Texts68.{row_text}
 use Rattle.md_disasm.specs.declared.operand68.Operand68.TheVariants as operands
-use Rattle.md_asm_text.specs.Pieces.{every, is_worded, opened, split}
+use Rattle.md_asm_text.specs.Tokens.{every, is_worded, opened, split}
 use Rattle.asm_m68k.specs.Reading.{Source, read_source}
-use Rattle.asm_m68k.specs.Building.{built, meant, stem_in, stem_of, register, number, quick, displacement, base, by_word, either, is_ccr, is_data, is_sr, is_usp, offset, is_list, list, list_with, turned}
+use Rattle.asm_m68k.specs.Building.{built, meant, mnemonic_in, mnemonic_of, register, number, quick, displacement, base, by_word, either, is_ccr, is_data, is_sr, is_usp, offset, is_list, list, list_with, turned}
 use Rattle.asm_m68k.specs.Building as building
 use Rattle.asm_m68k.specs.Table.{IsBit, IsDecimal, IsExtended, IsImmediate, IsLogic, IsQuick, IsShift, IsSum, IsUnary}
 use Rattle.asm_m68k.specs.declared.form.Form.TheVariants as forms
-use Rattle.asm_m68k.specs.declared.stem.Stem.TheVariants as stems
+use Rattle.asm_m68k.specs.declared.mnemonic.Mnemonic.TheVariants as stems
 use Rattle.asm_m68k.proofs.Operands.{IsWritten, form_of_mode, form_of_number}
 use Rattle.asm_m68k.proofs.Lists.{down_whole, list_form, listed, register_masks, names_form, up_whole}
 use Rattle.asm_m68k.proofs.Sources.{row_of_one, row_of_two}
@@ -208,7 +208,7 @@ abbrev pub again : Op → ℕ → Op
 again op at = meant (read_source (opened [] (row_text (row_of op at)))) at
 
 pub immediate_again : (task : Task) (size : Size) (n : ℕ) (mode : Mode) (at : ℕ) → IsImmediate task → n < modulus_of size → IsRead size mode → again (ops.Immediate task size n mode) at ≡ ops.Immediate task size n mode
-unfolding meant built stem_of stem_in is_worded base either offset
+unfolding meant built mnemonic_of mnemonic_in is_worded base either offset
 immediate_again tasks.Or size n mode at is h m =
     ap (λ (s : Source). meant s at) (row_of_two (row_of (ops.Immediate tasks.Or size n mode) at) refl (fits_long size n h) (m.registers, m.written) refl refl)
     ∙ rw (not_ccr size mode, not_sr size mode, number_is size n h, mode_back size mode m) refl
@@ -227,13 +227,13 @@ immediate_again tasks.Eor size n mode at is h m =
 immediate_again _ size n mode at is h m = absurd is
 
 pub compare_again : (size : Size) (n : ℕ) (mode : Mode) (at : ℕ) → n < modulus_of size → IsRead size mode → again (ops.CompareImmediate size n mode) at ≡ ops.CompareImmediate size n mode
-unfolding meant built stem_of stem_in is_worded base either offset
+unfolding meant built mnemonic_of mnemonic_in is_worded base either offset
 compare_again size n mode at h m =
     ap (λ (s : Source). meant s at) (row_of_two (row_of (ops.CompareImmediate size n mode) at) refl (fits_long size n h) (m.registers, m.written) refl refl)
     ∙ rw (number_is size n h, mode_back size mode m) refl
 
 pub ccr_again : (task : Task) (n : ℕ) (at : ℕ) → IsLogic task → n < 256 → again (ops.ImmediateToCcr task n) at ≡ ops.ImmediateToCcr task n
-unfolding meant built stem_of stem_in is_worded base either offset
+unfolding meant built mnemonic_of mnemonic_in is_worded base either offset
 ccr_again tasks.Or n at is h =
     ap (λ (s : Source). meant s at) (row_of_two (row_of (ops.ImmediateToCcr tasks.Or n) at) refl (omega arith) tt refl refl)
     ∙ rw (byte_is n h) refl
@@ -246,7 +246,7 @@ ccr_again tasks.Eor n at is h =
 ccr_again _ n at is h = absurd is
 
 pub sr_again : (task : Task) (n : ℕ) (at : ℕ) → IsLogic task → n < 65536 → again (ops.ImmediateToSr task n) at ≡ ops.ImmediateToSr task n
-unfolding meant built stem_of stem_in is_worded base either offset
+unfolding meant built mnemonic_of mnemonic_in is_worded base either offset
 sr_again tasks.Or n at is h =
     ap (λ (s : Source). meant s at) (row_of_two (row_of (ops.ImmediateToSr tasks.Or n) at) refl (omega arith) tt refl refl)
     ∙ rw (word_is n h) refl
@@ -259,7 +259,7 @@ sr_again tasks.Eor n at is h =
 sr_again _ n at is h = absurd is
 
 pub bit_register_again : (task : Task) (n : ℕ) (mode : Mode) (at : ℕ) → IsBit task → n < 8 → IsRead Byte mode → again (ops.BitByRegister task n mode) at ≡ ops.BitByRegister task n mode
-unfolding meant built stem_of stem_in is_worded base either offset
+unfolding meant built mnemonic_of mnemonic_in is_worded base either offset
 bit_register_again tasks.Btst n mode at is h m =
     ap (λ (s : Source). meant s at) (row_of_two (row_of (ops.BitByRegister tasks.Btst n mode) at) refl h (m.registers, m.written) refl refl)
     ∙ rw (data_back n h, mode_back Byte mode m) refl
@@ -275,7 +275,7 @@ bit_register_again tasks.Bset n mode at is h m =
 bit_register_again _ n mode at is h m = absurd is
 
 pub bit_number_again : (task : Task) (n : ℕ) (mode : Mode) (at : ℕ) → IsBit task → n < 256 → IsRead Byte mode → again (ops.BitByNumber task n mode) at ≡ ops.BitByNumber task n mode
-unfolding meant built stem_of stem_in is_worded base either offset
+unfolding meant built mnemonic_of mnemonic_in is_worded base either offset
 bit_number_again tasks.Btst n mode at is h m =
     ap (λ (s : Source). meant s at) (row_of_two (row_of (ops.BitByNumber tasks.Btst n mode) at) refl (omega arith) (m.registers, m.written) refl refl)
     ∙ rw (byte_is n h, mode_back Byte mode m) refl
@@ -291,31 +291,31 @@ bit_number_again tasks.Bset n mode at is h m =
 bit_number_again _ n mode at is h m = absurd is
 
 pub movep_load_again : (size : Size) (x y d : ℕ) (at : ℕ) → x < 8 → y < 8 → d < 65536 → again (ops.MovepToRegister size x y d) at ≡ ops.MovepToRegister size x y d
-unfolding meant built stem_of stem_in is_worded base either offset
+unfolding meant built mnemonic_of mnemonic_in is_worded base either offset
 movep_load_again size x y d at h k l =
     ap (λ (s : Source). meant s at) (row_of_two (row_of (ops.MovepToRegister size x y d) at) refl (k, l) h refl refl)
     ∙ rw (data_back x h, mod-eq_of_lt l) refl
 
 pub movep_store_again : (size : Size) (x y d : ℕ) (at : ℕ) → x < 8 → y < 8 → d < 65536 → again (ops.MovepToMemory size x y d) at ≡ ops.MovepToMemory size x y d
-unfolding meant built stem_of stem_in is_worded base either offset
+unfolding meant built mnemonic_of mnemonic_in is_worded base either offset
 movep_store_again size x y d at h k l =
     ap (λ (s : Source). meant s at) (row_of_two (row_of (ops.MovepToMemory size x y d) at) refl h (k, l) refl refl)
     ∙ rw (data_back x h, mod-eq_of_lt l) refl
 
 pub move_again : (size : Size) (from to : Mode) (at : ℕ) → IsRead size from → IsRead size to → again (ops.Move size from to) at ≡ ops.Move size from to
-unfolding meant built stem_of stem_in is_worded base either offset
+unfolding meant built mnemonic_of mnemonic_in is_worded base either offset
 move_again size from to at f t =
     ap (λ (s : Source). meant s at) (row_of_two (row_of (ops.Move size from to) at) refl (f.registers, f.written) (t.registers, t.written) refl refl)
     ∙ rw (not_sr size from, not_usp size from, not_ccr size to, not_sr size to, not_usp size to, mode_back size from f, mode_back size to t) refl
 
 pub movea_again : (size : Size) (n : ℕ) (mode : Mode) (at : ℕ) → n < 8 → IsRead size mode → again (ops.Movea size n mode) at ≡ ops.Movea size n mode
-unfolding meant built stem_of stem_in is_worded base either offset
+unfolding meant built mnemonic_of mnemonic_in is_worded base either offset
 movea_again size n mode at h m =
     ap (λ (s : Source). meant s at) (row_of_two (row_of (ops.Movea size n mode) at) refl (m.registers, m.written) h refl refl)
     ∙ rw (register_back n h, mode_back size mode m) refl
 
 pub unary_again : (task : Task) (size : Size) (mode : Mode) (at : ℕ) → IsUnary task → IsRead size mode → again (ops.Unary task size mode) at ≡ ops.Unary task size mode
-unfolding meant built stem_of stem_in is_worded base either offset
+unfolding meant built mnemonic_of mnemonic_in is_worded base either offset
 unary_again tasks.Negx size mode at is m =
     ap (λ (s : Source). meant s at) (row_of_one (codes "negx") (Some size) (operands.Place size mode) refl (m.registers, m.written) refl)
     ∙ rw (mode_back size mode m) refl
@@ -331,139 +331,139 @@ unary_again tasks.Not size mode at is m =
 unary_again _ size mode at is m = absurd is
 
 pub from_sr_again : (mode : Mode) (at : ℕ) → IsRead Word mode → again (ops.MoveFromSr mode) at ≡ ops.MoveFromSr mode
-unfolding meant built stem_of stem_in is_worded base either offset
+unfolding meant built mnemonic_of mnemonic_in is_worded base either offset
 from_sr_again mode at m =
     ap (λ (s : Source). meant s at) (row_of_two (row_of (ops.MoveFromSr mode) at) refl tt (m.registers, m.written) refl refl)
     ∙ rw (mode_back Word mode m) refl
 
 pub to_ccr_again : (mode : Mode) (at : ℕ) → IsRead Word mode → again (ops.MoveToCcr mode) at ≡ ops.MoveToCcr mode
-unfolding meant built stem_of stem_in is_worded base either offset
+unfolding meant built mnemonic_of mnemonic_in is_worded base either offset
 to_ccr_again mode at m =
     ap (λ (s : Source). meant s at) (row_of_two (row_of (ops.MoveToCcr mode) at) refl (m.registers, m.written) tt refl refl)
     ∙ rw (not_sr Word mode, not_usp Word mode, mode_back Word mode m) refl
 
 pub to_sr_again : (mode : Mode) (at : ℕ) → IsRead Word mode → again (ops.MoveToSr mode) at ≡ ops.MoveToSr mode
-unfolding meant built stem_of stem_in is_worded base either offset
+unfolding meant built mnemonic_of mnemonic_in is_worded base either offset
 to_sr_again mode at m =
     ap (λ (s : Source). meant s at) (row_of_two (row_of (ops.MoveToSr mode) at) refl (m.registers, m.written) tt refl refl)
     ∙ rw (not_sr Word mode, not_usp Word mode, mode_back Word mode m) refl
 
 pub nbcd_again : (mode : Mode) (at : ℕ) → IsRead Byte mode → again (ops.Nbcd mode) at ≡ ops.Nbcd mode
-unfolding meant built stem_of stem_in is_worded base either offset
+unfolding meant built mnemonic_of mnemonic_in is_worded base either offset
 nbcd_again mode at m =
     ap (λ (s : Source). meant s at) (row_of_one (codes "nbcd") None (operands.Place Byte mode) refl (m.registers, m.written) refl)
     ∙ rw (mode_back Byte mode m) refl
 
 pub pea_again : (mode : Mode) (at : ℕ) → IsRead Long mode → again (ops.Pea mode) at ≡ ops.Pea mode
-unfolding meant built stem_of stem_in is_worded base either offset
+unfolding meant built mnemonic_of mnemonic_in is_worded base either offset
 pea_again mode at m =
     ap (λ (s : Source). meant s at) (row_of_one (codes "pea") None (operands.Place Long mode) refl (m.registers, m.written) refl)
     ∙ rw (mode_back Long mode m) refl
 
 pub tas_again : (mode : Mode) (at : ℕ) → IsRead Byte mode → again (ops.Tas mode) at ≡ ops.Tas mode
-unfolding meant built stem_of stem_in is_worded base either offset
+unfolding meant built mnemonic_of mnemonic_in is_worded base either offset
 tas_again mode at m =
     ap (λ (s : Source). meant s at) (row_of_one (codes "tas") None (operands.Place Byte mode) refl (m.registers, m.written) refl)
     ∙ rw (mode_back Byte mode m) refl
 
 pub jsr_again : (mode : Mode) (at : ℕ) → IsRead Long mode → again (ops.Jsr mode) at ≡ ops.Jsr mode
-unfolding meant built stem_of stem_in is_worded base either offset
+unfolding meant built mnemonic_of mnemonic_in is_worded base either offset
 jsr_again mode at m =
     ap (λ (s : Source). meant s at) (row_of_one (codes "jsr") None (operands.Place Long mode) refl (m.registers, m.written) refl)
     ∙ rw (mode_back Long mode m) refl
 
 pub jmp_again : (mode : Mode) (at : ℕ) → IsRead Long mode → again (ops.Jmp mode) at ≡ ops.Jmp mode
-unfolding meant built stem_of stem_in is_worded base either offset
+unfolding meant built mnemonic_of mnemonic_in is_worded base either offset
 jmp_again mode at m =
     ap (λ (s : Source). meant s at) (row_of_one (codes "jmp") None (operands.Place Long mode) refl (m.registers, m.written) refl)
     ∙ rw (mode_back Long mode m) refl
 
 pub swap_again : (n : ℕ) (at : ℕ) → n < 8 → again (ops.Swap n) at ≡ ops.Swap n
-unfolding meant built stem_of stem_in is_worded base either offset
+unfolding meant built mnemonic_of mnemonic_in is_worded base either offset
 swap_again n at h =
     ap (λ (s : Source). meant s at) (row_of_one (codes "swap") None (operands.Data n) refl h refl)
     ∙ rw (data_back n h) refl
 
 pub ext_again : (size : Size) (n : ℕ) (at : ℕ) → n < 8 → again (ops.Ext size n) at ≡ ops.Ext size n
-unfolding meant built stem_of stem_in is_worded base either offset
+unfolding meant built mnemonic_of mnemonic_in is_worded base either offset
 ext_again size n at h =
     ap (λ (s : Source). meant s at) (row_of_one (codes "ext") (Some size) (operands.Data n) refl h refl)
     ∙ rw (data_back n h) refl
 
 pub tst_again : (size : Size) (mode : Mode) (at : ℕ) → IsRead size mode → again (ops.Tst size mode) at ≡ ops.Tst size mode
-unfolding meant built stem_of stem_in is_worded base either offset
+unfolding meant built mnemonic_of mnemonic_in is_worded base either offset
 tst_again size mode at m =
     ap (λ (s : Source). meant s at) (row_of_one (codes "tst") (Some size) (operands.Place size mode) refl (m.registers, m.written) refl)
     ∙ rw (mode_back size mode m) refl
 
 pub trap_again : (n : ℕ) (at : ℕ) → n < 16 → again (ops.Trap n) at ≡ ops.Trap n
-unfolding meant built stem_of stem_in is_worded base either offset
+unfolding meant built mnemonic_of mnemonic_in is_worded base either offset
 trap_again n at h =
     ap (λ (s : Source). meant s at) (row_of_one (codes "trap") None (operands.Digit n) refl h refl)
     ∙ rw (vector_is n h) refl
 
 pub link_again : (n d : ℕ) (at : ℕ) → n < 8 → d < 65536 → again (ops.Link n d) at ≡ ops.Link n d
-unfolding meant built stem_of stem_in is_worded base either offset
+unfolding meant built mnemonic_of mnemonic_in is_worded base either offset
 link_again n d at h l =
     ap (λ (s : Source). meant s at) (row_of_two (row_of (ops.Link n d) at) refl h (omega arith) refl refl)
     ∙ rw (register_back n h, word_is d l) refl
 
 pub unlk_again : (n : ℕ) (at : ℕ) → n < 8 → again (ops.Unlk n) at ≡ ops.Unlk n
-unfolding meant built stem_of stem_in is_worded base either offset
+unfolding meant built mnemonic_of mnemonic_in is_worded base either offset
 unlk_again n at h =
     ap (λ (s : Source). meant s at) (row_of_one (codes "unlk") None (operands.Address n) refl h refl)
     ∙ rw (register_back n h) refl
 
 pub to_usp_again : (n : ℕ) (at : ℕ) → n < 8 → again (ops.MoveToUsp n) at ≡ ops.MoveToUsp n
-unfolding meant built stem_of stem_in is_worded base either offset
+unfolding meant built mnemonic_of mnemonic_in is_worded base either offset
 to_usp_again n at h =
     ap (λ (s : Source). meant s at) (row_of_two (row_of (ops.MoveToUsp n) at) refl h tt refl refl)
     ∙ rw (register_back n h) refl
 
 pub from_usp_again : (n : ℕ) (at : ℕ) → n < 8 → again (ops.MoveFromUsp n) at ≡ ops.MoveFromUsp n
-unfolding meant built stem_of stem_in is_worded base either offset
+unfolding meant built mnemonic_of mnemonic_in is_worded base either offset
 from_usp_again n at h =
     ap (λ (s : Source). meant s at) (row_of_two (row_of (ops.MoveFromUsp n) at) refl tt h refl refl)
     ∙ rw (register_back n h) refl
 
 pub stop_again : (n : ℕ) (at : ℕ) → n < 65536 → again (ops.Stop n) at ≡ ops.Stop n
-unfolding meant built stem_of stem_in is_worded base either offset
+unfolding meant built mnemonic_of mnemonic_in is_worded base either offset
 stop_again n at h =
     ap (λ (s : Source). meant s at) (row_of_one (codes "stop") None (operands.Number Word n) refl (omega arith) refl)
     ∙ rw (word_is n h) refl
 
 pub reset_again : (at : ℕ) → again ops.Reset at ≡ ops.Reset
-unfolding meant built stem_of stem_in is_worded base either offset read_source opened split
+unfolding meant built mnemonic_of mnemonic_in is_worded base either offset read_source opened split
 reset_again at = refl
 
 pub nop_again : (at : ℕ) → again ops.Nop at ≡ ops.Nop
-unfolding meant built stem_of stem_in is_worded base either offset read_source opened split
+unfolding meant built mnemonic_of mnemonic_in is_worded base either offset read_source opened split
 nop_again at = refl
 
 pub rte_again : (at : ℕ) → again ops.Rte at ≡ ops.Rte
-unfolding meant built stem_of stem_in is_worded base either offset read_source opened split
+unfolding meant built mnemonic_of mnemonic_in is_worded base either offset read_source opened split
 rte_again at = refl
 
 pub rts_again : (at : ℕ) → again ops.Rts at ≡ ops.Rts
-unfolding meant built stem_of stem_in is_worded base either offset read_source opened split
+unfolding meant built mnemonic_of mnemonic_in is_worded base either offset read_source opened split
 rts_again at = refl
 
 pub trapv_again : (at : ℕ) → again ops.Trapv at ≡ ops.Trapv
-unfolding meant built stem_of stem_in is_worded base either offset read_source opened split
+unfolding meant built mnemonic_of mnemonic_in is_worded base either offset read_source opened split
 trapv_again at = refl
 
 pub rtr_again : (at : ℕ) → again ops.Rtr at ≡ ops.Rtr
-unfolding meant built stem_of stem_in is_worded base either offset read_source opened split
+unfolding meant built mnemonic_of mnemonic_in is_worded base either offset read_source opened split
 rtr_again at = refl
 
 pub lea_again : (n : ℕ) (mode : Mode) (at : ℕ) → n < 8 → IsRead Long mode → again (ops.Lea n mode) at ≡ ops.Lea n mode
-unfolding meant built stem_of stem_in is_worded base either offset
+unfolding meant built mnemonic_of mnemonic_in is_worded base either offset
 lea_again n mode at h m =
     ap (λ (s : Source). meant s at) (row_of_two (row_of (ops.Lea n mode) at) refl (m.registers, m.written) h refl refl)
     ∙ rw (register_back n h, mode_back Long mode m) refl
 
 pub quick_again : (task : Task) (size : Size) (n : ℕ) (mode : Mode) (at : ℕ) → IsQuick task → 0 < n → n ≤ 8 → IsRead size mode → again (ops.Quick task size n mode) at ≡ ops.Quick task size n mode
-unfolding meant built stem_of stem_in is_worded base either offset
+unfolding meant built mnemonic_of mnemonic_in is_worded base either offset
 quick_again tasks.Add size n mode at is h k m =
     ap (λ (s : Source). meant s at) (row_of_two (row_of (ops.Quick tasks.Add size n mode) at) refl (omega arith) (m.registers, m.written) refl refl)
     ∙ rw (quick_back n h k, mode_back size mode m) refl
@@ -473,43 +473,43 @@ quick_again tasks.Sub size n mode at is h k m =
 quick_again _ size n mode at is h k m = absurd is
 
 pub chk_again : (n : ℕ) (mode : Mode) (at : ℕ) → n < 8 → IsRead Word mode → again (ops.Chk n mode) at ≡ ops.Chk n mode
-unfolding meant built stem_of stem_in is_worded base either offset
+unfolding meant built mnemonic_of mnemonic_in is_worded base either offset
 chk_again n mode at h m =
     ap (λ (s : Source). meant s at) (row_of_two (row_of (ops.Chk n mode) at) refl (m.registers, m.written) h refl refl)
     ∙ rw (data_back n h, mode_back Word mode m) refl
 
 pub divu_again : (n : ℕ) (mode : Mode) (at : ℕ) → n < 8 → IsRead Word mode → again (ops.Divu n mode) at ≡ ops.Divu n mode
-unfolding meant built stem_of stem_in is_worded base either offset
+unfolding meant built mnemonic_of mnemonic_in is_worded base either offset
 divu_again n mode at h m =
     ap (λ (s : Source). meant s at) (row_of_two (row_of (ops.Divu n mode) at) refl (m.registers, m.written) h refl refl)
     ∙ rw (data_back n h, mode_back Word mode m) refl
 
 pub divs_again : (n : ℕ) (mode : Mode) (at : ℕ) → n < 8 → IsRead Word mode → again (ops.Divs n mode) at ≡ ops.Divs n mode
-unfolding meant built stem_of stem_in is_worded base either offset
+unfolding meant built mnemonic_of mnemonic_in is_worded base either offset
 divs_again n mode at h m =
     ap (λ (s : Source). meant s at) (row_of_two (row_of (ops.Divs n mode) at) refl (m.registers, m.written) h refl refl)
     ∙ rw (data_back n h, mode_back Word mode m) refl
 
 pub mulu_again : (n : ℕ) (mode : Mode) (at : ℕ) → n < 8 → IsRead Word mode → again (ops.Mulu n mode) at ≡ ops.Mulu n mode
-unfolding meant built stem_of stem_in is_worded base either offset
+unfolding meant built mnemonic_of mnemonic_in is_worded base either offset
 mulu_again n mode at h m =
     ap (λ (s : Source). meant s at) (row_of_two (row_of (ops.Mulu n mode) at) refl (m.registers, m.written) h refl refl)
     ∙ rw (data_back n h, mode_back Word mode m) refl
 
 pub muls_again : (n : ℕ) (mode : Mode) (at : ℕ) → n < 8 → IsRead Word mode → again (ops.Muls n mode) at ≡ ops.Muls n mode
-unfolding meant built stem_of stem_in is_worded base either offset
+unfolding meant built mnemonic_of mnemonic_in is_worded base either offset
 muls_again n mode at h m =
     ap (λ (s : Source). meant s at) (row_of_two (row_of (ops.Muls n mode) at) refl (m.registers, m.written) h refl refl)
     ∙ rw (data_back n h, mode_back Word mode m) refl
 
 pub bra_again : (d : Displacement) (at : ℕ) → at < 4294967296 → IsDisplacement d → again (ops.Bra d) at ≡ ops.Bra d
-unfolding meant built stem_of stem_in is_worded base either offset
+unfolding meant built mnemonic_of mnemonic_in is_worded base either offset
 bra_again d at h k =
     ap (λ (s : Source). meant s at) (row_of_one (codes "bra") (Some (size_of d)) (operands.Target (target at d)) refl (target_below at d) refl)
     ∙ rw (displacement_back d at h k) refl
 
 pub bsr_again : (d : Displacement) (at : ℕ) → at < 4294967296 → IsDisplacement d → again (ops.Bsr d) at ≡ ops.Bsr d
-unfolding meant built stem_of stem_in is_worded base either offset
+unfolding meant built mnemonic_of mnemonic_in is_worded base either offset
 bsr_again d at h k =
     ap (λ (s : Source). meant s at) (row_of_one (codes "bsr") (Some (size_of d)) (operands.Target (target at d)) refl (target_below at d) refl)
     ∙ rw (displacement_back d at h k) refl
@@ -533,24 +533,24 @@ bcc_named conditions.LessThan = refl
 bcc_named conditions.GreaterThan = refl
 bcc_named conditions.LessOrEqual = refl
 
-bcc_stem : (c : Condition) → stem_of (codes "b" ++ condition_name c) ≡ stems.Bcc c
-unfolding stem_of stem_in
-bcc_stem conditions.True = refl
-bcc_stem conditions.False = refl
-bcc_stem conditions.High = refl
-bcc_stem conditions.LowOrSame = refl
-bcc_stem conditions.CarryClear = refl
-bcc_stem conditions.CarrySet = refl
-bcc_stem conditions.NotEqual = refl
-bcc_stem conditions.Equal = refl
-bcc_stem conditions.OverflowClear = refl
-bcc_stem conditions.OverflowSet = refl
-bcc_stem conditions.Plus = refl
-bcc_stem conditions.Minus = refl
-bcc_stem conditions.GreaterOrEqual = refl
-bcc_stem conditions.LessThan = refl
-bcc_stem conditions.GreaterThan = refl
-bcc_stem conditions.LessOrEqual = refl
+bcc_mnemonic : (c : Condition) → mnemonic_of (codes "b" ++ condition_name c) ≡ stems.Bcc c
+unfolding mnemonic_of mnemonic_in
+bcc_mnemonic conditions.True = refl
+bcc_mnemonic conditions.False = refl
+bcc_mnemonic conditions.High = refl
+bcc_mnemonic conditions.LowOrSame = refl
+bcc_mnemonic conditions.CarryClear = refl
+bcc_mnemonic conditions.CarrySet = refl
+bcc_mnemonic conditions.NotEqual = refl
+bcc_mnemonic conditions.Equal = refl
+bcc_mnemonic conditions.OverflowClear = refl
+bcc_mnemonic conditions.OverflowSet = refl
+bcc_mnemonic conditions.Plus = refl
+bcc_mnemonic conditions.Minus = refl
+bcc_mnemonic conditions.GreaterOrEqual = refl
+bcc_mnemonic conditions.LessThan = refl
+bcc_mnemonic conditions.GreaterThan = refl
+bcc_mnemonic conditions.LessOrEqual = refl
 
 scc_named : (c : Condition) → every is_worded (codes "s" ++ condition_name c) ≡ true
 unfolding is_worded
@@ -571,24 +571,24 @@ scc_named conditions.LessThan = refl
 scc_named conditions.GreaterThan = refl
 scc_named conditions.LessOrEqual = refl
 
-scc_stem : (c : Condition) → stem_of (codes "s" ++ condition_name c) ≡ stems.Scc c
-unfolding stem_of stem_in
-scc_stem conditions.True = refl
-scc_stem conditions.False = refl
-scc_stem conditions.High = refl
-scc_stem conditions.LowOrSame = refl
-scc_stem conditions.CarryClear = refl
-scc_stem conditions.CarrySet = refl
-scc_stem conditions.NotEqual = refl
-scc_stem conditions.Equal = refl
-scc_stem conditions.OverflowClear = refl
-scc_stem conditions.OverflowSet = refl
-scc_stem conditions.Plus = refl
-scc_stem conditions.Minus = refl
-scc_stem conditions.GreaterOrEqual = refl
-scc_stem conditions.LessThan = refl
-scc_stem conditions.GreaterThan = refl
-scc_stem conditions.LessOrEqual = refl
+scc_mnemonic : (c : Condition) → mnemonic_of (codes "s" ++ condition_name c) ≡ stems.Scc c
+unfolding mnemonic_of mnemonic_in
+scc_mnemonic conditions.True = refl
+scc_mnemonic conditions.False = refl
+scc_mnemonic conditions.High = refl
+scc_mnemonic conditions.LowOrSame = refl
+scc_mnemonic conditions.CarryClear = refl
+scc_mnemonic conditions.CarrySet = refl
+scc_mnemonic conditions.NotEqual = refl
+scc_mnemonic conditions.Equal = refl
+scc_mnemonic conditions.OverflowClear = refl
+scc_mnemonic conditions.OverflowSet = refl
+scc_mnemonic conditions.Plus = refl
+scc_mnemonic conditions.Minus = refl
+scc_mnemonic conditions.GreaterOrEqual = refl
+scc_mnemonic conditions.LessThan = refl
+scc_mnemonic conditions.GreaterThan = refl
+scc_mnemonic conditions.LessOrEqual = refl
 
 dbcc_named : (c : Condition) → every is_worded (codes "db" ++ condition_name c) ≡ true
 unfolding is_worded
@@ -609,51 +609,51 @@ dbcc_named conditions.LessThan = refl
 dbcc_named conditions.GreaterThan = refl
 dbcc_named conditions.LessOrEqual = refl
 
-dbcc_stem : (c : Condition) → stem_of (codes "db" ++ condition_name c) ≡ stems.Dbcc c
-unfolding stem_of stem_in
-dbcc_stem conditions.True = refl
-dbcc_stem conditions.False = refl
-dbcc_stem conditions.High = refl
-dbcc_stem conditions.LowOrSame = refl
-dbcc_stem conditions.CarryClear = refl
-dbcc_stem conditions.CarrySet = refl
-dbcc_stem conditions.NotEqual = refl
-dbcc_stem conditions.Equal = refl
-dbcc_stem conditions.OverflowClear = refl
-dbcc_stem conditions.OverflowSet = refl
-dbcc_stem conditions.Plus = refl
-dbcc_stem conditions.Minus = refl
-dbcc_stem conditions.GreaterOrEqual = refl
-dbcc_stem conditions.LessThan = refl
-dbcc_stem conditions.GreaterThan = refl
-dbcc_stem conditions.LessOrEqual = refl
+dbcc_mnemonic : (c : Condition) → mnemonic_of (codes "db" ++ condition_name c) ≡ stems.Dbcc c
+unfolding mnemonic_of mnemonic_in
+dbcc_mnemonic conditions.True = refl
+dbcc_mnemonic conditions.False = refl
+dbcc_mnemonic conditions.High = refl
+dbcc_mnemonic conditions.LowOrSame = refl
+dbcc_mnemonic conditions.CarryClear = refl
+dbcc_mnemonic conditions.CarrySet = refl
+dbcc_mnemonic conditions.NotEqual = refl
+dbcc_mnemonic conditions.Equal = refl
+dbcc_mnemonic conditions.OverflowClear = refl
+dbcc_mnemonic conditions.OverflowSet = refl
+dbcc_mnemonic conditions.Plus = refl
+dbcc_mnemonic conditions.Minus = refl
+dbcc_mnemonic conditions.GreaterOrEqual = refl
+dbcc_mnemonic conditions.LessThan = refl
+dbcc_mnemonic conditions.GreaterThan = refl
+dbcc_mnemonic conditions.LessOrEqual = refl
 
 pub bcc_again : (c : Condition) (d : Displacement) (at : ℕ) → at < 4294967296 → IsDisplacement d → again (ops.Bcc c d) at ≡ ops.Bcc c d
 unfolding meant built
 bcc_again c d at h k =
     ap (λ (s : Source). meant s at) (row_of_one (codes "b" ++ condition_name c) (Some (size_of d)) (operands.Target (target at d)) (bcc_named c) (target_below at d) refl)
-    ∙ rw (bcc_stem c) (ap (ops.Bcc c) (displacement_back d at h k))
+    ∙ rw (bcc_mnemonic c) (ap (ops.Bcc c) (displacement_back d at h k))
 
 pub scc_again : (c : Condition) (mode : Mode) (at : ℕ) → IsRead Byte mode → again (ops.Scc c mode) at ≡ ops.Scc c mode
 unfolding meant built
 scc_again c mode at m =
     ap (λ (s : Source). meant s at) (row_of_one (codes "s" ++ condition_name c) None (operands.Place Byte mode) (scc_named c) (m.registers, m.written) refl)
-    ∙ rw (scc_stem c) (ap (ops.Scc c) (mode_back Byte mode m))
+    ∙ rw (scc_mnemonic c) (ap (ops.Scc c) (mode_back Byte mode m))
 
 pub dbcc_again : (c : Condition) (n d : ℕ) (at : ℕ) → at < 4294967296 → n < 8 → d < 65536 → again (ops.Dbcc c n d) at ≡ ops.Dbcc c n d
 unfolding meant built
 dbcc_again c n d at h k l =
     ap (λ (s : Source). meant s at) (row_of_two (row_of (ops.Dbcc c n d) at) (dbcc_named c) k (target_below at (displacements.Word d)) refl refl)
-    ∙ rw (dbcc_stem c, data_back n k, by_word_is d at h l) refl
+    ∙ rw (dbcc_mnemonic c, data_back n k, by_word_is d at h l) refl
 
 pub moveq_again : (n v : ℕ) (at : ℕ) → n < 8 → v < 256 → again (ops.Moveq n v) at ≡ ops.Moveq n v
-unfolding meant built stem_of stem_in is_worded base either offset
+unfolding meant built mnemonic_of mnemonic_in is_worded base either offset
 moveq_again n v at h l =
     ap (λ (s : Source). meant s at) (row_of_two (row_of (ops.Moveq n v) at) refl (omega arith) h refl refl)
     ∙ rw (data_back n h, byte_is v l) refl
 
 pub decimal_again : (task : Task) (from to : Mode) (at : ℕ) → IsDecimal task → IsRead Byte from → IsRead Byte to → again (ops.Decimal task from to) at ≡ ops.Decimal task from to
-unfolding meant built stem_of stem_in is_worded base either offset
+unfolding meant built mnemonic_of mnemonic_in is_worded base either offset
 decimal_again tasks.Abcd from to at is f t =
     ap (λ (s : Source). meant s at) (row_of_two (row_of (ops.Decimal tasks.Abcd from to) at) refl (f.registers, f.written) (t.registers, t.written) refl refl)
     ∙ rw (mode_back Byte from f, mode_back Byte to t) refl
@@ -663,7 +663,7 @@ decimal_again tasks.Sbcd from to at is f t =
 decimal_again _ from to at is f t = absurd is
 
 pub extended_again : (task : Task) (size : Size) (from to : Mode) (at : ℕ) → IsExtended task → IsRead size from → IsRead size to → again (ops.Extended task size from to) at ≡ ops.Extended task size from to
-unfolding meant built stem_of stem_in is_worded base either offset
+unfolding meant built mnemonic_of mnemonic_in is_worded base either offset
 extended_again tasks.Addx size from to at is f t =
     ap (λ (s : Source). meant s at) (row_of_two (row_of (ops.Extended tasks.Addx size from to) at) refl (f.registers, f.written) (t.registers, t.written) refl refl)
     ∙ rw (mode_back size from f, mode_back size to t) refl
@@ -673,7 +673,7 @@ extended_again tasks.Subx size from to at is f t =
 extended_again _ size from to at is f t = absurd is
 
 pub to_register_again : (task : Task) (size : Size) (n : ℕ) (mode : Mode) (at : ℕ) → IsSum task → n < 8 → IsRead size mode → again (ops.ToRegister task size n mode) at ≡ ops.ToRegister task size n mode
-unfolding meant built stem_of stem_in is_worded base either offset
+unfolding meant built mnemonic_of mnemonic_in is_worded base either offset
 to_register_again tasks.Or size n mode at is h m =
     ap (λ (s : Source). meant s at) (row_of_two (row_of (ops.ToRegister tasks.Or size n mode) at) refl (m.registers, m.written) h refl refl)
     ∙ rw (data_is n h, data_back n h, mode_back size mode m) refl
@@ -689,7 +689,7 @@ to_register_again tasks.Add size n mode at is h m =
 to_register_again _ size n mode at is h m = absurd is
 
 pub to_memory_again : (task : Task) (size : Size) (n : ℕ) (mode : Mode) (at : ℕ) → IsSum task → n < 8 → IsRead size mode → IsOf memory_alterable mode → again (ops.ToMemory task size n mode) at ≡ ops.ToMemory task size n mode
-unfolding meant built stem_of stem_in is_worded base either offset
+unfolding meant built mnemonic_of mnemonic_in is_worded base either offset
 to_memory_again tasks.Or size n mode at is h m x =
     ap (λ (s : Source). meant s at) (row_of_two (row_of (ops.ToMemory tasks.Or size n mode) at) refl h (m.registers, m.written) refl refl)
     ∙ rw (not_data size mode x, data_back n h, mode_back size mode m) refl
@@ -705,7 +705,7 @@ to_memory_again tasks.Add size n mode at is h m x =
 to_memory_again _ size n mode at is h m x = absurd is
 
 pub to_address_again : (task : Task) (size : Size) (n : ℕ) (mode : Mode) (at : ℕ) → IsQuick task → n < 8 → IsRead size mode → again (ops.ToAddress task size n mode) at ≡ ops.ToAddress task size n mode
-unfolding meant built stem_of stem_in is_worded base either offset
+unfolding meant built mnemonic_of mnemonic_in is_worded base either offset
 to_address_again tasks.Add size n mode at is h m =
     ap (λ (s : Source). meant s at) (row_of_two (row_of (ops.ToAddress tasks.Add size n mode) at) refl (m.registers, m.written) h refl refl)
     ∙ rw (register_back n h, mode_back size mode m) refl
@@ -715,37 +715,37 @@ to_address_again tasks.Sub size n mode at is h m =
 to_address_again _ size n mode at is h m = absurd is
 
 pub cmp_again : (size : Size) (n : ℕ) (mode : Mode) (at : ℕ) → n < 8 → IsRead size mode → again (ops.Cmp size n mode) at ≡ ops.Cmp size n mode
-unfolding meant built stem_of stem_in is_worded base either offset
+unfolding meant built mnemonic_of mnemonic_in is_worded base either offset
 cmp_again size n mode at h m =
     ap (λ (s : Source). meant s at) (row_of_two (row_of (ops.Cmp size n mode) at) refl (m.registers, m.written) h refl refl)
     ∙ rw (data_back n h, mode_back size mode m) refl
 
 pub cmpa_again : (size : Size) (n : ℕ) (mode : Mode) (at : ℕ) → n < 8 → IsRead size mode → again (ops.Cmpa size n mode) at ≡ ops.Cmpa size n mode
-unfolding meant built stem_of stem_in is_worded base either offset
+unfolding meant built mnemonic_of mnemonic_in is_worded base either offset
 cmpa_again size n mode at h m =
     ap (λ (s : Source). meant s at) (row_of_two (row_of (ops.Cmpa size n mode) at) refl (m.registers, m.written) h refl refl)
     ∙ rw (register_back n h, mode_back size mode m) refl
 
 pub eor_again : (size : Size) (n : ℕ) (mode : Mode) (at : ℕ) → n < 8 → IsRead size mode → again (ops.Eor size n mode) at ≡ ops.Eor size n mode
-unfolding meant built stem_of stem_in is_worded base either offset
+unfolding meant built mnemonic_of mnemonic_in is_worded base either offset
 eor_again size n mode at h m =
     ap (λ (s : Source). meant s at) (row_of_two (row_of (ops.Eor size n mode) at) refl h (m.registers, m.written) refl refl)
     ∙ rw (data_back n h, mode_back size mode m) refl
 
 pub cmpm_again : (size : Size) (x y : ℕ) (at : ℕ) → x < 8 → y < 8 → again (ops.Cmpm size x y) at ≡ ops.Cmpm size x y
-unfolding meant built stem_of stem_in is_worded base either offset
+unfolding meant built mnemonic_of mnemonic_in is_worded base either offset
 cmpm_again size x y at h k =
     ap (λ (s : Source). meant s at) (row_of_two (row_of (ops.Cmpm size x y) at) refl (k, tt) (h, tt) refl refl)
     ∙ refl
 
 pub exg_again : (x y : ℕ) (at : ℕ) → x < 16 → y < 16 → again (ops.Exg x y) at ≡ ops.Exg x y
-unfolding meant built stem_of stem_in is_worded base either offset
+unfolding meant built mnemonic_of mnemonic_in is_worded base either offset
 exg_again x y at h k =
     ap (λ (s : Source). meant s at) (row_of_two (row_of (ops.Exg x y) at) refl h k refl refl)
     ∙ refl
 
 pub shift_number_again : (task : Task) (size : Size) (n r : ℕ) (at : ℕ) → IsShift task → 0 < n → n ≤ 8 → r < 8 → again (ops.ShiftByNumber task size n r) at ≡ ops.ShiftByNumber task size n r
-unfolding meant built stem_of stem_in is_worded base either offset
+unfolding meant built mnemonic_of mnemonic_in is_worded base either offset
 shift_number_again tasks.Asl size n r at is h k l =
     ap (λ (s : Source). meant s at) (row_of_two (row_of (ops.ShiftByNumber tasks.Asl size n r) at) refl (omega arith) l refl refl)
     ∙ rw (quick_back n h k, data_back r l) refl
@@ -773,7 +773,7 @@ shift_number_again tasks.Ror size n r at is h k l =
 shift_number_again _ size n r at is h k l = absurd is
 
 pub shift_register_again : (task : Task) (size : Size) (n r : ℕ) (at : ℕ) → IsShift task → n < 8 → r < 8 → again (ops.ShiftByRegister task size n r) at ≡ ops.ShiftByRegister task size n r
-unfolding meant built stem_of stem_in is_worded base either offset
+unfolding meant built mnemonic_of mnemonic_in is_worded base either offset
 shift_register_again tasks.Asl size n r at is h l =
     ap (λ (s : Source). meant s at) (row_of_two (row_of (ops.ShiftByRegister tasks.Asl size n r) at) refl h l refl refl)
     ∙ rw (data_back n h, data_back r l) refl
@@ -801,7 +801,7 @@ shift_register_again tasks.Ror size n r at is h l =
 shift_register_again _ size n r at is h l = absurd is
 
 pub shift_memory_again : (task : Task) (mode : Mode) (at : ℕ) → IsShift task → IsRead Word mode → again (ops.ShiftMemory task mode) at ≡ ops.ShiftMemory task mode
-unfolding meant built stem_of stem_in is_worded base either offset
+unfolding meant built mnemonic_of mnemonic_in is_worded base either offset
 shift_memory_again tasks.Asl mode at is m =
     ap (λ (s : Source). meant s at) (row_of_one (codes "asl") None (operands.Place Word mode) refl (m.registers, m.written) refl)
     ∙ rw (mode_back Word mode m) refl
@@ -890,7 +890,7 @@ list_back (modes.PcIndexed index long by) l h = list_by (l == 0) l h refl
 list_back (modes.Immediate n) l h = list_by (l == 0) l h refl
 
 pub store_again : (size : Size) (l : ℕ) (mode : Mode) (at : ℕ) → l < 65536 → IsRead size mode → again (ops.MovemToMemory size l mode) at ≡ ops.MovemToMemory size l mode
-unfolding meant built stem_of stem_in is_worded
+unfolding meant built mnemonic_of mnemonic_in is_worded
 store_again size l mode at h m =
     ap (λ (s : Source). meant s at) (row_of_two (row_of (ops.MovemToMemory size l mode) at) refl h (m.registers, m.written) refl refl)
     ∙ rw (list_is_list (is_turned mode) l h, mode_back size mode m, list_back mode l h) refl
@@ -914,7 +914,7 @@ no_list size (modes.PcIndexed index long by) h = refl
 
 pub load_again : (size : Size) (l : ℕ) (mode : Mode) (at : ℕ) → l < 65536 → IsRead size mode → IsOf control_or_postincrement mode
     → again (ops.MovemToRegisters size l mode) at ≡ ops.MovemToRegisters size l mode
-unfolding meant built stem_of stem_in is_worded
+unfolding meant built mnemonic_of mnemonic_in is_worded
 load_again size l mode at h m of =
     ap (λ (s : Source). meant s at) (row_of_two (row_of (ops.MovemToRegisters size l mode) at) refl (m.registers, m.written) h refl refl)
     ∙ rw (no_list size mode of, mode_back size mode m, list_by (l == 0) l h refl) refl

@@ -3,7 +3,7 @@ pub mod Decoded
 pub mod Entered
 pub mod FirstWord
 pub mod Instructions
-pub mod Judged
+pub mod Checked
 pub mod Lists
 pub mod Operands
 pub mod Sources

@@ -4,9 +4,9 @@ use Rattle.std.specs.List.{filter, flat_map, join_by}
 use Rattle.std.proofs.lemmas.Bool.Decides.{nat_tests}
 use Rattle.md_disasm.specs.Operands68.{is_listed, list_text, register_name, registers}
 use Rattle.md_asm_text.specs.Operands.{operands_of}
-use Rattle.md_asm_text.specs.Pieces as pieces
-use Rattle.md_asm_text.specs.Pieces.{Piece, is_worded, is_name, split, token_of}
-use Rattle.md_asm_text.proofs.Splits.{behind, is_end, mark_split, word_split}
+use Rattle.md_asm_text.specs.Tokens as tokens
+use Rattle.md_asm_text.specs.Tokens.{Token, is_worded, is_name, split, token_of}
+use Rattle.md_asm_text.proofs.Splits.{following, is_end, mark_split, word_split}
 use Rattle.asm_m68k.specs.Reading.{Masks, operand_form, masks_of, with_register, word_form}
 use Rattle.asm_m68k.specs.declared.form.Form.{Form}
 use Rattle.asm_m68k.specs.declared.form.Form.TheVariants as forms
@@ -14,19 +14,19 @@ use Rattle.asm_m68k.proofs.Operands.{either_form, name_read, name_split}
 
 -- ---- tokens
 
-abbrev pub more_pieces : List ℕ → List Piece
-more_pieces [] = []
-more_pieces (n ∷ ns) = pieces.Mark 47 ∷ pieces.Word (register_name n) ∷ more_pieces ns
+abbrev pub more_tokens : List ℕ → List Token
+more_tokens [] = []
+more_tokens (n ∷ ns) = tokens.Mark 47 ∷ tokens.Word (register_name n) ∷ more_tokens ns
 
-abbrev pub names_pieces : List ℕ → List Piece
-names_pieces [] = []
-names_pieces (n ∷ ns) = pieces.Word (register_name n) ∷ more_pieces ns
+abbrev pub names_tokens : List ℕ → List Token
+names_tokens [] = []
+names_tokens (n ∷ ns) = tokens.Word (register_name n) ∷ more_tokens ns
 
 abbrev pub listed : Bool → ℕ → List ℕ
 listed turned list = filter (is_listed turned list) registers
 
-abbrev pub list_pieces : Bool → ℕ → List Piece
-list_pieces turned list = if list == 0 then pieces.Word (codes "none") ∷ [] else names_pieces (listed turned list)
+abbrev pub list_tokens : Bool → ℕ → List Token
+list_tokens turned list = if list == 0 then tokens.Word (codes "none") ∷ [] else names_tokens (listed turned list)
 
 abbrev slashed : ℕ → List ℕ
 slashed n = codes "/" ++ register_name n
@@ -36,67 +36,67 @@ unfolding is_worded
 more_end [] e ends = ends
 more_end (n ∷ ns) e ends = refl
 
-more_split : (ns e : List ℕ) → is_end e ≡ true → split [] (flat_map slashed ns ++ e) ≡ more_pieces ns ++ split [] e
+more_split : (ns e : List ℕ) → is_end e ≡ true → split [] (flat_map slashed ns ++ e) ≡ more_tokens ns ++ split [] e
 unfolding is_worded
 more_split [] e ends = refl
 more_split (n ∷ ns) e ends =
     ap (λ (l : List ℕ). split [] (47 ∷ l)) (append_assoc (register_name n) (flat_map slashed ns) e)
     ∙ mark_split 47 (register_name n ++ (flat_map slashed ns ++ e)) refl
-    ∙ behind _ _ _ (name_split n (flat_map slashed ns ++ e) (more_end ns e ends) ∙ behind _ _ _ (more_split ns e ends))
+    ∙ following _ _ _ (name_split n (flat_map slashed ns ++ e) (more_end ns e ends) ∙ following _ _ _ (more_split ns e ends))
 
-names_split : (ns e : List ℕ) → is_end e ≡ true → split [] (join_by register_name (codes "/") ns ++ e) ≡ names_pieces ns ++ split [] e
+names_split : (ns e : List ℕ) → is_end e ≡ true → split [] (join_by register_name (codes "/") ns ++ e) ≡ names_tokens ns ++ split [] e
 names_split [] e ends = refl
 names_split (n ∷ ns) e ends =
     ap (split []) (append_assoc (register_name n) (flat_map slashed ns) e)
-    ∙ name_split n (flat_map slashed ns ++ e) (more_end ns e ends) ∙ behind _ _ _ (more_split ns e ends)
+    ∙ name_split n (flat_map slashed ns ++ e) (more_end ns e ends) ∙ following _ _ _ (more_split ns e ends)
 
-list_split_by : (b : Bool) (turned : Bool) (list : ℕ) (e : List ℕ) → (list == 0) ≡ b → is_end e ≡ true → split [] (list_text turned list ++ e) ≡ list_pieces turned list ++ split [] e
+list_split_by : (b : Bool) (turned : Bool) (list : ℕ) (e : List ℕ) → (list == 0) ≡ b → is_end e ≡ true → split [] (list_text turned list ++ e) ≡ list_tokens turned list ++ split [] e
 unfolding list_text is_worded token_of is_name
 list_split_by true turned list e is ends = rw is (word_split (codes "none") e refl ends)
 list_split_by false turned list e is ends = rw is (names_split (listed turned list) e ends)
 
-pub list_split : (turned : Bool) (list : ℕ) (e : List ℕ) → is_end e ≡ true → split [] (list_text turned list ++ e) ≡ list_pieces turned list ++ split [] e
+pub list_split : (turned : Bool) (list : ℕ) (e : List ℕ) → is_end e ≡ true → split [] (list_text turned list ++ e) ≡ list_tokens turned list ++ split [] e
 list_split turned list e ends = list_split_by (list == 0) turned list e refl ends
 
 -- ---- commas
 
-abbrev comma : Piece
-comma = pieces.Mark 44
+abbrev comma : Token
+comma = tokens.Mark 44
 
-more_apart : (ns : List ℕ) (rest : List Piece) → operands_of false (more_pieces ns ++ comma ∷ rest) ≡ (more_pieces ns, rest)
+more_apart : (ns : List ℕ) (rest : List Token) → operands_of false (more_tokens ns ++ comma ∷ rest) ≡ (more_tokens ns, rest)
 unfolding operands_of
 more_apart [] rest = refl
 more_apart (n ∷ ns) rest = rw (more_apart ns rest) refl
 
-names_apart : (ns : List ℕ) (rest : List Piece) → operands_of false (names_pieces ns ++ comma ∷ rest) ≡ (names_pieces ns, rest)
+names_apart : (ns : List ℕ) (rest : List Token) → operands_of false (names_tokens ns ++ comma ∷ rest) ≡ (names_tokens ns, rest)
 unfolding operands_of
 names_apart [] rest = refl
 names_apart (n ∷ ns) rest = rw (more_apart ns rest) refl
 
-more_alone : (ns : List ℕ) → operands_of false (more_pieces ns) ≡ (more_pieces ns, [])
+more_alone : (ns : List ℕ) → operands_of false (more_tokens ns) ≡ (more_tokens ns, [])
 unfolding operands_of
 more_alone [] = refl
 more_alone (n ∷ ns) = rw (more_alone ns) refl
 
-names_alone : (ns : List ℕ) → operands_of false (names_pieces ns) ≡ (names_pieces ns, [])
+names_alone : (ns : List ℕ) → operands_of false (names_tokens ns) ≡ (names_tokens ns, [])
 unfolding operands_of
 names_alone [] = refl
 names_alone (n ∷ ns) = rw (more_alone ns) refl
 
-apart_by : (b : Bool) (turned : Bool) (list : ℕ) (rest : List Piece) → (list == 0) ≡ b → operands_of false (list_pieces turned list ++ comma ∷ rest) ≡ (list_pieces turned list, rest)
+apart_by : (b : Bool) (turned : Bool) (list : ℕ) (rest : List Token) → (list == 0) ≡ b → operands_of false (list_tokens turned list ++ comma ∷ rest) ≡ (list_tokens turned list, rest)
 unfolding operands_of
 apart_by true turned list rest is = rw is refl
 apart_by false turned list rest is = rw is (names_apart (listed turned list) rest)
 
-pub list_apart : (turned : Bool) (list : ℕ) (rest : List Piece) → operands_of false (list_pieces turned list ++ comma ∷ rest) ≡ (list_pieces turned list, rest)
+pub list_apart : (turned : Bool) (list : ℕ) (rest : List Token) → operands_of false (list_tokens turned list ++ comma ∷ rest) ≡ (list_tokens turned list, rest)
 list_apart turned list rest = apart_by (list == 0) turned list rest refl
 
-alone_by : (b : Bool) (turned : Bool) (list : ℕ) → (list == 0) ≡ b → operands_of false (list_pieces turned list) ≡ (list_pieces turned list, [])
+alone_by : (b : Bool) (turned : Bool) (list : ℕ) → (list == 0) ≡ b → operands_of false (list_tokens turned list) ≡ (list_tokens turned list, [])
 unfolding operands_of
 alone_by true turned list is = rw is refl
 alone_by false turned list is = rw is (names_alone (listed turned list))
 
-pub list_alone : (turned : Bool) (list : ℕ) → operands_of false (list_pieces turned list) ≡ (list_pieces turned list, [])
+pub list_alone : (turned : Bool) (list : ℕ) → operands_of false (list_tokens turned list) ≡ (list_tokens turned list, [])
 list_alone turned list = alone_by (list == 0) turned list refl
 
 -- ---- what is read
@@ -118,12 +118,12 @@ abbrev AreRegisters : List ℕ → Type 0
 AreRegisters [] = Unit {0}
 AreRegisters (n ∷ ns) = (n < 16) × AreRegisters ns
 
-more_read : (ns : List ℕ) → AreRegisters ns → masks_of (more_pieces ns) ≡ register_masks ns
+more_read : (ns : List ℕ) → AreRegisters ns → masks_of (more_tokens ns) ≡ register_masks ns
 unfolding masks_of
 more_read [] h = refl
 more_read (n ∷ ns) h = rw (name_read n h.0, more_read ns h.1) refl
 
-names_read : (ns : List ℕ) → AreRegisters ns → operand_form (names_pieces ns) ≡ names_form ns
+names_read : (ns : List ℕ) → AreRegisters ns → operand_form (names_tokens ns) ≡ names_form ns
 unfolding operand_form masks_of
 names_read [] h = refl
 names_read (n ∷ []) h = either_form n h.0
@@ -140,12 +140,12 @@ kept test (n ∷ ns) h = kept_one (test n) n (filter test ns) h.0 (kept test ns 
 sixteen : AreRegisters registers
 sixteen = (lit< tt, (lit< tt, (lit< tt, (lit< tt, (lit< tt, (lit< tt, (lit< tt, (lit< tt, (lit< tt, (lit< tt, (lit< tt, (lit< tt, (lit< tt, (lit< tt, (lit< tt, (lit< tt, tt))))))))))))))))
 
-read_by : (b : Bool) (turned : Bool) (list : ℕ) → (list == 0) ≡ b → operand_form (list_pieces turned list) ≡ list_form turned list
+read_by : (b : Bool) (turned : Bool) (list : ℕ) → (list == 0) ≡ b → operand_form (list_tokens turned list) ≡ list_form turned list
 unfolding operand_form word_form
 read_by true turned list is = rw is refl
 read_by false turned list is = rw is (names_read (listed turned list) (kept (is_listed turned list) registers sixteen))
 
-pub list_read : (turned : Bool) (list : ℕ) → operand_form (list_pieces turned list) ≡ list_form turned list
+pub list_read : (turned : Bool) (list : ℕ) → operand_form (list_tokens turned list) ≡ list_form turned list
 list_read turned list = read_by (list == 0) turned list refl
 
 -- ---- the list again

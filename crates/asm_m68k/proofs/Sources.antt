@@ -12,31 +12,31 @@ use Rattle.md_disasm.specs.Texts68.{led, row_text, size_text}
 use Rattle.md_disasm.specs.declared.operand68.Operand68.{Operand68}
 use Rattle.md_disasm.specs.declared.operand68.Operand68.TheVariants as operands
 use Rattle.md_asm_text.specs.Operands.{operands_of}
-use Rattle.md_asm_text.specs.Pieces as pieces
-use Rattle.md_asm_text.specs.Pieces.{Piece, every, is_worded, is_name, split, token_of, opened}
-use Rattle.md_asm_text.proofs.Splits.{is_end, name_opens, register_split, number_1, number_4, number_8, mark_split, word_split, behind, apart}
+use Rattle.md_asm_text.specs.Tokens as tokens
+use Rattle.md_asm_text.specs.Tokens.{Token, every, is_worded, is_name, split, token_of, opened}
+use Rattle.md_asm_text.proofs.Splits.{is_end, name_opens, register_split, number_1, number_4, number_8, mark_split, word_split, following, apart}
 use Rattle.asm_m68k.specs.Reading.{Source, operand_form, word_form, read_source, with_operands, with_size}
 use Rattle.asm_m68k.specs.declared.form.Form.{Form}
 use Rattle.asm_m68k.specs.declared.form.Form.TheVariants as forms
-use Rattle.asm_m68k.proofs.Operands.{IsWritten, data_word, address_word, either_form, data_read, address_read, form_of_mode, form_of_number, mode_pieces, mode_read, mode_split, name_split, number_parts, number_pieces, number_read, register_form}
-use Rattle.asm_m68k.proofs.Lists.{list_alone, list_apart, list_form, list_pieces, list_read, list_split}
+use Rattle.asm_m68k.proofs.Operands.{IsWritten, data_word, address_word, either_form, data_read, address_read, form_of_mode, form_of_number, mode_tokens, mode_read, mode_split, name_split, number_parts, number_tokens, number_read, register_form}
+use Rattle.asm_m68k.proofs.Lists.{list_alone, list_apart, list_form, list_tokens, list_read, list_split}
 
 -- ---- operands
 
-abbrev pub operand_pieces : Operand68 → List Piece
-operand_pieces operands.Nothing = []
-operand_pieces (operands.Place size mode) = mode_pieces size mode
-operand_pieces (operands.Data n) = data_word n ∷ []
-operand_pieces (operands.Address n) = address_word n ∷ []
-operand_pieces (operands.Either n) = pieces.Word (register_name n) ∷ []
-operand_pieces operands.Sr = pieces.Word (codes "sr") ∷ []
-operand_pieces operands.Ccr = pieces.Word (codes "ccr") ∷ []
-operand_pieces operands.Usp = pieces.Word (codes "usp") ∷ []
-operand_pieces (operands.Digit n) = pieces.Mark 35 ∷ pieces.Number n ∷ []
-operand_pieces (operands.Number size n) = number_pieces size n
-operand_pieces (operands.Target address) = pieces.Number address ∷ []
-operand_pieces (operands.Opcode word) = pieces.Number word ∷ []
-operand_pieces (operands.Registers turned list) = list_pieces turned list
+abbrev pub operand_tokens : Operand68 → List Token
+operand_tokens operands.Nothing = []
+operand_tokens (operands.Place size mode) = mode_tokens size mode
+operand_tokens (operands.Data n) = data_word n ∷ []
+operand_tokens (operands.Address n) = address_word n ∷ []
+operand_tokens (operands.Either n) = tokens.Word (register_name n) ∷ []
+operand_tokens operands.Sr = tokens.Word (codes "sr") ∷ []
+operand_tokens operands.Ccr = tokens.Word (codes "ccr") ∷ []
+operand_tokens operands.Usp = tokens.Word (codes "usp") ∷ []
+operand_tokens (operands.Digit n) = tokens.Mark 35 ∷ tokens.Number n ∷ []
+operand_tokens (operands.Number size n) = number_tokens size n
+operand_tokens (operands.Target address) = tokens.Number address ∷ []
+operand_tokens (operands.Opcode word) = tokens.Number word ∷ []
+operand_tokens (operands.Registers turned list) = list_tokens turned list
 
 -- its registers are some that there are, and its numbers have as many digits as are written
 abbrev pub IsShown : Operand68 → Type 0
@@ -55,7 +55,7 @@ IsShown (operands.Opcode word) = word < 65536
 IsShown (operands.Registers turned list) = list < 65536
 
 -- a word of letters
-pub operand_split : (o : Operand68) (e : List ℕ) → IsShown o → is_end e ≡ true → split [] (operand_text o ++ e) ≡ operand_pieces o ++ split [] e
+pub operand_split : (o : Operand68) (e : List ℕ) → IsShown o → is_end e ≡ true → split [] (operand_text o ++ e) ≡ operand_tokens o ++ split [] e
 unfolding marked_digit marked_word marked_long is_worded token_of is_name
 operand_split operands.Nothing e h ends = refl
 operand_split (operands.Place size mode) e h ends = mode_split size mode e h.1 ends
@@ -66,7 +66,7 @@ operand_split operands.Sr e h ends = word_split (codes "sr") e refl ends
 operand_split operands.Ccr e h ends = word_split (codes "ccr") e refl ends
 operand_split operands.Usp e h ends = word_split (codes "usp") e refl ends
 operand_split (operands.Digit n) e h ends =
-    ap (split []) (apart (codes "#$") (one_digit n) [] e) ∙ mark_split 35 (36 ∷ (one_digit n ++ e)) refl ∙ behind _ _ _ (number_1 n e h ends)
+    ap (split []) (apart (codes "#$") (one_digit n) [] e) ∙ mark_split 35 (36 ∷ (one_digit n ++ e)) refl ∙ following _ _ _ (number_1 n e h ends)
 operand_split (operands.Number size n) e h ends = number_parts size n e h ends
 operand_split (operands.Target address) e h ends = ap (split []) (apart (codes "$") (eight_digits address) [] e) ∙ number_8 address e h ends
 operand_split (operands.Opcode word) e h ends = ap (split []) (apart (codes "$") (four_digits word) [] e) ∙ number_4 word e h ends
@@ -87,7 +87,7 @@ form_of (operands.Target address) = forms.Bare address
 form_of (operands.Opcode word) = forms.Bare word
 form_of (operands.Registers turned list) = list_form turned list
 
-pub operand_read : (o : Operand68) → IsShown o → operand_form (operand_pieces o) ≡ form_of o
+pub operand_read : (o : Operand68) → IsShown o → operand_form (operand_tokens o) ≡ form_of o
 unfolding operand_form word_form
 operand_read operands.Nothing h = refl
 operand_read (operands.Place size mode) h = mode_read size mode h.0
@@ -105,10 +105,10 @@ operand_read (operands.Registers turned list) h = list_read turned list
 
 -- ---- the comma between two operands
 
-abbrev comma : Piece
-comma = pieces.Mark 44
+abbrev comma : Token
+comma = tokens.Mark 44
 
-pub mode_apart : (size : Size) (mode : Mode) (rest : List Piece) → operands_of false (mode_pieces size mode ++ comma ∷ rest) ≡ (mode_pieces size mode, rest)
+pub mode_apart : (size : Size) (mode : Mode) (rest : List Token) → operands_of false (mode_tokens size mode ++ comma ∷ rest) ≡ (mode_tokens size mode, rest)
 unfolding operands_of
 mode_apart size (modes.Data n) rest = refl
 mode_apart size (modes.Address n) rest = refl
@@ -125,7 +125,7 @@ mode_apart Byte (modes.Immediate n) rest = refl
 mode_apart Word (modes.Immediate n) rest = refl
 mode_apart Long (modes.Immediate n) rest = refl
 
-mode_alone : (size : Size) (mode : Mode) → operands_of false (mode_pieces size mode) ≡ (mode_pieces size mode, [])
+mode_alone : (size : Size) (mode : Mode) → operands_of false (mode_tokens size mode) ≡ (mode_tokens size mode, [])
 unfolding operands_of
 mode_alone size (modes.Data n) = refl
 mode_alone size (modes.Address n) = refl
@@ -142,19 +142,19 @@ mode_alone Byte (modes.Immediate n) = refl
 mode_alone Word (modes.Immediate n) = refl
 mode_alone Long (modes.Immediate n) = refl
 
-number_apart : (size : Size) (n : ℕ) (rest : List Piece) → operands_of false (number_pieces size n ++ comma ∷ rest) ≡ (number_pieces size n, rest)
+number_apart : (size : Size) (n : ℕ) (rest : List Token) → operands_of false (number_tokens size n ++ comma ∷ rest) ≡ (number_tokens size n, rest)
 unfolding operands_of
 number_apart Byte n rest = refl
 number_apart Word n rest = refl
 number_apart Long n rest = refl
 
-number_alone : (size : Size) (n : ℕ) → operands_of false (number_pieces size n) ≡ (number_pieces size n, [])
+number_alone : (size : Size) (n : ℕ) → operands_of false (number_tokens size n) ≡ (number_tokens size n, [])
 unfolding operands_of
 number_alone Byte n = refl
 number_alone Word n = refl
 number_alone Long n = refl
 
-pub operand_apart : (o : Operand68) (rest : List Piece) → operands_of false (operand_pieces o ++ comma ∷ rest) ≡ (operand_pieces o, rest)
+pub operand_apart : (o : Operand68) (rest : List Token) → operands_of false (operand_tokens o ++ comma ∷ rest) ≡ (operand_tokens o, rest)
 unfolding operands_of
 operand_apart operands.Nothing rest = refl
 operand_apart (operands.Place size mode) rest = mode_apart size mode rest
@@ -170,7 +170,7 @@ operand_apart (operands.Target address) rest = refl
 operand_apart (operands.Opcode word) rest = refl
 operand_apart (operands.Registers turned list) rest = list_apart turned list rest
 
-pub operand_alone : (o : Operand68) → operands_of false (operand_pieces o) ≡ (operand_pieces o, [])
+pub operand_alone : (o : Operand68) → operands_of false (operand_tokens o) ≡ (operand_tokens o, [])
 unfolding operands_of
 operand_alone operands.Nothing = refl
 operand_alone (operands.Place size mode) = mode_alone size mode
@@ -188,24 +188,24 @@ operand_alone (operands.Registers turned list) = list_alone turned list
 
 -- ---- rows
 
-abbrev pub led_pieces : ℕ → Operand68 → List Piece
-led_pieces mark operands.Nothing = []
-led_pieces mark o = pieces.Mark mark ∷ operand_pieces o
+abbrev pub led_tokens : ℕ → Operand68 → List Token
+led_tokens mark operands.Nothing = []
+led_tokens mark o = tokens.Mark mark ∷ operand_tokens o
 
-led_split : (c : ℕ) (o : Operand68) (e : List ℕ) → is_worded c ≡ false → IsShown o → is_end e ≡ true → split [] (led (c ∷ []) o ++ e) ≡ led_pieces c o ++ split [] e
+led_split : (c : ℕ) (o : Operand68) (e : List ℕ) → is_worded c ≡ false → IsShown o → is_end e ≡ true → split [] (led (c ∷ []) o ++ e) ≡ led_tokens c o ++ split [] e
 led_split c operands.Nothing e is h ends = refl
-led_split c (operands.Place size mode) e is h ends = mark_split c (operand_text (operands.Place size mode) ++ e) is ∙ behind _ _ _ (operand_split (operands.Place size mode) e h ends)
-led_split c (operands.Data n) e is h ends = mark_split c (operand_text (operands.Data n) ++ e) is ∙ behind _ _ _ (operand_split (operands.Data n) e h ends)
-led_split c (operands.Address n) e is h ends = mark_split c (operand_text (operands.Address n) ++ e) is ∙ behind _ _ _ (operand_split (operands.Address n) e h ends)
-led_split c (operands.Either n) e is h ends = mark_split c (operand_text (operands.Either n) ++ e) is ∙ behind _ _ _ (operand_split (operands.Either n) e h ends)
-led_split c operands.Sr e is h ends = mark_split c (operand_text operands.Sr ++ e) is ∙ behind _ _ _ (operand_split operands.Sr e h ends)
-led_split c operands.Ccr e is h ends = mark_split c (operand_text operands.Ccr ++ e) is ∙ behind _ _ _ (operand_split operands.Ccr e h ends)
-led_split c operands.Usp e is h ends = mark_split c (operand_text operands.Usp ++ e) is ∙ behind _ _ _ (operand_split operands.Usp e h ends)
-led_split c (operands.Digit n) e is h ends = mark_split c (operand_text (operands.Digit n) ++ e) is ∙ behind _ _ _ (operand_split (operands.Digit n) e h ends)
-led_split c (operands.Number size n) e is h ends = mark_split c (operand_text (operands.Number size n) ++ e) is ∙ behind _ _ _ (operand_split (operands.Number size n) e h ends)
-led_split c (operands.Target address) e is h ends = mark_split c (operand_text (operands.Target address) ++ e) is ∙ behind _ _ _ (operand_split (operands.Target address) e h ends)
-led_split c (operands.Opcode word) e is h ends = mark_split c (operand_text (operands.Opcode word) ++ e) is ∙ behind _ _ _ (operand_split (operands.Opcode word) e h ends)
-led_split c (operands.Registers turned list) e is h ends = mark_split c (operand_text (operands.Registers turned list) ++ e) is ∙ behind _ _ _ (operand_split (operands.Registers turned list) e h ends)
+led_split c (operands.Place size mode) e is h ends = mark_split c (operand_text (operands.Place size mode) ++ e) is ∙ following _ _ _ (operand_split (operands.Place size mode) e h ends)
+led_split c (operands.Data n) e is h ends = mark_split c (operand_text (operands.Data n) ++ e) is ∙ following _ _ _ (operand_split (operands.Data n) e h ends)
+led_split c (operands.Address n) e is h ends = mark_split c (operand_text (operands.Address n) ++ e) is ∙ following _ _ _ (operand_split (operands.Address n) e h ends)
+led_split c (operands.Either n) e is h ends = mark_split c (operand_text (operands.Either n) ++ e) is ∙ following _ _ _ (operand_split (operands.Either n) e h ends)
+led_split c operands.Sr e is h ends = mark_split c (operand_text operands.Sr ++ e) is ∙ following _ _ _ (operand_split operands.Sr e h ends)
+led_split c operands.Ccr e is h ends = mark_split c (operand_text operands.Ccr ++ e) is ∙ following _ _ _ (operand_split operands.Ccr e h ends)
+led_split c operands.Usp e is h ends = mark_split c (operand_text operands.Usp ++ e) is ∙ following _ _ _ (operand_split operands.Usp e h ends)
+led_split c (operands.Digit n) e is h ends = mark_split c (operand_text (operands.Digit n) ++ e) is ∙ following _ _ _ (operand_split (operands.Digit n) e h ends)
+led_split c (operands.Number size n) e is h ends = mark_split c (operand_text (operands.Number size n) ++ e) is ∙ following _ _ _ (operand_split (operands.Number size n) e h ends)
+led_split c (operands.Target address) e is h ends = mark_split c (operand_text (operands.Target address) ++ e) is ∙ following _ _ _ (operand_split (operands.Target address) e h ends)
+led_split c (operands.Opcode word) e is h ends = mark_split c (operand_text (operands.Opcode word) ++ e) is ∙ following _ _ _ (operand_split (operands.Opcode word) e h ends)
+led_split c (operands.Registers turned list) e is h ends = mark_split c (operand_text (operands.Registers turned list) ++ e) is ∙ following _ _ _ (operand_split (operands.Registers turned list) e h ends)
 
 led_end : (c : ℕ) (o : Operand68) (e : List ℕ) → is_worded c ≡ false → is_end e ≡ true → is_end (led (c ∷ []) o ++ e) ≡ true
 led_end c operands.Nothing e is ends = ends
@@ -222,18 +222,18 @@ led_end c (operands.Target address) e is ends = rw is refl
 led_end c (operands.Opcode word) e is ends = rw is refl
 led_end c (operands.Registers turned list) e is ends = rw is refl
 
-abbrev pub size_pieces : Option Size → List Piece
-size_pieces None = []
-size_pieces (Some Byte) = pieces.Mark 46 ∷ pieces.Word (codes "b") ∷ []
-size_pieces (Some Word) = pieces.Mark 46 ∷ pieces.Word (codes "w") ∷ []
-size_pieces (Some Long) = pieces.Mark 46 ∷ pieces.Word (codes "l") ∷ []
+abbrev pub size_tokens : Option Size → List Token
+size_tokens None = []
+size_tokens (Some Byte) = tokens.Mark 46 ∷ tokens.Word (codes "b") ∷ []
+size_tokens (Some Word) = tokens.Mark 46 ∷ tokens.Word (codes "w") ∷ []
+size_tokens (Some Long) = tokens.Mark 46 ∷ tokens.Word (codes "l") ∷ []
 
-size_split : (size : Option Size) (e : List ℕ) → is_end e ≡ true → split [] (size_text size ++ e) ≡ size_pieces size ++ split [] e
+size_split : (size : Option Size) (e : List ℕ) → is_end e ≡ true → split [] (size_text size ++ e) ≡ size_tokens size ++ split [] e
 unfolding is_worded token_of is_name
 size_split None e ends = refl
-size_split (Some Byte) e ends = mark_split 46 (98 ∷ e) refl ∙ behind _ _ _ (word_split (codes "b") e refl ends)
-size_split (Some Word) e ends = mark_split 46 (119 ∷ e) refl ∙ behind _ _ _ (word_split (codes "w") e refl ends)
-size_split (Some Long) e ends = mark_split 46 (108 ∷ e) refl ∙ behind _ _ _ (word_split (codes "l") e refl ends)
+size_split (Some Byte) e ends = mark_split 46 (98 ∷ e) refl ∙ following _ _ _ (word_split (codes "b") e refl ends)
+size_split (Some Word) e ends = mark_split 46 (119 ∷ e) refl ∙ following _ _ _ (word_split (codes "w") e refl ends)
+size_split (Some Long) e ends = mark_split 46 (108 ∷ e) refl ∙ following _ _ _ (word_split (codes "l") e refl ends)
 
 pub size_end : (size : Option Size) (e : List ℕ) → is_end e ≡ true → is_end (size_text size ++ e) ≡ true
 unfolding is_worded
@@ -242,8 +242,8 @@ size_end (Some Byte) e ends = refl
 size_end (Some Word) e ends = refl
 size_end (Some Long) e ends = refl
 
-abbrev pub row_pieces : Row68 → List Piece
-row_pieces row = pieces.Word row.name ∷ (size_pieces row.size ++ (led_pieces 32 row.first ++ led_pieces 44 row.second))
+abbrev pub row_tokens : Row68 → List Token
+row_tokens row = tokens.Word row.name ∷ (size_tokens row.size ++ (led_tokens 32 row.first ++ led_tokens 44 row.second))
 
 pub row_shape : (name size first second : List ℕ) → ((name ++ size) ++ first) ++ second ≡ name ++ (size ++ (first ++ (second ++ [])))
 row_shape name size first second =
@@ -261,79 +261,79 @@ nothing_left : split [] [] ≡ []
 unfolding split
 nothing_left = refl
 
-pub row_split : (row : Row68) → every is_worded row.name ≡ true → IsShown row.first → IsShown row.second → opened [] (row_text row) ≡ row_pieces row
+pub row_split : (row : Row68) → every is_worded row.name ≡ true → IsShown row.first → IsShown row.second → opened [] (row_text row) ≡ row_tokens row
 row_split row named first second =
     let last = led (codes ",") row.second ++ [] in
     let end_2 : is_end last ≡ true = led_end 44 row.second [] comma_worded refl in
     let end_1 : is_end (led (codes " ") row.first ++ last) ≡ true = led_end 32 row.first last blank_worded end_2 in
     ap (opened []) (row_shape row.name (size_text row.size) (led (codes " ") row.first) (led (codes ",") row.second))
     ∙ name_opens row.name (size_text row.size ++ (led (codes " ") row.first ++ last)) named (size_end row.size _ end_1)
-    ∙ behind _ _ _ (size_split row.size _ end_1
-    ∙ ap (λ (l : List Piece). size_pieces row.size ++ l) (led_split 32 row.first last blank_worded first end_2
-    ∙ ap (λ (l : List Piece). led_pieces 32 row.first ++ l) (led_split 44 row.second [] comma_worded second refl
-    ∙ ap (λ (l : List Piece). led_pieces 44 row.second ++ l) nothing_left ∙ append-nil (led_pieces 44 row.second))))
+    ∙ following _ _ _ (size_split row.size _ end_1
+    ∙ ap (λ (l : List Token). size_tokens row.size ++ l) (led_split 32 row.first last blank_worded first end_2
+    ∙ ap (λ (l : List Token). led_tokens 32 row.first ++ l) (led_split 44 row.second [] comma_worded second refl
+    ∙ ap (λ (l : List Token). led_tokens 44 row.second ++ l) nothing_left ∙ append-nil (led_tokens 44 row.second))))
 
 -- ---- what is read of a row
 
 abbrev pub source_of : Row68 → Source
-source_of row = record { stem = row.name; size = row.size; first = form_of row.first; second = form_of row.second }
+source_of row = record { mnemonic = row.name; size = row.size; first = form_of row.first; second = form_of row.second }
 
-none_sized : (stem : List ℕ) (ps : List Piece) → with_size stem (pieces.Mark 32 ∷ ps) ≡ with_operands stem None (pieces.Mark 32 ∷ ps)
-none_sized stem [] = refl
-none_sized stem (pieces.Word w ∷ ps) = refl
-none_sized stem (pieces.Number n ∷ ps) = refl
-none_sized stem (pieces.Name s ∷ ps) = refl
-none_sized stem (pieces.Mark c ∷ ps) = refl
+none_sized : (mnemonic : List ℕ) (ps : List Token) → with_size mnemonic (tokens.Mark 32 ∷ ps) ≡ with_operands mnemonic None (tokens.Mark 32 ∷ ps)
+none_sized mnemonic [] = refl
+none_sized mnemonic (tokens.Word w ∷ ps) = refl
+none_sized mnemonic (tokens.Number n ∷ ps) = refl
+none_sized mnemonic (tokens.Name s ∷ ps) = refl
+none_sized mnemonic (tokens.Mark c ∷ ps) = refl
 
 -- the operands of a row: there are none, one or two
-abbrev tail : Operand68 → Operand68 → List Piece
-tail first second = led_pieces 32 first ++ led_pieces 44 second
+abbrev tail : Operand68 → Operand68 → List Token
+tail first second = led_tokens 32 first ++ led_tokens 44 second
 
 abbrev read_tail : List ℕ → Option Size → Operand68 → Operand68 → Source
-read_tail stem size first second = record { stem = stem; size = size; first = form_of first; second = form_of second }
+read_tail mnemonic size first second = record { mnemonic = mnemonic; size = size; first = form_of first; second = form_of second }
 
-two_read : (stem : List ℕ) (size : Option Size) (first second : Operand68) → IsShown first → IsShown second
-    → with_operands stem size (pieces.Mark 32 ∷ (operand_pieces first ++ (comma ∷ operand_pieces second))) ≡ read_tail stem size first second
-two_read stem size first second f s = rw (operand_apart first (operand_pieces second), operand_read first f, operand_read second s) refl
+two_read : (mnemonic : List ℕ) (size : Option Size) (first second : Operand68) → IsShown first → IsShown second
+    → with_operands mnemonic size (tokens.Mark 32 ∷ (operand_tokens first ++ (comma ∷ operand_tokens second))) ≡ read_tail mnemonic size first second
+two_read mnemonic size first second f s = rw (operand_apart first (operand_tokens second), operand_read first f, operand_read second s) refl
 
 nothing_read : operand_form [] ≡ forms.Nothing
 unfolding operand_form
 nothing_read = refl
 
-one_read : (stem : List ℕ) (size : Option Size) (first : Operand68) → IsShown first
-    → with_operands stem size (pieces.Mark 32 ∷ operand_pieces first) ≡ read_tail stem size first operands.Nothing
-one_read stem size first f = rw (operand_alone first, operand_read first f, nothing_read) refl
+one_read : (mnemonic : List ℕ) (size : Option Size) (first : Operand68) → IsShown first
+    → with_operands mnemonic size (tokens.Mark 32 ∷ operand_tokens first) ≡ read_tail mnemonic size first operands.Nothing
+one_read mnemonic size first f = rw (operand_alone first, operand_read first f, nothing_read) refl
 
-sized_read : (stem : List ℕ) (size : Option Size) (ps : List Piece) → with_size stem (size_pieces size ++ (pieces.Mark 32 ∷ ps)) ≡ with_operands stem size (pieces.Mark 32 ∷ ps)
-sized_read stem None ps = none_sized stem ps
-sized_read stem (Some Byte) ps = refl
-sized_read stem (Some Word) ps = refl
-sized_read stem (Some Long) ps = refl
+sized_read : (mnemonic : List ℕ) (size : Option Size) (ps : List Token) → with_size mnemonic (size_tokens size ++ (tokens.Mark 32 ∷ ps)) ≡ with_operands mnemonic size (tokens.Mark 32 ∷ ps)
+sized_read mnemonic None ps = none_sized mnemonic ps
+sized_read mnemonic (Some Byte) ps = refl
+sized_read mnemonic (Some Word) ps = refl
+sized_read mnemonic (Some Long) ps = refl
 
 opened_read : (row : Row68) → every is_worded row.name ≡ true → IsShown row.first → IsShown row.second
-    → read_source (opened [] (row_text row)) ≡ with_size row.name (size_pieces row.size ++ (led_pieces 32 row.first ++ led_pieces 44 row.second))
+    → read_source (opened [] (row_text row)) ≡ with_size row.name (size_tokens row.size ++ (led_tokens 32 row.first ++ led_tokens 44 row.second))
 unfolding read_source
 opened_read row named first second = ap read_source (row_split row named first second)
 
 -- what is read of a row of two operands, of one and of none
 pub row_of_two : (row : Row68) → every is_worded row.name ≡ true → IsShown row.first → IsShown row.second
-    → led_pieces 32 row.first ≡ pieces.Mark 32 ∷ operand_pieces row.first → led_pieces 44 row.second ≡ comma ∷ operand_pieces row.second
+    → led_tokens 32 row.first ≡ tokens.Mark 32 ∷ operand_tokens row.first → led_tokens 44 row.second ≡ comma ∷ operand_tokens row.second
     → read_source (opened [] (row_text row)) ≡ source_of row
 row_of_two row named first second one two =
     opened_read row named first second
-    ∙ ap (λ (l : List Piece). with_size row.name (size_pieces row.size ++ (l ++ led_pieces 44 row.second))) one
-    ∙ ap (λ (l : List Piece). with_size row.name (size_pieces row.size ++ (pieces.Mark 32 ∷ (operand_pieces row.first ++ l)))) two
-    ∙ sized_read row.name row.size (operand_pieces row.first ++ (comma ∷ operand_pieces row.second))
+    ∙ ap (λ (l : List Token). with_size row.name (size_tokens row.size ++ (l ++ led_tokens 44 row.second))) one
+    ∙ ap (λ (l : List Token). with_size row.name (size_tokens row.size ++ (tokens.Mark 32 ∷ (operand_tokens row.first ++ l)))) two
+    ∙ sized_read row.name row.size (operand_tokens row.first ++ (comma ∷ operand_tokens row.second))
     ∙ two_read row.name row.size row.first row.second first second
 
 abbrev pub single : List ℕ → Option Size → Operand68 → Row68
 single name size first = record { name = name; size = size; first = first; second = operands.Nothing }
 
 pub row_of_one : (name : List ℕ) (size : Option Size) (first : Operand68) → every is_worded name ≡ true → IsShown first
-    → led_pieces 32 first ≡ pieces.Mark 32 ∷ operand_pieces first → read_source (opened [] (row_text (single name size first))) ≡ source_of (single name size first)
+    → led_tokens 32 first ≡ tokens.Mark 32 ∷ operand_tokens first → read_source (opened [] (row_text (single name size first))) ≡ source_of (single name size first)
 row_of_one name size first named shown one =
     opened_read (single name size first) named shown tt
-    ∙ ap (λ (l : List Piece). with_size name (size_pieces size ++ (l ++ []))) one
-    ∙ ap (λ (l : List Piece). with_size name (size_pieces size ++ (pieces.Mark 32 ∷ l))) (append-nil (operand_pieces first))
-    ∙ sized_read name size (operand_pieces first)
+    ∙ ap (λ (l : List Token). with_size name (size_tokens size ++ (l ++ []))) one
+    ∙ ap (λ (l : List Token). with_size name (size_tokens size ++ (tokens.Mark 32 ∷ l))) (append-nil (operand_tokens first))
+    ∙ sized_read name size (operand_tokens first)
     ∙ one_read name size first shown

@@ -18,8 +18,8 @@ use Rattle.m68k_decode.specs.declared.op.Op.TheVariants as ops
 use Rattle.asm_m68k.specs.Reading.{Source}
 use Rattle.asm_m68k.specs.declared.form.Form.{Form}
 use Rattle.asm_m68k.specs.declared.form.Form.TheVariants as forms
-use Rattle.asm_m68k.specs.declared.stem.Stem.{Stem}
-use Rattle.asm_m68k.specs.declared.stem.Stem.TheVariants as stems
+use Rattle.asm_m68k.specs.declared.mnemonic.Mnemonic.{Mnemonic}
+use Rattle.asm_m68k.specs.declared.mnemonic.Mnemonic.TheVariants as stems
 
 -- an addressing mode; the size is that of a number
 unfoldable pub mode : Size → Form → Mode
@@ -176,7 +176,7 @@ shift task size first second =
     ops.ShiftByRegister task size (register first) (register second)
 
 -- the instruction of a name, a size and two operands, at an address
-unfoldable pub built : Stem → Size → Form → Form → ℕ → Op
+unfoldable pub built : Mnemonic → Size → Form → Form → ℕ → Op
 built stems.Unknown size first second at = ops.Nop
 built (stems.Immediate task) size first second at = immediate task size first second
 built stems.CompareImmediate size first second at = ops.CompareImmediate size (number first % modulus_of size) (mode size second)
@@ -231,10 +231,10 @@ built (stems.Shift task) size first second at = shift task size first second
 -- an instruction's name, by its text
 pub record Entry : Type 0 where
   pub text : List ℕ
-  pub stem : Stem
+  pub mnemonic : Mnemonic
 
-abbrev pub entry_for : List ℕ → Stem → Entry
-entry_for text stem = record { text = text; stem = stem }
+abbrev pub entry_for : List ℕ → Mnemonic → Entry
+entry_for text mnemonic = record { text = text; mnemonic = mnemonic }
 
 abbrev pub table : List Entry
 table =
@@ -359,13 +359,13 @@ table =
     []
 
 -- what a text is entered as
-unfoldable pub stem_in : List Entry → List ℕ → Stem
-stem_in [] text = stems.Unknown
-stem_in (e ∷ es) text = if bytes_eq e.text text then e.stem else stem_in es text
+unfoldable pub mnemonic_in : List Entry → List ℕ → Mnemonic
+mnemonic_in [] text = stems.Unknown
+mnemonic_in (e ∷ es) text = if bytes_eq e.text text then e.mnemonic else mnemonic_in es text
 
-unfoldable pub stem_of : List ℕ → Stem
-stem_of text = stem_in table text
+unfoldable pub mnemonic_of : List ℕ → Mnemonic
+mnemonic_of text = mnemonic_in table text
 
 -- what an instruction that is written is taken for
 unfoldable pub meant : Source → ℕ → Op
-meant s at = built (stem_of s.stem) (written s.size) s.first s.second at
+meant s at = built (mnemonic_of s.mnemonic) (written s.size) s.first s.second at

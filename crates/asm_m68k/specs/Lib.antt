@@ -3,9 +3,9 @@ pub mod Coded
 pub mod Encoding
 pub mod Entered
 pub mod Forms
-pub mod Judged
+pub mod Checked
 pub mod Reading
-pub mod Said
+pub mod RoundTrips
 pub mod Seen
 pub mod Table
 pub mod Written

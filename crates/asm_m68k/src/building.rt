@@ -11,7 +11,7 @@ use crate::form_values::{
     is_nothing, is_sr, is_usp, list, list_with, low_byte, low_word, mode, number, offset, quick,
     register,
 };
-use crate::stem::Stem;
+use crate::mnemonic::Mnemonic;
 use m68k_decode::Op;
 use md_word::{Size, Task};
 
@@ -122,63 +122,67 @@ fn shift(task: Task, size: Size, first: Form, second: Form) -> Op
 /// The instruction of a mnemonic, a size and two operands, at an address. It is total: operands that do not fit give some
 /// instruction, and the round-trip check refuses it.
 #[tactic(auto, unfolding(crate::specs::Building::built))]
-pub(crate) fn built(stem: Stem, size: Size, first: Form, second: Form, at: u32) -> Op
+pub(crate) fn built(mnemonic: Mnemonic, size: Size, first: Form, second: Form, at: u32) -> Op
     requires first { IsForm first }
     requires second { IsForm second }
-    ensures value { result ≡ building.built stem size first second at }
+    ensures value { result ≡ building.built mnemonic size first second at }
     ensures coded { IsCoded result }
 {
-    match stem {
-        Stem::Unknown | Stem::Nop => Op::Nop,
-        Stem::Immediate(task) => immediate(task, size, first, second),
-        Stem::CompareImmediate => {
+    match mnemonic {
+        Mnemonic::Unknown | Mnemonic::Nop => Op::Nop,
+        Mnemonic::Immediate(task) => immediate(task, size, first, second),
+        Mnemonic::CompareImmediate => {
             Op::CompareImmediate(size, size.low(number(first)), mode(size, second))
         }
-        Stem::Bit(task) => bit(task, first, second),
-        Stem::Movep => movep(size, first, second),
-        Stem::Move => moved(size, first, second),
-        Stem::Movea => Op::Movea(size, register(second), mode(size, first)),
-        Stem::Movem => movem(size, first, second),
-        Stem::Unary(task) => Op::Unary(task, size, mode(size, first)),
-        Stem::Nbcd => Op::Nbcd(mode(Size::Byte, first)),
-        Stem::Swap => Op::Swap(register(first)),
-        Stem::Ext => Op::Ext(size, register(first)),
-        Stem::Pea => Op::Pea(mode(Size::Long, first)),
-        Stem::Tst => Op::Tst(size, mode(size, first)),
-        Stem::Tas => Op::Tas(mode(Size::Byte, first)),
-        Stem::Trap => Op::Trap((number(first) % 16) as u8),
-        Stem::Link => Op::Link(register(first), low_word(second)),
-        Stem::Unlk => Op::Unlk(register(first)),
-        Stem::Reset => Op::Reset,
-        Stem::Stop => Op::Stop(low_word(first)),
-        Stem::Rte => Op::Rte,
-        Stem::Rts => Op::Rts,
-        Stem::Trapv => Op::Trapv,
-        Stem::Rtr => Op::Rtr,
-        Stem::Jsr => Op::Jsr(mode(Size::Long, first)),
-        Stem::Jmp => Op::Jmp(mode(Size::Long, first)),
-        Stem::Lea => Op::Lea(register(second), mode(Size::Long, first)),
-        Stem::Chk => Op::Chk(register(second), mode(Size::Word, first)),
-        Stem::Quick(task) => Op::Quick(task, size, quick(first), mode(size, second)),
-        Stem::Scc(condition) => Op::Scc(condition, mode(Size::Byte, first)),
-        Stem::Dbcc(condition) => Op::Dbcc(condition, register(first), by_word(at, second)),
-        Stem::Bra => Op::Bra(displacement(size, at, first)),
-        Stem::Bsr => Op::Bsr(displacement(size, at, first)),
-        Stem::Bcc(condition) => Op::Bcc(condition, displacement(size, at, first)),
-        Stem::Moveq => Op::Moveq(register(second), low_byte(first)),
-        Stem::Divu => Op::Divu(register(second), mode(Size::Word, first)),
-        Stem::Divs => Op::Divs(register(second), mode(Size::Word, first)),
-        Stem::Decimal(task) => Op::Decimal(task, mode(Size::Byte, first), mode(Size::Byte, second)),
-        Stem::Extended(task) => Op::Extended(task, size, mode(size, first), mode(size, second)),
-        Stem::Sum(task) => sum(task, size, first, second),
-        Stem::ToAddress(task) => Op::ToAddress(task, size, register(second), mode(size, first)),
-        Stem::Cmp => Op::Cmp(size, register(second), mode(size, first)),
-        Stem::Cmpa => Op::Cmpa(size, register(second), mode(size, first)),
-        Stem::Eor => Op::Eor(size, register(first), mode(size, second)),
-        Stem::Cmpm => Op::Cmpm(size, base(second), base(first)),
-        Stem::Mulu => Op::Mulu(register(second), mode(Size::Word, first)),
-        Stem::Muls => Op::Muls(register(second), mode(Size::Word, first)),
-        Stem::Exg => Op::Exg(either(first), either(second)),
-        Stem::Shift(task) => shift(task, size, first, second),
+        Mnemonic::Bit(task) => bit(task, first, second),
+        Mnemonic::Movep => movep(size, first, second),
+        Mnemonic::Move => moved(size, first, second),
+        Mnemonic::Movea => Op::Movea(size, register(second), mode(size, first)),
+        Mnemonic::Movem => movem(size, first, second),
+        Mnemonic::Unary(task) => Op::Unary(task, size, mode(size, first)),
+        Mnemonic::Nbcd => Op::Nbcd(mode(Size::Byte, first)),
+        Mnemonic::Swap => Op::Swap(register(first)),
+        Mnemonic::Ext => Op::Ext(size, register(first)),
+        Mnemonic::Pea => Op::Pea(mode(Size::Long, first)),
+        Mnemonic::Tst => Op::Tst(size, mode(size, first)),
+        Mnemonic::Tas => Op::Tas(mode(Size::Byte, first)),
+        Mnemonic::Trap => Op::Trap((number(first) % 16) as u8),
+        Mnemonic::Link => Op::Link(register(first), low_word(second)),
+        Mnemonic::Unlk => Op::Unlk(register(first)),
+        Mnemonic::Reset => Op::Reset,
+        Mnemonic::Stop => Op::Stop(low_word(first)),
+        Mnemonic::Rte => Op::Rte,
+        Mnemonic::Rts => Op::Rts,
+        Mnemonic::Trapv => Op::Trapv,
+        Mnemonic::Rtr => Op::Rtr,
+        Mnemonic::Jsr => Op::Jsr(mode(Size::Long, first)),
+        Mnemonic::Jmp => Op::Jmp(mode(Size::Long, first)),
+        Mnemonic::Lea => Op::Lea(register(second), mode(Size::Long, first)),
+        Mnemonic::Chk => Op::Chk(register(second), mode(Size::Word, first)),
+        Mnemonic::Quick(task) => Op::Quick(task, size, quick(first), mode(size, second)),
+        Mnemonic::Scc(condition) => Op::Scc(condition, mode(Size::Byte, first)),
+        Mnemonic::Dbcc(condition) => Op::Dbcc(condition, register(first), by_word(at, second)),
+        Mnemonic::Bra => Op::Bra(displacement(size, at, first)),
+        Mnemonic::Bsr => Op::Bsr(displacement(size, at, first)),
+        Mnemonic::Bcc(condition) => Op::Bcc(condition, displacement(size, at, first)),
+        Mnemonic::Moveq => Op::Moveq(register(second), low_byte(first)),
+        Mnemonic::Divu => Op::Divu(register(second), mode(Size::Word, first)),
+        Mnemonic::Divs => Op::Divs(register(second), mode(Size::Word, first)),
+        Mnemonic::Decimal(task) => Op::Decimal(
+            task,
+            mode(Size::Byte, first),
+            mode(Size::Byte, second),
+        ),
+        Mnemonic::Extended(task) => Op::Extended(task, size, mode(size, first), mode(size, second)),
+        Mnemonic::Sum(task) => sum(task, size, first, second),
+        Mnemonic::ToAddress(task) => Op::ToAddress(task, size, register(second), mode(size, first)),
+        Mnemonic::Cmp => Op::Cmp(size, register(second), mode(size, first)),
+        Mnemonic::Cmpa => Op::Cmpa(size, register(second), mode(size, first)),
+        Mnemonic::Eor => Op::Eor(size, register(first), mode(size, second)),
+        Mnemonic::Cmpm => Op::Cmpm(size, base(second), base(first)),
+        Mnemonic::Mulu => Op::Mulu(register(second), mode(Size::Word, first)),
+        Mnemonic::Muls => Op::Muls(register(second), mode(Size::Word, first)),
+        Mnemonic::Exg => Op::Exg(either(first), either(second)),
+        Mnemonic::Shift(task) => shift(task, size, first, second),
     }
 }

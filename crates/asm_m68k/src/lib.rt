@@ -3,6 +3,7 @@
 #![tactic(auto)]
 
 mod building;
+mod check_round_trip;
 mod codes;
 mod encoder;
 pub mod encoding_laws;
@@ -10,14 +11,13 @@ mod extension;
 mod first;
 mod form;
 mod form_values;
-mod judge;
+mod mnemonic;
 mod reader;
 mod reading;
 pub mod reading_laws;
-mod stem;
 mod stems;
 
+pub use check_round_trip::words_of;
 pub use encoder::encode;
 pub use form::Form;
-pub use judge::words_of;
 pub use reader::{Source, read};

@@ -6,14 +6,14 @@ ghost use Rattle.asm_m68k.specs.Written.{source_seen};
 
 use crate::form::Form;
 use crate::reading::{begins, operand_form};
-use md_asm_text::{Piece, first_operand, second_operand};
+use md_asm_text::{Token, first_operand, second_operand};
 use md_word::Size;
 
 /// An instruction as it is written.
 #[derive(Clone, Copy)]
 pub struct Source<'a> {
     /// Its mnemonic, without the size.
-    pub stem: &'a [u8],
+    pub mnemonic: &'a [u8],
     /// Its size, or `None` where none is written.
     pub size: Option<Size>,
     pub first: Form,
@@ -33,20 +33,20 @@ fn size_of(word: &[u8]) -> Size
     }
 }
 
-fn with_operands<'a>(stem: &'a [u8], size: Option<Size>, pieces: &[Piece<'a>]) -> Source<'a>
-    ensures seen { source_seen result ≡ reading.with_operands stem.now size (map shown pieces.now) }
+fn with_operands<'a>(mnemonic: &'a [u8], size: Option<Size>, tokens: &[Token<'a>]) -> Source<'a>
+    ensures seen { source_seen result ≡ reading.with_operands mnemonic.now size (map shown tokens.now) }
     ensures first { IsForm result.first }
     ensures second { IsForm result.second }
 {
-    match pieces {
+    match tokens {
         [] => Source {
-            stem,
+            mnemonic,
             size,
             first: Form::Nothing,
             second: Form::Nothing,
         },
         [_, rest @ ..] => Source {
-            stem,
+            mnemonic,
             size,
             first: operand_form(first_operand(rest)),
             second: operand_form(second_operand(rest)),
@@ -54,31 +54,31 @@ fn with_operands<'a>(stem: &'a [u8], size: Option<Size>, pieces: &[Piece<'a>]) -
     }
 }
 
-fn with_size<'a>(stem: &'a [u8], pieces: &[Piece<'a>]) -> Source<'a>
-    ensures seen { source_seen result ≡ reading.with_size stem.now (map shown pieces.now) }
+fn with_size<'a>(mnemonic: &'a [u8], tokens: &[Token<'a>]) -> Source<'a>
+    ensures seen { source_seen result ≡ reading.with_size mnemonic.now (map shown tokens.now) }
     ensures first { IsForm result.first }
     ensures second { IsForm result.second }
 {
-    match pieces {
-        [Piece::Mark(46), Piece::Word(word), rest @ ..] => {
-            with_operands(stem, Some(size_of(word)), rest)
+    match tokens {
+        [Token::Mark(46), Token::Word(word), rest @ ..] => {
+            with_operands(mnemonic, Some(size_of(word)), rest)
         }
-        _ => with_operands(stem, None, pieces),
+        _ => with_operands(mnemonic, None, tokens),
     }
 }
 
 /// The instruction that is read of tokens. It is total: each text is taken for one of the forms that its kinds of tokens
 /// allow, and the round-trip check refuses what is none.
 #[tactic(auto, unfolding(crate::specs::Reading::read_source))]
-pub fn read<'a>(pieces: &[Piece<'a>]) -> Source<'a>
-    ensures seen { source_seen result ≡ reading.read_source (map shown pieces.now) }
+pub fn read<'a>(tokens: &[Token<'a>]) -> Source<'a>
+    ensures seen { source_seen result ≡ reading.read_source (map shown tokens.now) }
     ensures first { IsForm result.first }
     ensures second { IsForm result.second }
 {
-    match pieces {
-        [Piece::Word(stem), rest @ ..] => with_size(stem, rest),
+    match tokens {
+        [Token::Word(mnemonic), rest @ ..] => with_size(mnemonic, rest),
         _ => Source {
-            stem: &[],
+            mnemonic: &[],
             size: None,
             first: Form::Nothing,
             second: Form::Nothing,

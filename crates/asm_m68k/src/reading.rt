@@ -5,7 +5,7 @@ ghost use Rattle.asm_m68k.specs.Reading as reading;
 ghost use Rattle.asm_m68k.specs.Seen.{masks_seen};
 
 use crate::form::Form;
-use md_asm_text::Piece;
+use md_asm_text::Token;
 
 /// A register of sixteen: a letter and a digit.
 #[tactic(auto, unfolding(crate::specs::Reading::register_of))]
@@ -73,47 +73,47 @@ fn with_register(n: u8, masks: Masks) -> Masks
 
 /// The registers of a list.
 #[tactic(auto, unfolding(crate::specs::Reading::masks_of))]
-fn masks_of(pieces: &[Piece<'_>]) -> Masks
-    ensures { masks_seen result ≡ reading.masks_of (map shown pieces.now) }
+fn masks_of(tokens: &[Token<'_>]) -> Masks
+    ensures { masks_seen result ≡ reading.masks_of (map shown tokens.now) }
 {
-    match pieces {
+    match tokens {
         [] => Masks { up: 0, down: 0 },
-        [Piece::Word(word), rest @ ..] => with_register(register_of(word), masks_of(rest)),
+        [Token::Word(word), rest @ ..] => with_register(register_of(word), masks_of(rest)),
         [_, rest @ ..] => masks_of(rest),
     }
 }
 
 /// (An) or (An)+, by what follows An.
-fn bracketed(word: &[u8], pieces: &[Piece<'_>]) -> Form
-    ensures value { result ≡ reading.bracketed word.now (map shown pieces.now) }
+fn bracketed(word: &[u8], tokens: &[Token<'_>]) -> Form
+    ensures value { result ≡ reading.bracketed word.now (map shown tokens.now) }
     ensures registers { IsForm result }
 {
-    match pieces {
+    match tokens {
         [] => Form::Nothing,
         [_] => Form::Indirect(low_register_of(word)),
         [_, _, ..] => Form::PostInc(low_register_of(word)),
     }
 }
 
-fn lowered(pieces: &[Piece<'_>]) -> Form
-    ensures value { result ≡ reading.lowered (map shown pieces.now) }
+fn lowered(tokens: &[Token<'_>]) -> Form
+    ensures value { result ≡ reading.lowered (map shown tokens.now) }
     ensures registers { IsForm result }
 {
-    match pieces {
-        [Piece::Word(word), ..] => Form::PreDec(low_register_of(word)),
+    match tokens {
+        [Token::Word(word), ..] => Form::PreDec(low_register_of(word)),
         _ => Form::Nothing,
     }
 }
 
 /// After a character.
-fn marked(pieces: &[Piece<'_>]) -> Form
-    ensures value { result ≡ reading.marked (map shown pieces.now) }
+fn marked(tokens: &[Token<'_>]) -> Form
+    ensures value { result ≡ reading.marked (map shown tokens.now) }
     ensures registers { IsForm result }
 {
-    match pieces {
+    match tokens {
         [] => Form::Nothing,
-        [Piece::Number(n), ..] => Form::Immediate(*n),
-        [Piece::Word(word), rest @ ..] => bracketed(word, rest),
+        [Token::Number(n), ..] => Form::Immediate(*n),
+        [Token::Word(word), rest @ ..] => bracketed(word, rest),
         [_, rest @ ..] => lowered(rest),
     }
 }
@@ -134,21 +134,21 @@ fn indexed(n: u32, word: &[u8], index: &[u8], size: &[u8]) -> Form
     }
 }
 
-fn with_index(n: u32, word: &[u8], index: &[u8], pieces: &[Piece<'_>]) -> Form
-    ensures value { result ≡ reading.with_index n word.now index.now (map shown pieces.now) }
+fn with_index(n: u32, word: &[u8], index: &[u8], tokens: &[Token<'_>]) -> Form
+    ensures value { result ≡ reading.with_index n word.now index.now (map shown tokens.now) }
     ensures registers { IsForm result }
 {
-    match pieces {
-        [_, Piece::Word(size), ..] => indexed(n, word, index, size),
+    match tokens {
+        [_, Token::Word(size), ..] => indexed(n, word, index, size),
         _ => Form::Nothing,
     }
 }
 
-fn based(n: u32, word: &[u8], pieces: &[Piece<'_>]) -> Form
-    ensures value { result ≡ reading.based n word.now (map shown pieces.now) }
+fn based(n: u32, word: &[u8], tokens: &[Token<'_>]) -> Form
+    ensures value { result ≡ reading.based n word.now (map shown tokens.now) }
     ensures registers { IsForm result }
 {
-    match pieces {
+    match tokens {
         [] => {
             if begins(112, word) {
                 Form::PcDisplaced(n)
@@ -156,16 +156,16 @@ fn based(n: u32, word: &[u8], pieces: &[Piece<'_>]) -> Form
                 Form::Displaced(low_register_of(word), n)
             }
         }
-        [Piece::Word(index), rest @ ..] => with_index(n, word, index, rest),
+        [Token::Word(index), rest @ ..] => with_index(n, word, index, rest),
         [_, ..] => Form::Nothing,
     }
 }
 
-fn sized(n: u32, word: &[u8], pieces: &[Piece<'_>]) -> Form
-    ensures value { result ≡ reading.sized n word.now (map shown pieces.now) }
+fn sized(n: u32, word: &[u8], tokens: &[Token<'_>]) -> Form
+    ensures value { result ≡ reading.sized n word.now (map shown tokens.now) }
     ensures registers { IsForm result }
 {
-    match pieces {
+    match tokens {
         [] => {
             if begins(119, word) {
                 Form::Short(n)
@@ -177,46 +177,46 @@ fn sized(n: u32, word: &[u8], pieces: &[Piece<'_>]) -> Form
     }
 }
 
-fn behind_number(n: u32, pieces: &[Piece<'_>]) -> Form
-    ensures value { result ≡ reading.behind_number n (map shown pieces.now) }
+fn after_number(n: u32, tokens: &[Token<'_>]) -> Form
+    ensures value { result ≡ reading.after_number n (map shown tokens.now) }
     ensures registers { IsForm result }
 {
-    match pieces {
-        [Piece::Word(word), rest @ ..] => sized(n, word, rest),
+    match tokens {
+        [Token::Word(word), rest @ ..] => sized(n, word, rest),
         _ => Form::Nothing,
     }
 }
 
 /// After a number.
-fn numbered(n: u32, pieces: &[Piece<'_>]) -> Form
-    ensures value { result ≡ reading.numbered n (map shown pieces.now) }
+fn numbered(n: u32, tokens: &[Token<'_>]) -> Form
+    ensures value { result ≡ reading.numbered n (map shown tokens.now) }
     ensures registers { IsForm result }
 {
-    match pieces {
+    match tokens {
         [] => Form::Bare(n),
-        [_, rest @ ..] => behind_number(n, rest),
+        [_, rest @ ..] => after_number(n, rest),
     }
 }
 
-fn list(pieces: &[Piece<'_>]) -> Form
-    ensures value { result ≡ reading.registers_of (map shown pieces.now) }
+fn list(tokens: &[Token<'_>]) -> Form
+    ensures value { result ≡ reading.registers_of (map shown tokens.now) }
     ensures registers { IsForm result }
 {
-    let masks = masks_of(pieces);
+    let masks = masks_of(tokens);
     Form::Registers(masks.up, masks.down)
 }
 
 /// The form of an operand.
 #[tactic(auto, unfolding(crate::specs::Reading::operand_form))]
-pub(crate) fn operand_form(pieces: &[Piece<'_>]) -> Form
-    ensures value { result ≡ reading.operand_form (map shown pieces.now) }
+pub(crate) fn operand_form(tokens: &[Token<'_>]) -> Form
+    ensures value { result ≡ reading.operand_form (map shown tokens.now) }
     ensures registers { IsForm result }
 {
-    match pieces {
+    match tokens {
         [] => Form::Nothing,
-        [Piece::Word(word)] => word_form(word),
-        [Piece::Word(_), _, ..] => list(pieces),
-        [Piece::Number(n), rest @ ..] => numbered(*n, rest),
+        [Token::Word(word)] => word_form(word),
+        [Token::Word(_), _, ..] => list(tokens),
+        [Token::Number(n), rest @ ..] => numbered(*n, rest),
         [_, rest @ ..] => marked(rest),
     }
 }

@@ -22,8 +22,8 @@ abbrev sized : Decoded80 → Bool
 sized d = (length (encoded d.op) == d.length) && nat_le d.length 4
 
 -- after a prefix that changes the opcode
-abbrev sized_behind : Decoded80 → ℕ → Bool
-sized_behind d w = if names_hl w then sized d else true
+abbrev sized_after : Decoded80 → ℕ → Bool
+sized_after d w = if names_hl w then sized d else true
 
 abbrev IsSized : Decoded80 → Type 0
 IsSized d = sized d ≡ true
@@ -48,22 +48,22 @@ sized_plain : (first second : ℕ) → map (λ w. sized (by_opcode indexes.Hl w 
 unfolding range place_of pair_of stacked_of condition_of bit_of arithmetic accumulator relative_jumps pair_loads memory_loads pair_steps step number_loads low_group loads returns jumps calls control by_opcode prefixes opcode_of operands encoded
 sized_plain first second = refl
 
-sized_ix : (first second : ℕ) → map (λ w. sized_behind (by_opcode indexes.Ix w first second) w) (range 256 0) ≡ map (λ w. true) (range 256 0)
+sized_ix : (first second : ℕ) → map (λ w. sized_after (by_opcode indexes.Ix w first second) w) (range 256 0) ≡ map (λ w. true) (range 256 0)
 unfolding range place_of pair_of stacked_of condition_of bit_of arithmetic accumulator relative_jumps pair_loads memory_loads pair_steps step number_loads low_group loads returns jumps calls control by_opcode low_names_hl names_hl prefixes opcode_of operands encoded
 sized_ix first second = refl
 
-sized_iy : (first second : ℕ) → map (λ w. sized_behind (by_opcode indexes.Iy w first second) w) (range 256 0) ≡ map (λ w. true) (range 256 0)
+sized_iy : (first second : ℕ) → map (λ w. sized_after (by_opcode indexes.Iy w first second) w) (range 256 0) ≡ map (λ w. true) (range 256 0)
 unfolding range place_of pair_of stacked_of condition_of bit_of arithmetic accumulator relative_jumps pair_loads memory_loads pair_steps step number_loads low_group loads returns jumps calls control by_opcode low_names_hl names_hl prefixes opcode_of operands encoded
 sized_iy first second = refl
 
 ix_sized : (b1 b2 b3 : ℕ) → b1 < 256 → names_hl b1 ≡ true → IsSized (by_opcode indexes.Ix b1 b2 b3)
 ix_sized b1 b2 b3 h names =
-    let all = same_at (λ w. sized_behind (by_opcode indexes.Ix w b2 b3) w) (λ w. true) 256 0 (sized_ix b2 b3) b1 (omega arith) (omega arith) in
+    let all = same_at (λ w. sized_after (by_opcode indexes.Ix w b2 b3) w) (λ w. true) 256 0 (sized_ix b2 b3) b1 (omega arith) (omega arith) in
     rw names at all
 
 iy_sized : (b1 b2 b3 : ℕ) → b1 < 256 → names_hl b1 ≡ true → IsSized (by_opcode indexes.Iy b1 b2 b3)
 iy_sized b1 b2 b3 h names =
-    let all = same_at (λ w. sized_behind (by_opcode indexes.Iy w b2 b3) w) (λ w. true) 256 0 (sized_iy b2 b3) b1 (omega arith) (omega arith) in
+    let all = same_at (λ w. sized_after (by_opcode indexes.Iy w b2 b3) w) (λ w. true) 256 0 (sized_iy b2 b3) b1 (omega arith) (omega arith) in
     rw names at all
 
 lone_sized : (index : Index) → IsSized (of_bytes 1 (ops.LonePrefix index))

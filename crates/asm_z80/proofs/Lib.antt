@@ -1,6 +1,6 @@
 pub mod Again80
 pub mod Bytes80
-pub mod Judged
+pub mod Checked
 pub mod Law80
 pub mod Lengths
 pub mod Operands

@@ -18,9 +18,9 @@ use Rattle.md_disasm.specs.Operands80.{pair_name, special_name, condition_name, 
 use Rattle.md_disasm.specs.declared.operand80.Operand80.{Operand80}
 use Rattle.md_disasm.specs.declared.operand80.Operand80.TheVariants as operands
 use Rattle.md_asm_text.specs.Operands.{operands_of as parted}
-use Rattle.md_asm_text.specs.Pieces as pieces
-use Rattle.md_asm_text.specs.Pieces.{Piece, is_worded, is_name, split, token_of}
-use Rattle.md_asm_text.proofs.Splits.{is_end, number_2, number_4, mark_split, word_split, behind, apart}
+use Rattle.md_asm_text.specs.Tokens as tokens
+use Rattle.md_asm_text.specs.Tokens.{Token, is_worded, is_name, split, token_of}
+use Rattle.md_asm_text.proofs.Splits.{is_end, number_2, number_4, mark_split, word_split, following, apart}
 use Rattle.asm_z80.specs.Forms.{Form, Nothing, AtWord, Displaced, Bare, AtNumber, Worded}
 use Rattle.asm_z80.specs.Reading.{operand_form}
 
@@ -32,24 +32,24 @@ word_fits n h = grind (arith, nat_tests)
 
 -- ---- the tokens of operands, and their forms
 
-abbrev pub in_brackets : List ℕ → List Piece
-in_brackets word = pieces.Mark 40 ∷ pieces.Word word ∷ pieces.Mark 41 ∷ []
+abbrev pub in_brackets : List ℕ → List Token
+in_brackets word = tokens.Mark 40 ∷ tokens.Word word ∷ tokens.Mark 41 ∷ []
 
-abbrev pub at_number : ℕ → List Piece
-at_number n = pieces.Mark 40 ∷ pieces.Number n ∷ pieces.Mark 41 ∷ []
+abbrev pub at_number : ℕ → List Token
+at_number n = tokens.Mark 40 ∷ tokens.Number n ∷ tokens.Mark 41 ∷ []
 
-abbrev pub displaced : List ℕ → ℕ → List Piece
-displaced word by = pieces.Mark 40 ∷ pieces.Word word ∷ pieces.Mark 43 ∷ pieces.Number by ∷ pieces.Mark 41 ∷ []
+abbrev pub displaced : List ℕ → ℕ → List Token
+displaced word by = tokens.Mark 40 ∷ tokens.Word word ∷ tokens.Mark 43 ∷ tokens.Number by ∷ tokens.Mark 41 ∷ []
 
-abbrev pub place_pieces : Place8 → List Piece
-place_pieces places.AtBc = in_brackets (codes "bc")
-place_pieces places.AtDe = in_brackets (codes "de")
-place_pieces places.AtHl = in_brackets (codes "hl")
-place_pieces (places.AtIx by) = displaced (codes "ix") by
-place_pieces (places.AtIy by) = displaced (codes "iy") by
-place_pieces (places.At address) = at_number address
-place_pieces (places.Number n) = pieces.Number n ∷ []
-place_pieces place = pieces.Word (place_text place) ∷ []
+abbrev pub place_tokens : Place8 → List Token
+place_tokens places.AtBc = in_brackets (codes "bc")
+place_tokens places.AtDe = in_brackets (codes "de")
+place_tokens places.AtHl = in_brackets (codes "hl")
+place_tokens (places.AtIx by) = displaced (codes "ix") by
+place_tokens (places.AtIy by) = displaced (codes "iy") by
+place_tokens (places.At address) = at_number address
+place_tokens (places.Number n) = tokens.Number n ∷ []
+place_tokens place = tokens.Word (place_text place) ∷ []
 
 abbrev pub place_form : Place8 → Form
 place_form places.AtBc = AtWord (codes "bc")
@@ -69,22 +69,22 @@ place_shown (places.At address) = nat_lt address 65536
 place_shown (places.Number n) = nat_lt n 256
 place_shown place = true
 
-abbrev pub operand_pieces : Operand80 → List Piece
-operand_pieces operands.Nothing = []
-operand_pieces (operands.Place place) = place_pieces place
-operand_pieces (operands.Register pair) = pieces.Word (pair_name pair) ∷ []
-operand_pieces (operands.AtRegister pair) = in_brackets (pair_name pair)
-operand_pieces operands.OtherAf = pieces.Word (codes "af") ∷ pieces.Mark 39 ∷ []
-operand_pieces (operands.Special special) = pieces.Word (special_name special) ∷ []
-operand_pieces (operands.Condition condition) = pieces.Word (condition_name condition) ∷ []
-operand_pieces (operands.Bit bit) = pieces.Word (bit_name bit) ∷ []
-operand_pieces (operands.Mode mode) = pieces.Word (mode_name mode) ∷ []
-operand_pieces (operands.Byte n) = pieces.Number n ∷ []
-operand_pieces (operands.Port n) = at_number n
-operand_pieces operands.PortC = in_brackets (codes "c")
-operand_pieces (operands.Word n) = pieces.Number n ∷ []
-operand_pieces (operands.AtWord address) = at_number address
-operand_pieces (operands.ByteAndWord byte word) = []
+abbrev pub operand_tokens : Operand80 → List Token
+operand_tokens operands.Nothing = []
+operand_tokens (operands.Place place) = place_tokens place
+operand_tokens (operands.Register pair) = tokens.Word (pair_name pair) ∷ []
+operand_tokens (operands.AtRegister pair) = in_brackets (pair_name pair)
+operand_tokens operands.OtherAf = tokens.Word (codes "af") ∷ tokens.Mark 39 ∷ []
+operand_tokens (operands.Special special) = tokens.Word (special_name special) ∷ []
+operand_tokens (operands.Condition condition) = tokens.Word (condition_name condition) ∷ []
+operand_tokens (operands.Bit bit) = tokens.Word (bit_name bit) ∷ []
+operand_tokens (operands.Mode mode) = tokens.Word (mode_name mode) ∷ []
+operand_tokens (operands.Byte n) = tokens.Number n ∷ []
+operand_tokens (operands.Port n) = at_number n
+operand_tokens operands.PortC = in_brackets (codes "c")
+operand_tokens (operands.Word n) = tokens.Number n ∷ []
+operand_tokens (operands.AtWord address) = at_number address
+operand_tokens (operands.ByteAndWord byte word) = []
 
 abbrev pub form_of : Operand80 → Form
 form_of operands.Nothing = Nothing
@@ -115,23 +115,23 @@ shown operand = true
 
 -- ---- texts fall into these tokens
 
-bracket_split : (word : List ℕ) (e : List ℕ) → split [] (word ++ (41 ∷ e)) ≡ pieces.Word word ∷ split [] (41 ∷ e) → split [] (40 ∷ (word ++ (41 ∷ e))) ≡ in_brackets word ++ split [] e
+bracket_split : (word : List ℕ) (e : List ℕ) → split [] (word ++ (41 ∷ e)) ≡ tokens.Word word ∷ split [] (41 ∷ e) → split [] (40 ∷ (word ++ (41 ∷ e))) ≡ in_brackets word ++ split [] e
 unfolding is_worded
-bracket_split word e is = mark_split 40 (word ++ (41 ∷ e)) refl ∙ behind _ _ _ (is ∙ behind _ _ _ (mark_split 41 e refl))
+bracket_split word e is = mark_split 40 (word ++ (41 ∷ e)) refl ∙ following _ _ _ (is ∙ following _ _ _ (mark_split 41 e refl))
 
 at_word_split : (n : ℕ) (e : List ℕ) → n < 65536 → split [] (marked_word (codes "($") n (codes ")") ++ e) ≡ at_number n ++ split [] e
 unfolding is_worded marked_word
 at_word_split n e h =
     ap (split []) (apart (codes "($") (four_digits n) (codes ")") e) ∙ mark_split 40 (36 ∷ (four_digits n ++ (41 ∷ e))) refl
-    ∙ behind _ _ _ (number_4 n (41 ∷ e) h refl ∙ behind _ _ _ (mark_split 41 e refl))
+    ∙ following _ _ _ (number_4 n (41 ∷ e) h refl ∙ following _ _ _ (mark_split 41 e refl))
 
 at_byte_split : (n : ℕ) (e : List ℕ) → n < 256 → split [] (marked_byte (codes "($") n (codes ")") ++ e) ≡ at_number n ++ split [] e
 unfolding is_worded marked_byte
 at_byte_split n e h =
     ap (split []) (apart (codes "($") (two_digits n) (codes ")") e) ∙ mark_split 40 (36 ∷ (two_digits n ++ (41 ∷ e))) refl
-    ∙ behind _ _ _ (number_2 n (41 ∷ e) h refl ∙ behind _ _ _ (mark_split 41 e refl))
+    ∙ following _ _ _ (number_2 n (41 ∷ e) h refl ∙ following _ _ _ (mark_split 41 e refl))
 
-byte_split : (n : ℕ) (e : List ℕ) → n < 256 → is_end e ≡ true → split [] (marked_byte (codes "$") n [] ++ e) ≡ pieces.Number n ∷ split [] e
+byte_split : (n : ℕ) (e : List ℕ) → n < 256 → is_end e ≡ true → split [] (marked_byte (codes "$") n [] ++ e) ≡ tokens.Number n ∷ split [] e
 unfolding marked_byte
 byte_split n e h ends = ap (split []) (apart (codes "$") (two_digits n) [] e) ∙ number_2 n e h ends
 
@@ -139,17 +139,17 @@ ix_split : (by : ℕ) (e : List ℕ) → by < 256 → split [] (marked_byte (cod
 unfolding is_worded token_of is_name marked_byte
 ix_split by e h =
     ap (split []) (apart (codes "(ix+$") (two_digits by) (codes ")") e) ∙ mark_split 40 (105 ∷ 120 ∷ 43 ∷ 36 ∷ (two_digits by ++ (41 ∷ e))) refl
-    ∙ behind _ _ _ (word_split (codes "ix") (43 ∷ 36 ∷ (two_digits by ++ (41 ∷ e))) refl refl
-    ∙ behind _ _ _ (mark_split 43 (36 ∷ (two_digits by ++ (41 ∷ e))) refl ∙ behind _ _ _ (number_2 by (41 ∷ e) h refl ∙ behind _ _ _ (mark_split 41 e refl))))
+    ∙ following _ _ _ (word_split (codes "ix") (43 ∷ 36 ∷ (two_digits by ++ (41 ∷ e))) refl refl
+    ∙ following _ _ _ (mark_split 43 (36 ∷ (two_digits by ++ (41 ∷ e))) refl ∙ following _ _ _ (number_2 by (41 ∷ e) h refl ∙ following _ _ _ (mark_split 41 e refl))))
 
 iy_split : (by : ℕ) (e : List ℕ) → by < 256 → split [] (marked_byte (codes "(iy+$") by (codes ")") ++ e) ≡ displaced (codes "iy") by ++ split [] e
 unfolding is_worded token_of is_name marked_byte
 iy_split by e h =
     ap (split []) (apart (codes "(iy+$") (two_digits by) (codes ")") e) ∙ mark_split 40 (105 ∷ 121 ∷ 43 ∷ 36 ∷ (two_digits by ++ (41 ∷ e))) refl
-    ∙ behind _ _ _ (word_split (codes "iy") (43 ∷ 36 ∷ (two_digits by ++ (41 ∷ e))) refl refl
-    ∙ behind _ _ _ (mark_split 43 (36 ∷ (two_digits by ++ (41 ∷ e))) refl ∙ behind _ _ _ (number_2 by (41 ∷ e) h refl ∙ behind _ _ _ (mark_split 41 e refl))))
+    ∙ following _ _ _ (word_split (codes "iy") (43 ∷ 36 ∷ (two_digits by ++ (41 ∷ e))) refl refl
+    ∙ following _ _ _ (mark_split 43 (36 ∷ (two_digits by ++ (41 ∷ e))) refl ∙ following _ _ _ (number_2 by (41 ∷ e) h refl ∙ following _ _ _ (mark_split 41 e refl))))
 
-place_split : (place : Place8) (e : List ℕ) → place_shown place ≡ true → is_end e ≡ true → split [] (place_text place ++ e) ≡ place_pieces place ++ split [] e
+place_split : (place : Place8) (e : List ℕ) → place_shown place ≡ true → is_end e ≡ true → split [] (place_text place ++ e) ≡ place_tokens place ++ split [] e
 unfolding is_worded token_of is_name
 place_split places.A e h ends = word_split (codes "a") e refl ends
 place_split places.B e h ends = word_split (codes "b") e refl ends
@@ -170,7 +170,7 @@ place_split (places.AtIy by) e h ends = iy_split by e (byte_fits by h)
 place_split (places.At address) e h ends = at_word_split address e (word_fits address h)
 place_split (places.Number n) e h ends = byte_split n e (byte_fits n h) ends
 
-place_read : (place : Place8) → operand_form (place_pieces place) ≡ place_form place
+place_read : (place : Place8) → operand_form (place_tokens place) ≡ place_form place
 place_read places.A = refl
 place_read places.B = refl
 place_read places.C = refl
@@ -190,7 +190,7 @@ place_read (places.AtIy n) = refl
 place_read (places.At n) = refl
 place_read (places.Number n) = refl
 
-pair_split : (pair : Pair) (e : List ℕ) → is_end e ≡ true → split [] (pair_name pair ++ e) ≡ pieces.Word (pair_name pair) ∷ split [] e
+pair_split : (pair : Pair) (e : List ℕ) → is_end e ≡ true → split [] (pair_name pair ++ e) ≡ tokens.Word (pair_name pair) ∷ split [] e
 unfolding is_worded token_of is_name
 pair_split pairs.Bc e ends = word_split (codes "bc") e refl ends
 pair_split pairs.De e ends = word_split (codes "de") e refl ends
@@ -205,12 +205,12 @@ unfolding is_worded
 at_pair_split pair e =
     ap (split []) (apart (codes "(") (pair_name pair) (codes ")") e) ∙ bracket_split (pair_name pair) e (pair_split pair (41 ∷ e) refl)
 
-special_split : (special : Special) (e : List ℕ) → is_end e ≡ true → split [] (special_name special ++ e) ≡ pieces.Word (special_name special) ∷ split [] e
+special_split : (special : Special) (e : List ℕ) → is_end e ≡ true → split [] (special_name special ++ e) ≡ tokens.Word (special_name special) ∷ split [] e
 unfolding is_worded token_of is_name
 special_split Interrupt e ends = word_split (codes "i") e refl ends
 special_split Refresh e ends = word_split (codes "r") e refl ends
 
-condition_split : (condition : Condition) (e : List ℕ) → is_end e ≡ true → split [] (condition_name condition ++ e) ≡ pieces.Word (condition_name condition) ∷ split [] e
+condition_split : (condition : Condition) (e : List ℕ) → is_end e ≡ true → split [] (condition_name condition ++ e) ≡ tokens.Word (condition_name condition) ∷ split [] e
 unfolding is_worded token_of is_name
 condition_split NonZero e ends = word_split (codes "nz") e refl ends
 condition_split Zero e ends = word_split (codes "z") e refl ends
@@ -221,7 +221,7 @@ condition_split ParityEven e ends = word_split (codes "pe") e refl ends
 condition_split Positive e ends = word_split (codes "p") e refl ends
 condition_split Negative e ends = word_split (codes "m") e refl ends
 
-bit_split : (bit : Bit) (e : List ℕ) → is_end e ≡ true → split [] (bit_name bit ++ e) ≡ pieces.Word (bit_name bit) ∷ split [] e
+bit_split : (bit : Bit) (e : List ℕ) → is_end e ≡ true → split [] (bit_name bit ++ e) ≡ tokens.Word (bit_name bit) ∷ split [] e
 unfolding is_worded token_of is_name
 bit_split Bit0 e ends = word_split (codes "0") e refl ends
 bit_split Bit1 e ends = word_split (codes "1") e refl ends
@@ -232,21 +232,21 @@ bit_split Bit5 e ends = word_split (codes "5") e refl ends
 bit_split Bit6 e ends = word_split (codes "6") e refl ends
 bit_split Bit7 e ends = word_split (codes "7") e refl ends
 
-mode_split : (mode : InterruptMode) (e : List ℕ) → is_end e ≡ true → split [] (mode_name mode ++ e) ≡ pieces.Word (mode_name mode) ∷ split [] e
+mode_split : (mode : InterruptMode) (e : List ℕ) → is_end e ≡ true → split [] (mode_name mode ++ e) ≡ tokens.Word (mode_name mode) ∷ split [] e
 unfolding is_worded token_of is_name
 mode_split Mode0 e ends = word_split (codes "0") e refl ends
 mode_split Mode1 e ends = word_split (codes "1") e refl ends
 mode_split Mode2 e ends = word_split (codes "2") e refl ends
 
-word_number_split : (n : ℕ) (e : List ℕ) → n < 65536 → is_end e ≡ true → split [] (marked_word (codes "$") n [] ++ e) ≡ pieces.Number n ∷ split [] e
+word_number_split : (n : ℕ) (e : List ℕ) → n < 65536 → is_end e ≡ true → split [] (marked_word (codes "$") n [] ++ e) ≡ tokens.Number n ∷ split [] e
 unfolding marked_word
 word_number_split n e h ends = ap (split []) (apart (codes "$") (four_digits n) [] e) ∙ number_4 n e h ends
 
-other_split : (e : List ℕ) → split [] (codes "af'" ++ e) ≡ pieces.Word (codes "af") ∷ pieces.Mark 39 ∷ split [] e
+other_split : (e : List ℕ) → split [] (codes "af'" ++ e) ≡ tokens.Word (codes "af") ∷ tokens.Mark 39 ∷ split [] e
 unfolding is_worded token_of is_name
-other_split e = word_split (codes "af") (39 ∷ e) refl refl ∙ behind _ _ _ (mark_split 39 e refl)
+other_split e = word_split (codes "af") (39 ∷ e) refl refl ∙ following _ _ _ (mark_split 39 e refl)
 
-pub operand_split : (o : Operand80) (e : List ℕ) → shown o ≡ true → is_end e ≡ true → split [] (operand_text o ++ e) ≡ operand_pieces o ++ split [] e
+pub operand_split : (o : Operand80) (e : List ℕ) → shown o ≡ true → is_end e ≡ true → split [] (operand_text o ++ e) ≡ operand_tokens o ++ split [] e
 unfolding is_worded token_of is_name
 operand_split operands.Nothing e h ends = refl
 operand_split (operands.Place place) e h ends = place_split place e h ends
@@ -264,7 +264,7 @@ operand_split (operands.Word n) e h ends = word_number_split n e (word_fits n h)
 operand_split (operands.AtWord address) e h ends = at_word_split address e (word_fits address h)
 operand_split (operands.ByteAndWord byte word) e h ends = cc
 
-pub operand_read : (o : Operand80) → operand_form (operand_pieces o) ≡ form_of o
+pub operand_read : (o : Operand80) → operand_form (operand_tokens o) ≡ form_of o
 operand_read operands.Nothing = refl
 operand_read (operands.Place place) = place_read place
 operand_read (operands.Register pair) = refl
@@ -283,7 +283,7 @@ operand_read (operands.ByteAndWord byte word) = refl
 
 -- ---- the comma between two operands
 
-place_apart : (place : Place8) (rest : List Piece) → parted false (place_pieces place ++ (pieces.Mark 44 ∷ rest)) ≡ (place_pieces place, rest)
+place_apart : (place : Place8) (rest : List Token) → parted false (place_tokens place ++ (tokens.Mark 44 ∷ rest)) ≡ (place_tokens place, rest)
 unfolding parted
 place_apart places.A rest = refl
 place_apart places.B rest = refl
@@ -304,7 +304,7 @@ place_apart (places.AtIy n) rest = refl
 place_apart (places.At n) rest = refl
 place_apart (places.Number n) rest = refl
 
-place_alone : (place : Place8) → parted false (place_pieces place) ≡ (place_pieces place, [])
+place_alone : (place : Place8) → parted false (place_tokens place) ≡ (place_tokens place, [])
 unfolding parted
 place_alone places.A = refl
 place_alone places.B = refl
@@ -325,7 +325,7 @@ place_alone (places.AtIy n) = refl
 place_alone (places.At n) = refl
 place_alone (places.Number n) = refl
 
-pub operand_apart : (o : Operand80) (rest : List Piece) → parted false (operand_pieces o ++ (pieces.Mark 44 ∷ rest)) ≡ (operand_pieces o, rest)
+pub operand_apart : (o : Operand80) (rest : List Token) → parted false (operand_tokens o ++ (tokens.Mark 44 ∷ rest)) ≡ (operand_tokens o, rest)
 unfolding parted
 operand_apart operands.Nothing rest = refl
 operand_apart (operands.Place place) rest = place_apart place rest
@@ -343,7 +343,7 @@ operand_apart (operands.Word n) rest = refl
 operand_apart (operands.AtWord address) rest = refl
 operand_apart (operands.ByteAndWord byte word) rest = refl
 
-pub operand_alone : (o : Operand80) → parted false (operand_pieces o) ≡ (operand_pieces o, [])
+pub operand_alone : (o : Operand80) → parted false (operand_tokens o) ≡ (operand_tokens o, [])
 unfolding parted
 operand_alone operands.Nothing = refl
 operand_alone (operands.Place place) = place_alone place

@@ -12,7 +12,7 @@ use Rattle.md_word.proofs.Agree.{range}
 use Rattle.z80_decode.specs.Fields.{memory_of, place_of, lower, pair_of, stacked_of, condition_of, bit_of}
 use Rattle.z80_decode.specs.Nested.{of_bytes, bits, shift, arithmetic, accumulator, block_of, block_op, relative_jumps, pair_loads, memory_loads, pair_steps, step, number_loads, low_group, loads, returns, jumps, calls, control, by_opcode, low_names_hl, names_hl, ports, pairs_extended, modes, specials, extended}
 use Rattle.md_disasm.specs.Rows80.{row_of, target}
-use Rattle.md_asm_text.specs.Pieces.{is_worded}
+use Rattle.md_asm_text.specs.Tokens.{is_worded}
 use Rattle.asm_z80.specs.Instruction.{is_db}
 use Rattle.asm_z80.proofs.Sources.{is_read}
 
@@ -21,8 +21,8 @@ abbrev pub read : ℕ → Decoded80 → Bool
 read at d = is_db d.op || is_read (row_of d.op at)
 
 -- after a prefix that changes the opcode
-abbrev pub read_behind : ℕ → Decoded80 → ℕ → Bool
-read_behind at d w = if names_hl w then read at d else true
+abbrev pub read_after : ℕ → Decoded80 → ℕ → Bool
+read_after at d w = if names_hl w then read at d else true
 
 word_true_at : (n : ℕ) → n < 65536 → nat_lt n 65536 ≡ true
 word_true_at n h = grind (arith, nat_tests)
@@ -54,10 +54,10 @@ pub read_plain : (at first second : ℕ) → first < 256 → second < 256 → ma
 unfolding range place_of pair_of stacked_of condition_of bit_of arithmetic accumulator relative_jumps pair_loads memory_loads pair_steps step number_loads low_group loads returns jumps calls control by_opcode is_worded
 read_plain at first second h k = rw (lt-ltb first 256 h, word_true first second h k, target_true at first) refl
 
-pub read_ix : (at first second : ℕ) → first < 256 → second < 256 → map (λ w. read_behind at (by_opcode indexes.Ix w first second) w) (range 256 0) ≡ map (λ w. true) (range 256 0)
+pub read_ix : (at first second : ℕ) → first < 256 → second < 256 → map (λ w. read_after at (by_opcode indexes.Ix w first second) w) (range 256 0) ≡ map (λ w. true) (range 256 0)
 unfolding range place_of pair_of stacked_of condition_of bit_of arithmetic accumulator relative_jumps pair_loads memory_loads pair_steps step number_loads low_group loads returns jumps calls control by_opcode low_names_hl names_hl is_worded
 read_ix at first second h k = rw (lt-ltb first 256 h, lt-ltb second 256 k, word_true first second h k) refl
 
-pub read_iy : (at first second : ℕ) → first < 256 → second < 256 → map (λ w. read_behind at (by_opcode indexes.Iy w first second) w) (range 256 0) ≡ map (λ w. true) (range 256 0)
+pub read_iy : (at first second : ℕ) → first < 256 → second < 256 → map (λ w. read_after at (by_opcode indexes.Iy w first second) w) (range 256 0) ≡ map (λ w. true) (range 256 0)
 unfolding range place_of pair_of stacked_of condition_of bit_of arithmetic accumulator relative_jumps pair_loads memory_loads pair_steps step number_loads low_group loads returns jumps calls control by_opcode low_names_hl names_hl is_worded
 read_iy at first second h k = rw (lt-ltb first 256 h, lt-ltb second 256 k, word_true first second h k) refl

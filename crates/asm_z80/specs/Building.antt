@@ -13,8 +13,8 @@ use Rattle.z80_decode.specs.declared.place8.Place8.TheVariants as places
 use Rattle.asm_z80.specs.Forms.{Form, Nothing, Worded, AtWord, Displaced, Bare, AtNumber}
 use Rattle.asm_z80.specs.Reading.{Source}
 use Rattle.asm_z80.specs.Words.{register8, at_pair, displaced, pair_of, is_pair, index_of, is_index, condition_of, bit_of, mode_of, special_of, is_special, is_af}
-use Rattle.asm_z80.specs.declared.stem.Stem80.{Stem80}
-use Rattle.asm_z80.specs.declared.stem.Stem80.TheVariants as stems
+use Rattle.asm_z80.specs.declared.mnemonic.Mnemonic80.{Mnemonic80}
+use Rattle.asm_z80.specs.declared.mnemonic.Mnemonic80.TheVariants as stems
 
 -- the word of an operand
 abbrev pub word_in : Form → List ℕ
@@ -139,7 +139,7 @@ abbrev pub output : Form → Form → Op80
 output first second = if is_at_number first then ops.OutputAtNumber (byte first) else ops.Output (place second)
 
 -- the instruction of a name and two operands, at an address
-unfoldable pub built : Stem80 → Form → Form → ℕ → Op80
+unfoldable pub built : Mnemonic80 → Form → Form → ℕ → Op80
 built (stems.Alone op) first second at = op
 built stems.Load first second at = load first second
 built stems.Push first second at = ops.Push (pair first)
@@ -168,10 +168,10 @@ built stems.Output first second at = output first second
 -- an instruction's name, by its text
 pub record Entry : Type 0 where
   pub text : List ℕ
-  pub stem : Stem80
+  pub mnemonic : Mnemonic80
 
-abbrev pub entry_for : List ℕ → Stem80 → Entry
-entry_for text stem = record { text = text; stem = stem }
+abbrev pub entry_for : List ℕ → Mnemonic80 → Entry
+entry_for text mnemonic = record { text = text; mnemonic = mnemonic }
 
 abbrev pub table : List Entry
 table =
@@ -245,13 +245,13 @@ table =
     entry_for (codes "xor") (stems.Arithmetic tasks.Xor) ∷ []
 
 -- what a text is entered as
-unfoldable pub stem_in : List Entry → List ℕ → Stem80
-stem_in [] text = stems.Alone ops.Nop
-stem_in (e ∷ es) text = if bytes_eq e.text text then e.stem else stem_in es text
+unfoldable pub mnemonic_in : List Entry → List ℕ → Mnemonic80
+mnemonic_in [] text = stems.Alone ops.Nop
+mnemonic_in (e ∷ es) text = if bytes_eq e.text text then e.mnemonic else mnemonic_in es text
 
-unfoldable pub stem_of : List ℕ → Stem80
-stem_of text = stem_in table text
+unfoldable pub mnemonic_of : List ℕ → Mnemonic80
+mnemonic_of text = mnemonic_in table text
 
 -- what an instruction that is written is taken for
 unfoldable pub meant : Source → ℕ → Op80
-meant s at = built (stem_of s.stem) s.first s.second at
+meant s at = built (mnemonic_of s.mnemonic) s.first s.second at

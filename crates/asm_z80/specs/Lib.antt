@@ -4,7 +4,7 @@ pub mod Encoding80
 pub mod Entered
 pub mod Forms
 pub mod Instruction
-pub mod Judged
+pub mod Checked
 pub mod Reading
 pub mod Words
 pub mod Written

@@ -4,4 +4,4 @@ use Rattle.asm_z80.specs.Reading as reading
 use Rattle.asm_z80.specs.declared.reader.Source80.{Source80}
 
 abbrev pub source_seen : Source80 → reading.Source
-source_seen s = record { stem = s.stem.now; first = seen s.first; second = seen s.second }
+source_seen s = record { mnemonic = s.mnemonic.now; first = seen s.first; second = seen s.second }

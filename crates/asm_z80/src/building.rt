@@ -9,7 +9,7 @@ use crate::form_values::{
     byte, condition, distance, index, is_at_number, is_at_word, is_nothing, names_pair,
     names_special, number, pair, place, word, word_in,
 };
-use crate::stem::Stem80;
+use crate::mnemonic::Mnemonic80;
 use crate::words::{bit_of, is_af, is_index, mode_of, special_of};
 use z80_decode::{Op80, Task80};
 
@@ -182,33 +182,33 @@ fn output(first: Form80<'_>, second: Form80<'_>) -> Op80
 /// The instruction of a mnemonic and two operands, at an address. It is total: operands that do not fit give some
 /// instruction, and the round-trip check refuses it.
 #[tactic(auto, unfolding(crate::specs::Building::built))]
-pub(crate) fn built(stem: Stem80, first: Form80<'_>, second: Form80<'_>, at: u16) -> Op80
-    ensures { result ≡ building.built stem (seen first.entry) (seen second.entry) at }
+pub(crate) fn built(mnemonic: Mnemonic80, first: Form80<'_>, second: Form80<'_>, at: u16) -> Op80
+    ensures { result ≡ building.built mnemonic (seen first.entry) (seen second.entry) at }
 {
-    match stem {
-        Stem80::Alone(op) => op,
-        Stem80::Load => load(first, second),
-        Stem80::Push => Op80::Push(pair(first)),
-        Stem80::Pop => Op80::Pop(pair(first)),
-        Stem80::Exchange => exchange(first, second),
-        Stem80::Add => add(first, second),
-        Stem80::AddWithCarry => add_with_carry(first, second),
-        Stem80::SubtractWithCarry => subtract_with_carry(first, second),
-        Stem80::Arithmetic(task) => Op80::Arithmetic(task, place(first)),
-        Stem80::Increment => increment(first),
-        Stem80::Decrement => decrement(first),
-        Stem80::SetInterruptMode => Op80::SetInterruptMode(mode_of(word_in(first))),
-        Stem80::Change(task) => Op80::Change(task, place(first)),
-        Stem80::ResetBit => Op80::Change(Task80::Res(bit_of(word_in(first))), place(second)),
-        Stem80::SetBit => Op80::Change(Task80::Set(bit_of(word_in(first))), place(second)),
-        Stem80::TestBit => Op80::TestBit(bit_of(word_in(first)), place(second)),
-        Stem80::Jump => jump(first, second),
-        Stem80::JumpRelative => relative(at, first, second),
-        Stem80::DecrementAndJump => Op80::DecrementAndJump(distance(at, number(first))),
-        Stem80::Call => call(first, second),
-        Stem80::Return => returned(first),
-        Stem80::Restart => Op80::Restart(byte(first)),
-        Stem80::Input => input(first, second),
-        Stem80::Output => output(first, second),
+    match mnemonic {
+        Mnemonic80::Alone(op) => op,
+        Mnemonic80::Load => load(first, second),
+        Mnemonic80::Push => Op80::Push(pair(first)),
+        Mnemonic80::Pop => Op80::Pop(pair(first)),
+        Mnemonic80::Exchange => exchange(first, second),
+        Mnemonic80::Add => add(first, second),
+        Mnemonic80::AddWithCarry => add_with_carry(first, second),
+        Mnemonic80::SubtractWithCarry => subtract_with_carry(first, second),
+        Mnemonic80::Arithmetic(task) => Op80::Arithmetic(task, place(first)),
+        Mnemonic80::Increment => increment(first),
+        Mnemonic80::Decrement => decrement(first),
+        Mnemonic80::SetInterruptMode => Op80::SetInterruptMode(mode_of(word_in(first))),
+        Mnemonic80::Change(task) => Op80::Change(task, place(first)),
+        Mnemonic80::ResetBit => Op80::Change(Task80::Res(bit_of(word_in(first))), place(second)),
+        Mnemonic80::SetBit => Op80::Change(Task80::Set(bit_of(word_in(first))), place(second)),
+        Mnemonic80::TestBit => Op80::TestBit(bit_of(word_in(first)), place(second)),
+        Mnemonic80::Jump => jump(first, second),
+        Mnemonic80::JumpRelative => relative(at, first, second),
+        Mnemonic80::DecrementAndJump => Op80::DecrementAndJump(distance(at, number(first))),
+        Mnemonic80::Call => call(first, second),
+        Mnemonic80::Return => returned(first),
+        Mnemonic80::Restart => Op80::Restart(byte(first)),
+        Mnemonic80::Input => input(first, second),
+        Mnemonic80::Output => output(first, second),
     }
 }

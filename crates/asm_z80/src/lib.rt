@@ -3,20 +3,20 @@
 #![tactic(auto)]
 
 mod building;
+mod check_round_trip;
 mod codes;
 mod encoder;
 pub mod encoding_laws;
 mod form;
 mod form_values;
-mod judge;
+mod mnemonic;
 mod opcode;
 mod operands;
 mod reader;
 pub mod reading_laws;
-mod stem;
 mod stems;
 mod words;
 
+pub use check_round_trip::bytes_of;
 pub use encoder::encode;
-pub use judge::bytes_of;
 pub use operands::Bytes;

@@ -43,9 +43,9 @@ impl Board {
             chip: 3,
         };
         let list = fm_list(alloc)?;
-        let (told, entry) = carry_out(&mut self.shared, key, Request::Fm(list));
+        let (reported, entry) = carry_out(&mut self.shared, key, Request::Fm(list));
         self.entry = entry;
-        let list = told.fm_list().ok_or(RowError::NoSuchLine)?;
+        let list = reported.fm_list().ok_or(RowError::NoSuchLine)?;
         answer.say_number(list.len() as u64)?;
         for write in list.as_slice() {
             tell_fm(write, answer)?;
@@ -65,9 +65,9 @@ impl Board {
             chip: 4,
         };
         let list = psg_list(alloc)?;
-        let (told, entry) = carry_out(&mut self.shared, key, Request::Psg(list));
+        let (reported, entry) = carry_out(&mut self.shared, key, Request::Psg(list));
         self.entry = entry;
-        let list = told.psg_list().ok_or(RowError::NoSuchLine)?;
+        let list = reported.psg_list().ok_or(RowError::NoSuchLine)?;
         answer.say_number(list.len() as u64)?;
         for write in list.as_slice() {
             tell_psg(write, answer)?;

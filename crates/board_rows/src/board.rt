@@ -4,7 +4,7 @@ use md_word::{Entry, Key, Parcel};
 use row_lines::{Answer, Buffer, Fixture, RowError, arguments, bytes};
 use std::alloc::{AllocError, Global};
 use std::sync::Arc;
-use vdp_ahead::Sheet;
+use vdp_ahead::LineBuffer;
 
 /// The board of a row, the entry of its last access, the Z80's RAM and a line buffer that are not on the board, and
 /// bytes.
@@ -14,7 +14,7 @@ pub(crate) struct Board {
     pub(crate) shared: Shared,
     pub(crate) entry: Entry,
     pub(crate) parcel: Option<Parcel>,
-    pub(crate) sheet: Option<Box<Sheet>>,
+    pub(crate) line_buffer: Option<Box<LineBuffer>>,
     pub(crate) buffer: Buffer,
 }
 
@@ -63,7 +63,7 @@ impl Board {
             shared: Shared::power_on(alloc, empty(alloc)?, false)?,
             entry: NO_ENTRY,
             parcel: None,
-            sheet: None,
+            line_buffer: None,
             buffer: Buffer::new(alloc),
         })
     }
@@ -71,7 +71,7 @@ impl Board {
     /// Begins again with a board of a region and a recording; bytes stay.
     fn restart(&mut self, alloc: Global, pal: bool, text: &str) -> Result<(), RowError> {
         self.parcel = None;
-        self.sheet = None;
+        self.line_buffer = None;
         self.entry = NO_ENTRY;
         self.shared = Shared::power_on(alloc, recording(alloc, text)?, pal)?;
         Ok(())

@@ -87,7 +87,7 @@ impl Board {
     ) -> Result<(), RowError> {
         let [cycle, place, _, _] = arguments(rest, "dl")?;
         let request = Request::Line(blank_view(alloc)?, NONE_SET);
-        let (told, entry) = carry_out(
+        let (reported, entry) = carry_out(
             &mut self.shared,
             Key {
                 cycle: u64::from(cycle),
@@ -96,7 +96,7 @@ impl Board {
             request,
         );
         self.entry = entry;
-        match told.line_view() {
+        match reported.line_view() {
             Some(view) => tell_parts(&view, place, answer),
             None => Err(RowError::NoSuchLine),
         }

@@ -49,25 +49,25 @@ fn request_of(text: &str) -> Result<Request68, RowError> {
 }
 
 /// Writes what the 68000 is answered: the value, a transfer that starts, and the cycles to its next word.
-fn tell(told: &Answer68, answer: &mut Answer) -> Result<(), RowError> {
-    answer.say_word(u32::from(told.value))?;
-    if let Some(transfer) = told.transfer {
+fn tell(reported: &Answer68, answer: &mut Answer) -> Result<(), RowError> {
+    answer.say_word(u32::from(reported.value))?;
+    if let Some(transfer) = reported.transfer {
         answer.say_word(transfer.source)?;
         answer.say_number(u64::from(transfer.words))?;
         return answer.say_number(u64::from(transfer.cost));
     }
-    if told.cost > 0 {
-        answer.say_number(u64::from(told.cost))?;
+    if reported.cost > 0 {
+        answer.say_number(u64::from(reported.cost))?;
     }
     Ok(())
 }
 
 /// A cycle, and what follows it.
 fn cycle_of(rest: &str) -> Result<(u32, &str), RowError> {
-    let Some((cycle, behind)) = rest.split_once(' ') else {
+    let Some((cycle, following)) = rest.split_once(' ') else {
         return Err(RowError::NoSuchLine);
     };
-    Ok((arguments(cycle, "d")?[0], behind))
+    Ok((arguments(cycle, "d")?[0], following))
 }
 
 impl Board {
@@ -77,9 +77,9 @@ impl Board {
             cycle: u64::from(cycle),
             chip: 0,
         };
-        let (told, entry) = carry_out(&mut self.shared, key, Request::Main(request));
+        let (reported, entry) = carry_out(&mut self.shared, key, Request::Main(request));
         self.entry = entry;
-        told.main()
+        reported.main()
     }
 
     /// Carries out accesses of the 68000 at a cycle, and writes what the last is answered.
@@ -88,7 +88,7 @@ impl Board {
         for text in accesses.split_whitespace() {
             answer.clear();
             match self.access(cycle, request_of(text)?) {
-                Some(told) => tell(&told, answer)?,
+                Some(reported) => tell(&reported, answer)?,
                 None => return Err(RowError::NoSuchLine),
             }
         }
@@ -101,9 +101,9 @@ impl Board {
             cycle: u64::from(cycle),
             chip: 1,
         };
-        let (told, entry) = carry_out(&mut self.shared, key, Request::Sub(request));
+        let (reported, entry) = carry_out(&mut self.shared, key, Request::Sub(request));
         self.entry = entry;
-        told.sub()
+        reported.sub()
     }
 
     /// The Z80's RAM, which is all 0 where it was not given back before.

@@ -4,7 +4,7 @@ use bus_shared::Shared;
 use md_word::Unspell;
 use row_lines::{Answer, RowError, arguments};
 use std::alloc::Global;
-use vdp_ahead::Sheet;
+use vdp_ahead::LineBuffer;
 
 /// The bytes of a board that has the Z80's RAM.
 const LONG: usize = 96_601;
@@ -20,7 +20,7 @@ impl Board {
         match verb {
             "save" => self.save(alloc, rest),
             "load" => self.load(alloc, rest, answer),
-            "sheet" => self.begin_sheet(alloc, rest),
+            "sheet" => self.begin_line_buffer(alloc, rest),
             "lift" => self.lift(rest, answer),
             "lay" => self.lay(rest),
             "used" => self.tell_used(rest, answer),
@@ -54,30 +54,31 @@ impl Board {
     }
 
     /// Begins a buffer of the lines from one on and below another, and gives it to the board.
-    fn begin_sheet(&mut self, alloc: Global, rest: &str) -> Result<(), RowError> {
+    fn begin_line_buffer(&mut self, alloc: Global, rest: &str) -> Result<(), RowError> {
         let [from, until, _, _] = arguments(rest, "dd")?;
         if from > 240 {
             return Err(RowError::NoSuchLine);
         }
-        let mut sheet = Sheet::blank(alloc)?;
-        self.shared.begin_sheet(&mut sheet, false, from, until);
-        self.shared.lay_sheet(sheet);
+        let mut line_buffer = LineBuffer::blank(alloc)?;
+        self.shared
+            .begin_line_buffer(&mut line_buffer, false, from, until);
+        self.shared.lay_line_buffer(line_buffer);
         Ok(())
     }
 
     /// Takes the buffer off the board, and answers whether there was one.
     fn lift(&mut self, rest: &str, answer: &mut Answer) -> Result<(), RowError> {
         arguments(rest, "")?;
-        self.sheet = self.shared.take_sheet();
-        answer.say_bit(self.sheet.is_some())
+        self.line_buffer = self.shared.take_line_buffer();
+        answer.say_bit(self.line_buffer.is_some())
     }
 
     /// Gives the buffer to the board again.
     fn lay(&mut self, rest: &str) -> Result<(), RowError> {
         arguments(rest, "")?;
-        match self.sheet.take() {
-            Some(sheet) => {
-                self.shared.lay_sheet(sheet);
+        match self.line_buffer.take() {
+            Some(line_buffer) => {
+                self.shared.lay_line_buffer(line_buffer);
                 Ok(())
             }
             None => Err(RowError::NoSuchName),
@@ -87,6 +88,6 @@ impl Board {
     /// Whether the buffer on the board is of use.
     fn tell_used(&self, rest: &str, answer: &mut Answer) -> Result<(), RowError> {
         arguments(rest, "")?;
-        answer.say_bit(self.shared.sheet().is_some())
+        answer.say_bit(self.shared.line_buffer().is_some())
     }
 }

@@ -3,7 +3,7 @@ use Rattle.std.proofs.Common.{◌≡◌, ℕ, ◌^◌, ◌<◌, ◌≤◌, Bool,
 use Rattle.std.proofs.lemmas.Bool.{cases_eq, eq-eqb, eqb-true, le-leb, leb-true, lt-ltb, ltb-true, ne_eqb}
 use Rattle.md_fields.specs.Fields.{AllHold, AreWithin}
 use Rattle.md_fields.specs.Items.{IsRight}
-use Rattle.md_fields.proofs.Items.{rules_hold, none_wrong}
+use Rattle.md_fields.proofs.Items.{rules_hold, none_invalid}
 use Rattle.md_fields.proofs.Flags.{flag_byte, flag_small}
 use Rattle.md_pads.specs.Pad.{Port}
 use Rattle.md_pads.specs.Recording.{IsFrame}
@@ -40,7 +40,7 @@ fall_small at port small is =
 right_to : (at : ℕ) (board : Board) → IsBoard board → IsReady at board → IsRight (lines_fields at) (lines_of board)
 unfolding AllHold
 right_to at board ok is =
-    none_wrong 0 (lines_fields at (lines_of board)) (
+    none_invalid 0 (lines_fields at (lines_of board)) (
       flag_small board.request,
       (
         flag_small board.reset,

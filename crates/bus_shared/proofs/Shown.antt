@@ -8,8 +8,8 @@ use Rattle.vdp_planes.specs.View.{view_of}
 use Rattle.vdp_planes.specs.declared.view.SpriteNote.{SpriteNote}
 use Rattle.md_word.specs.Region.{height}
 use Rattle.vdp_time.specs.Lines.{counted, heightened, line_of, line_started, raised}
-use Rattle.vdp_ahead.specs.Sheets.{SheetValue}
-use Rattle.bus_shared.specs.Sheets.{Fits}
+use Rattle.vdp_ahead.specs.LineBuffers.{LineBufferValue}
+use Rattle.bus_shared.specs.LineBuffers.{Fits}
 use Rattle.bus_shared.specs.Video.{joined, line_begun, port_read}
 use Rattle.bus_shared.specs.declared.port.VideoPort.{VideoPort}
 use Rattle.bus_shared.specs.declared.port.VideoPort.TheVariants.{Data, Control, Counter, Sound, Unused}
@@ -58,7 +58,7 @@ unfolding line_begun
 line_shown cycle note pal s none later = rw (still cycle s none) (started-shown cycle pal (joined note s) later)
 
 -- a buffer continues to fit where what is seen stays
-pub fits_on : (fits on : Bool) (sheet : Option SheetValue) (v w : Vdp) → (on ≡ true → fits ≡ true) → (on ≡ true → (pal : Bool) → view_of pal w ≡ view_of pal v)
-    → Fits fits sheet v → Fits on sheet w
+pub fits_on : (fits on : Bool) (line_buffer : Option LineBufferValue) (v w : Vdp) → (on ≡ true → fits ≡ true) → (on ≡ true → (pal : Bool) → view_of pal w ≡ view_of pal v)
+    → Fits fits line_buffer v → Fits on line_buffer w
 fits_on fits on None v w keeps same h = λ yes. tt
 fits_on fits on (Some s) v w keeps same h = λ yes. h (keeps yes) ∙ sym (same yes s.view.pal)

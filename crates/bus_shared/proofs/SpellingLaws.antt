@@ -28,7 +28,7 @@ use Rattle.z80_parcel.specs.Parcels.{IsStore, Store}
 use Rattle.z80_parcel.specs.Spelling.{store_fields}
 use Rattle.bus_shared.specs.Board.{Board}
 use Rattle.bus_shared.specs.Saved.{board_from, lines_fields, lines_of}
-use Rattle.bus_shared.specs.Spelling.{GoesWrongAt, GoesWrongFrom, IsLength, LinesGoWrongAt, Parts, PartsGoWrongAt, PortsGoWrongAt, Spells, StoreGoesWrongAt, behind, board_size, cut, lines_bytes, store_bytes, store_length, store_size}
+use Rattle.bus_shared.specs.Spelling.{InvalidAt, InvalidFrom, IsLength, LinesInvalidAt, Parts, PartsInvalidAt, PortsInvalidAt, Spells, StoreInvalidAt, following, board_size, cut, lines_bytes, store_bytes, store_length, store_size}
 use Rattle.bus_shared.specs.declared.saved_lines.SavedLines.{SavedLines}
 use Rattle.bus_shared.proofs.SavedLaws as lines_laws
 
@@ -82,12 +82,12 @@ cut_of a b c d e lb lc ld le =
     let bytes = a ++ rest in
     let n : length a ≡ store_length bytes =
     omega (arith, length-append a rest, length-append b (c ++ (d ++ e)), length-append c (d ++ e), length-append d e, lb, lc, ld, le) in
-    let behind : drop (store_length bytes) bytes ≡ rest = drop_at a rest (store_length bytes) n in
-    let past_vdp : drop 65813 (drop (store_length bytes) bytes) ≡ c ++ (d ++ e) = ap (drop 65813) behind ∙ drop_at b (c ++ (d ++ e)) 65813 lb in
+    let following : drop (store_length bytes) bytes ≡ rest = drop_at a rest (store_length bytes) n in
+    let past_vdp : drop 65813 (drop (store_length bytes) bytes) ≡ c ++ (d ++ e) = ap (drop 65813) following ∙ drop_at b (c ++ (d ++ e)) 65813 lb in
     let past_fm : drop 12316 (drop 65813 (drop (store_length bytes) bytes)) ≡ d ++ e = ap (drop 12316) past_vdp ∙ drop_at c (d ++ e) 12316 lc in
     λ i. record {
       store = take_at a rest (store_length bytes) n i;
-      vdp = (ap (take 65813) behind ∙ take_at b (c ++ (d ++ e)) 65813 lb) i;
+      vdp = (ap (take 65813) following ∙ take_at b (c ++ (d ++ e)) 65813 lb) i;
       fm = (ap (take 12316) past_vdp ∙ take_at c (d ++ e) 12316 lc) i;
       psg = (ap (take 10242) past_fm ∙ take_at d e 10242 ld) i;
       lines = (ap (drop 10242) past_fm ∙ drop_at d e 10242 ld) i;
@@ -112,12 +112,12 @@ cut_is at pal bytes board p =
 pub joined_again : (bytes : List ℕ) → (cut bytes).store ++ ((cut bytes).vdp ++ ((cut bytes).fm ++ ((cut bytes).psg ++ (cut bytes).lines))) ≡ bytes
 joined_again bytes =
     let n = store_length bytes in
-    let behind = drop n bytes in
-    let past_vdp = drop 65813 behind in
+    let following = drop n bytes in
+    let past_vdp = drop 65813 following in
     let past_fm = drop 12316 past_vdp in
-    ap (λ (l : List ℕ). take n bytes ++ (take 65813 behind ++ (take 12316 past_vdp ++ l))) (take-append-drop 10242 past_fm)
-    ∙ ap (λ (l : List ℕ). take n bytes ++ (take 65813 behind ++ l)) (take-append-drop 12316 past_vdp)
-    ∙ ap (λ (l : List ℕ). take n bytes ++ l) (take-append-drop 65813 behind)
+    ap (λ (l : List ℕ). take n bytes ++ (take 65813 following ++ (take 12316 past_vdp ++ l))) (take-append-drop 10242 past_fm)
+    ∙ ap (λ (l : List ℕ). take n bytes ++ (take 65813 following ++ l)) (take-append-drop 12316 past_vdp)
+    ∙ ap (λ (l : List ℕ). take n bytes ++ l) (take-append-drop 65813 following)
     ∙ take-append-drop n bytes
 
 length_by : (store : Option Store) (n : ℕ) → n ≡ store_size (is_some store) + 88407 → (n ≡ 88407) ⊎ (n ≡ 96601)
@@ -148,15 +148,15 @@ spelled_length at pal bytes board p =
 
 -- ---- what is spelled is refused nowhere
 
-store_right : (store : Option Store) → IfSome store IsStore → (p : ℕ) → StoreGoesWrongAt (store_bytes store) p → ⊥
+store_right : (store : Option Store) → IfSome store IsStore → (p : ℕ) → StoreInvalidAt (store_bytes store) p → ⊥
 unfolding Stand spelling AreWithin
-store_right None ok p wrong = absurd (omega (arith, wrong.0))
-store_right (Some store) ok p wrong =
+store_right None ok p invalid = absurd (omega (arith, invalid.0))
+store_right (Some store) ok p invalid =
     let fs = store_fields true (Some store) in
     let there : Stand 0 fs (spelling fs) = spelled_stand fs (spelling fs) (ok.ram, (omega (arith, ok.bank), tt)) refl in
-    absurd (omega (arith, there.1.0, wrong.1, ok.bank))
+    absurd (omega (arith, there.1.0, invalid.1, ok.bank))
 
-none_here : (at : ℕ) (pal : Bool) (start : ℕ) (bytes : List ℕ) (board : Board) (place : ℕ) → Spells at pal bytes board → PartsGoWrongAt at pal start (own board) place → ⊥
+none_here : (at : ℕ) (pal : Bool) (start : ℕ) (bytes : List ℕ) (board : Board) (place : ℕ) → Spells at pal bytes board → PartsInvalidAt at pal start (own board) place → ⊥
 none_here at pal start bytes board place p (inl w) = store_right board.store p.store w.0 w.1
 none_here at pal start bytes board place p (inr (none, inl w)) =
     vdp_laws.right_not_refused at pal (vdp_spelling.vdp_bytes board.vdp) (numbers_of board.vdp) w.0 p.vdp.keeps p.vdp.right w.1
@@ -167,36 +167,36 @@ none_here at pal start bytes board place p (inr (none, inr (no_vdp, inr (no_fm, 
     lines_laws.lines_right at (lines_bytes (lines_of board)) (lines_of board) w.0 p.lines p.right w.1
 none_here at pal start bytes board place p (inr (none, inr (no_vdp, inr (no_fm, inr (no_psg, inr w))))) = w.1
 
-pub right_nowhere : (at : ℕ) (pal : Bool) (bytes : List ℕ) (board : Board) → Spells at pal bytes board → (place : ℕ) → GoesWrongAt at pal bytes place → ⊥
+pub right_nowhere : (at : ℕ) (pal : Bool) (bytes : List ℕ) (board : Board) → Spells at pal bytes board → (place : ℕ) → InvalidAt at pal bytes place → ⊥
 right_nowhere at pal bytes board p place (inl w) = w.0 (spelled_length at pal bytes board p)
 right_nowhere at pal bytes board p place (inr w) =
-    none_here at pal (store_length bytes) bytes board place p (subst (λ (parts : Parts). PartsGoWrongAt at pal (store_length bytes) parts place) (cut_is at pal bytes board p) w.1)
+    none_here at pal (store_length bytes) bytes board place p (subst (λ (parts : Parts). PartsInvalidAt at pal (store_length bytes) parts place) (cut_is at pal bytes board p) w.1)
 
 -- ---- there is one offset of a refusal
 
-from_once : (start : ℕ) (Wrong Behind : ℕ → Type 0) → ((a b : ℕ) → Wrong a → Wrong b → a ≡ b) → ((a b : ℕ) → Behind a → Behind b → a ≡ b)
-    → (p q : ℕ) → GoesWrongFrom start Wrong Behind p → GoesWrongFrom start Wrong Behind q → p ≡ q
-from_once start Wrong Behind once behind p q (inl x) (inl y) = x.2 ∙ ap (λ (n : ℕ). start + n) (once x.0 y.0 x.1 y.1) ∙ sym y.2
-from_once start Wrong Behind once behind p q (inl x) (inr y) = absurd (y.0 x.0 x.1)
-from_once start Wrong Behind once behind p q (inr x) (inl y) = absurd (x.0 y.0 y.1)
-from_once start Wrong Behind once behind p q (inr x) (inr y) = behind p q x.1 y.1
+from_once : (start : ℕ) (Invalid Following : ℕ → Type 0) → ((a b : ℕ) → Invalid a → Invalid b → a ≡ b) → ((a b : ℕ) → Following a → Following b → a ≡ b)
+    → (p q : ℕ) → InvalidFrom start Invalid Following p → InvalidFrom start Invalid Following q → p ≡ q
+from_once start Invalid Following once following p q (inl x) (inl y) = x.2 ∙ ap (λ (n : ℕ). start + n) (once x.0 y.0 x.1 y.1) ∙ sym y.2
+from_once start Invalid Following once following p q (inl x) (inr y) = absurd (y.0 x.0 x.1)
+from_once start Invalid Following once following p q (inr x) (inl y) = absurd (x.0 y.0 y.1)
+from_once start Invalid Following once following p q (inr x) (inr y) = following p q x.1 y.1
 
-store_once : (bytes : List ℕ) (p q : ℕ) → StoreGoesWrongAt bytes p → StoreGoesWrongAt bytes q → p ≡ q
+store_once : (bytes : List ℕ) (p q : ℕ) → StoreInvalidAt bytes p → StoreInvalidAt bytes q → p ≡ q
 store_once bytes p q a b = a.2 ∙ sym b.2
 
-parts_once : (at : ℕ) (pal : Bool) (start : ℕ) (parts : Parts) (p q : ℕ) → PartsGoWrongAt at pal start parts p → PartsGoWrongAt at pal start parts q → p ≡ q
+parts_once : (at : ℕ) (pal : Bool) (start : ℕ) (parts : Parts) (p q : ℕ) → PartsInvalidAt at pal start parts p → PartsInvalidAt at pal start parts q → p ≡ q
 parts_once at pal start parts =
     from_once 0 _ _ (store_once parts.store)
     (from_once start _ _ (vdp_laws.only_place at pal parts.vdp)
-    (from_once (start + 65813) _ _ (fm_laws.wrong_once at parts.fm)
-    (from_once (start + 65813 + 12316) _ _ (psg_laws.wrong_once at parts.psg)
+    (from_once (start + 65813) _ _ (fm_laws.invalid_once at parts.fm)
+    (from_once (start + 65813 + 12316) _ _ (psg_laws.invalid_once at parts.psg)
     (from_once (start + 65813 + 22558) _ _ (lines_laws.lines_once at parts.lines) (λ p q a b. absurd a)))))
 
-pub wrong_once : (at : ℕ) (pal : Bool) (bytes : List ℕ) (p q : ℕ) → GoesWrongAt at pal bytes p → GoesWrongAt at pal bytes q → p ≡ q
-wrong_once at pal bytes p q (inl a) (inl b) = a.1 ∙ sym b.1
-wrong_once at pal bytes p q (inl a) (inr b) = absurd (a.0 b.0)
-wrong_once at pal bytes p q (inr a) (inl b) = absurd (b.0 a.0)
-wrong_once at pal bytes p q (inr a) (inr b) = parts_once at pal (store_length bytes) (cut bytes) p q a.1 b.1
+pub invalid_once : (at : ℕ) (pal : Bool) (bytes : List ℕ) (p q : ℕ) → InvalidAt at pal bytes p → InvalidAt at pal bytes q → p ≡ q
+invalid_once at pal bytes p q (inl a) (inl b) = a.1 ∙ sym b.1
+invalid_once at pal bytes p q (inl a) (inr b) = absurd (a.0 b.0)
+invalid_once at pal bytes p q (inr a) (inl b) = absurd (b.0 a.0)
+invalid_once at pal bytes p q (inr a) (inr b) = parts_once at pal (store_length bytes) (cut bytes) p q a.1 b.1
 
 -- ---- bytes keep one board over a recording
 
@@ -256,11 +256,11 @@ spelled_once at pal bytes s t p q recording =
 
 -- ---- offsets are near
 
-pub vdp_near : (at : ℕ) (pal : Bool) (bytes : List ℕ) (place : ℕ) → vdp_spelling.GoesWrongAt at pal bytes place → place ≤ 65813
-vdp_near at pal bytes place wrong = refused_within (vdp_fields at pal) bytes 65813 (vdp_laws.fields_size at pal) place wrong
+pub vdp_near : (at : ℕ) (pal : Bool) (bytes : List ℕ) (place : ℕ) → vdp_spelling.InvalidAt at pal bytes place → place ≤ 65813
+vdp_near at pal bytes place invalid = refused_within (vdp_fields at pal) bytes 65813 (vdp_laws.fields_size at pal) place invalid
 
-pub psg_near : (at : ℕ) (bytes : List ℕ) (place : ℕ) → psg_spelling.PortGoesWrongAt at bytes place → place ≤ 10242
-psg_near at bytes place wrong = refused_within (psg_spelling.port_fields at) bytes 10242 (psg_laws.port_size at) place wrong
+pub psg_near : (at : ℕ) (bytes : List ℕ) (place : ℕ) → psg_spelling.PortInvalidAt at bytes place → place ≤ 10242
+psg_near at bytes place invalid = refused_within (psg_spelling.port_fields at) bytes 10242 (psg_laws.port_size at) place invalid
 
 -- ---- what the bytes hold
 
@@ -326,30 +326,30 @@ pub place_is : (p q : ℕ) → Rule p ≡ Rule q → p ≡ q
 place_is p q e = cc
 
 -- a refusal after a start is one of what is there
-pub behind_rule : (start : ℕ) (fault : Unspell) (place : ℕ) → behind start fault ≡ Rule place → (p : ℕ) × (fault ≡ Rule p) × (place ≡ start + p)
-behind_rule start (Rule q) place e = (q, refl, sym (place_is (start + q) place e))
-behind_rule start NoMemory place e = absurd (no_memory_not place e)
+pub after_rule : (start : ℕ) (fault : Unspell) (place : ℕ) → following start fault ≡ Rule place → (p : ℕ) × (fault ≡ Rule p) × (place ≡ start + p)
+after_rule start (Rule q) place e = (q, refl, sym (place_is (start + q) place e))
+after_rule start NoMemory place e = absurd (no_memory_not place e)
 
 -- the ports in the bytes after the VDP's
 abbrev pub PortsIn : ℕ → List ℕ → ℕ → Type 0
-PortsIn at bytes = PortsGoWrongAt at 0 (take 12316 bytes) (take 10242 (drop 12316 bytes)) (drop 10242 (drop 12316 bytes))
+PortsIn at bytes = PortsInvalidAt at 0 (take 12316 bytes) (take 10242 (drop 12316 bytes)) (drop 10242 (drop 12316 bytes))
 
-moved_from : (start far begin : ℕ) → begin ≡ far + start → (Wrong Behind Later : ℕ → Type 0) → ((place : ℕ) → Behind place → Later (far + place)) → (place : ℕ)
-    → GoesWrongFrom start Wrong Behind place → GoesWrongFrom begin Wrong Later (far + place)
-moved_from start far begin e Wrong Behind Later later place (inl x) = inl (x.0, x.1, omega (arith, x.2, e))
-moved_from start far begin e Wrong Behind Later later place (inr x) = inr (x.0, later place x.1)
+moved_from : (start far begin : ℕ) → begin ≡ far + start → (Invalid Following Later : ℕ → Type 0) → ((place : ℕ) → Following place → Later (far + place)) → (place : ℕ)
+    → InvalidFrom start Invalid Following place → InvalidFrom begin Invalid Later (far + place)
+moved_from start far begin e Invalid Following Later later place (inl x) = inl (x.0, x.1, omega (arith, x.2, e))
+moved_from start far begin e Invalid Following Later later place (inr x) = inr (x.0, later place x.1)
 
 abbrev LinesFrom : ℕ → ℕ → List ℕ → ℕ → Type 0
-LinesFrom at start lines = GoesWrongFrom (start + 22558) (LinesGoWrongAt at lines) (λ place. ⊥)
+LinesFrom at start lines = InvalidFrom (start + 22558) (LinesInvalidAt at lines) (λ place. ⊥)
 
 abbrev PsgFrom : ℕ → ℕ → List ℕ → List ℕ → ℕ → Type 0
-PsgFrom at start psg lines = GoesWrongFrom (start + 12316) (psg_spelling.PortGoesWrongAt at psg) (LinesFrom at start lines)
+PsgFrom at start psg lines = InvalidFrom (start + 12316) (psg_spelling.PortInvalidAt at psg) (LinesFrom at start lines)
 
-pub ports_behind : (at far : ℕ) (fm psg lines : List ℕ) (place : ℕ) → PortsGoWrongAt at 0 fm psg lines place → PortsGoWrongAt at far fm psg lines (far + place)
-ports_behind at far fm psg lines =
-    moved_from 0 far far (omega arith) (fm_spelling.PortGoesWrongAt at fm) (PsgFrom at 0 psg lines) (PsgFrom at far psg lines)
-    (moved_from (0 + 12316) far (far + 12316) (omega arith) (psg_spelling.PortGoesWrongAt at psg) (LinesFrom at 0 lines) (LinesFrom at far lines)
-    (moved_from (0 + 22558) far (far + 22558) (omega arith) (LinesGoWrongAt at lines) (λ n. ⊥) (λ n. ⊥) (λ place no. no)))
+pub ports_after : (at far : ℕ) (fm psg lines : List ℕ) (place : ℕ) → PortsInvalidAt at 0 fm psg lines place → PortsInvalidAt at far fm psg lines (far + place)
+ports_after at far fm psg lines =
+    moved_from 0 far far (omega arith) (fm_spelling.PortInvalidAt at fm) (PsgFrom at 0 psg lines) (PsgFrom at far psg lines)
+    (moved_from (0 + 12316) far (far + 12316) (omega arith) (psg_spelling.PortInvalidAt at psg) (LinesFrom at 0 lines) (LinesFrom at far lines)
+    (moved_from (0 + 22558) far (far + 22558) (omega arith) (LinesInvalidAt at lines) (λ n. ⊥) (λ n. ⊥) (λ place no. no)))
 
 -- RAM and bank register
 pub held_found : (bytes ram : List ℕ) (bank : ℕ) (store : Store) → IsBytes bytes → length bytes ≡ 8194 → ram ≡ take 8192 bytes → bank ≡ number_at w16 8192 bytes → bank < 512
@@ -363,11 +363,11 @@ held_found bytes ram bank store fits long front back nine is =
       subst IsStore (sym parts) (record { ram = omega (arith, length-take 8192 bytes, long); bank = omega (arith, back, nine) }),
     )
 
-pub held_right : (bytes : List ℕ) (bank : ℕ) → bank ≡ number_at w16 8192 bytes → bank < 512 → (place : ℕ) → StoreGoesWrongAt bytes place → ⊥
-held_right bytes bank back nine place wrong = absurd (omega (arith, back, nine, wrong.1))
+pub held_right : (bytes : List ℕ) (bank : ℕ) → bank ≡ number_at w16 8192 bytes → bank < 512 → (place : ℕ) → StoreInvalidAt bytes place → ⊥
+held_right bytes bank back nine place invalid = absurd (omega (arith, back, nine, invalid.1))
 
-pub held_wrong : (bytes : List ℕ) (bank place : ℕ) → length bytes ≡ 8194 → bank ≡ number_at w16 8192 bytes → 512 ≤ bank → place ≡ 8192 → StoreGoesWrongAt bytes place
-held_wrong bytes bank place long back more e = (omega (arith, long), omega (arith, back, more), e)
+pub held_invalid : (bytes : List ℕ) (bank place : ℕ) → length bytes ≡ 8194 → bank ≡ number_at w16 8192 bytes → 512 ≤ bank → place ≡ 8192 → StoreInvalidAt bytes place
+held_invalid bytes bank place long back more e = (omega (arith, long), omega (arith, back, more), e)
 
 -- no bytes keep no RAM
 pub empty_store : (bytes : List ℕ) → length bytes ≡ 0 → bytes ≡ store_bytes None
@@ -377,18 +377,18 @@ empty_store (b ∷ bytes) e = absurd (omega (arith, e))
 
 -- ---- refusals of each part are refusals of the whole
 
-pub vdp_exit : (at : ℕ) (pal : Bool) (bytes : List ℕ) (p place : ℕ) → IsLength bytes → ((q : ℕ) → StoreGoesWrongAt (cut bytes).store q → ⊥)
-    → vdp_spelling.GoesWrongAt at pal (cut bytes).vdp p → place ≡ store_length bytes + p → GoesWrongAt at pal bytes place
-vdp_exit at pal bytes p place long none wrong e = inr (long, inr (none, inl (p, wrong, e)))
+pub vdp_exit : (at : ℕ) (pal : Bool) (bytes : List ℕ) (p place : ℕ) → IsLength bytes → ((q : ℕ) → StoreInvalidAt (cut bytes).store q → ⊥)
+    → vdp_spelling.InvalidAt at pal (cut bytes).vdp p → place ≡ store_length bytes + p → InvalidAt at pal bytes place
+vdp_exit at pal bytes p place long none invalid e = inr (long, inr (none, inl (p, invalid, e)))
 
-pub ports_exit : (at : ℕ) (pal : Bool) (bytes : List ℕ) (p place : ℕ) → IsLength bytes → ((q : ℕ) → StoreGoesWrongAt (cut bytes).store q → ⊥)
-    → ((q : ℕ) → vdp_spelling.GoesWrongAt at pal (cut bytes).vdp q → ⊥) → PortsIn at (drop 65813 (drop (store_length bytes) bytes)) p
-    → place ≡ store_length bytes + 65813 + p → GoesWrongAt at pal bytes place
-ports_exit at pal bytes p place long none no_vdp wrong e =
-    subst (GoesWrongAt at pal bytes) (sym e)
-    (inr (long, inr (none, inr (no_vdp, ports_behind at (store_length bytes + 65813) (cut bytes).fm (cut bytes).psg (cut bytes).lines p wrong))))
+pub ports_exit : (at : ℕ) (pal : Bool) (bytes : List ℕ) (p place : ℕ) → IsLength bytes → ((q : ℕ) → StoreInvalidAt (cut bytes).store q → ⊥)
+    → ((q : ℕ) → vdp_spelling.InvalidAt at pal (cut bytes).vdp q → ⊥) → PortsIn at (drop 65813 (drop (store_length bytes) bytes)) p
+    → place ≡ store_length bytes + 65813 + p → InvalidAt at pal bytes place
+ports_exit at pal bytes p place long none no_vdp invalid e =
+    subst (InvalidAt at pal bytes) (sym e)
+    (inr (long, inr (none, inr (no_vdp, ports_after at (store_length bytes + 65813) (cut bytes).fm (cut bytes).psg (cut bytes).lines p invalid))))
 
-pub ports_near : (at : ℕ) (fm psg lines : List ℕ) (place : ℕ) → PortsGoWrongAt at 0 fm psg lines place → place ≤ 22594
+pub ports_near : (at : ℕ) (fm psg lines : List ℕ) (place : ℕ) → PortsInvalidAt at 0 fm psg lines place → place ≤ 22594
 ports_near at fm psg lines place (inl w) = omega (arith, w.2, refused_within (fm_spelling.port_fields at) fm 12316 (fm_laws.port_size at) w.0 w.1)
 ports_near at fm psg lines place (inr (no_fm, inl w)) = omega (arith, w.2, psg_near at psg w.0 w.1)
 ports_near at fm psg lines place (inr (no_fm, inr (no_psg, inl w))) = omega (arith, w.2, refused_within (lines_fields at) lines 36 (lines_laws.lines_size at) w.0 w.1)
@@ -397,11 +397,11 @@ ports_near at fm psg lines place (inr (no_fm, inr (no_psg, inr w))) = absurd w.1
 -- ---- a refusal that is not out of memory
 
 pub fault_only : (at : ℕ) (pal : Bool) (bytes : List ℕ) (board : Board) → Spells at pal bytes board → (fault : Unspell)
-    → ((place : ℕ) → fault ≡ Rule place → GoesWrongAt at pal bytes place) → (fault ≡ NoMemory → ⊥) → ⊥
-fault_only at pal bytes board spells (Rule place) wrong memory = right_nowhere at pal bytes board spells place (wrong place refl)
-fault_only at pal bytes board spells NoMemory wrong memory = memory refl
+    → ((place : ℕ) → fault ≡ Rule place → InvalidAt at pal bytes place) → (fault ≡ NoMemory → ⊥) → ⊥
+fault_only at pal bytes board spells (Rule place) invalid memory = right_nowhere at pal bytes board spells place (invalid place refl)
+fault_only at pal bytes board spells NoMemory invalid memory = memory refl
 
-pub fault_refused : (at : ℕ) (pal : Bool) (bytes : List ℕ) (place : ℕ) → GoesWrongAt at pal bytes place → (fault : Unspell)
-    → ((p : ℕ) → fault ≡ Rule p → GoesWrongAt at pal bytes p) → (fault ≡ NoMemory → ⊥) → fault ≡ Rule place
-fault_refused at pal bytes place there (Rule p) wrong memory = ap (λ (q : ℕ). Rule q) (wrong_once at pal bytes p place (wrong p refl) there)
-fault_refused at pal bytes place there NoMemory wrong memory = absurd (memory refl)
+pub fault_refused : (at : ℕ) (pal : Bool) (bytes : List ℕ) (place : ℕ) → InvalidAt at pal bytes place → (fault : Unspell)
+    → ((p : ℕ) → fault ≡ Rule p → InvalidAt at pal bytes p) → (fault ≡ NoMemory → ⊥) → fault ≡ Rule place
+fault_refused at pal bytes place there (Rule p) invalid memory = ap (λ (q : ℕ). Rule q) (invalid_once at pal bytes p place (invalid p refl) there)
+fault_refused at pal bytes place there NoMemory invalid memory = absurd (memory refl)

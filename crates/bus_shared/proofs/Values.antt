@@ -12,7 +12,7 @@ use Rattle.md_word.specs.declared.main_bus.Request68.TheVariants.{Read8, Read16,
 use Rattle.bus_shared.specs.Accesses.{main_cost, main_transfer, main_value}
 use Rattle.bus_shared.specs.Areas.{byte_at, byte_in, transfer_at, transfer_in, word_at, word_in}
 use Rattle.bus_shared.specs.Board.{Board, IsBoard}
-use Rattle.bus_shared.specs.Laws.{IsTransfer, TellsMain}
+use Rattle.bus_shared.specs.Laws.{IsTransfer, ReportsMain}
 use Rattle.bus_shared.specs.Lines.{request_bit}
 use Rattle.bus_shared.specs.Registers.{register_at, register_read}
 use Rattle.bus_shared.specs.Video.{both_halves, port_at, port_word}
@@ -129,9 +129,9 @@ transfer-ok board key (Ack level) ok = tt
 transfer-ok board key (Word value) ok = tt
 
 -- what the 68000 is answered
-pub tells : (board : Board) (key : Key) → IsBoard board → TellsMain board key
+pub reports : (board : Board) (key : Key) → IsBoard board → ReportsMain board key
 unfolding main_value main_cost
-tells board key ok = record {
+reports board key ok = record {
   byte = λ address. byte-below (area_of address) board key address ok;
   word = λ address. word-below (area_of address) board key address ok;
   transfer = λ request. transfer-ok board key request ok;

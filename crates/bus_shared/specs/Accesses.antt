@@ -57,8 +57,8 @@ main_answer board key request =
     record { value = main_value board key request; transfer = main_transfer board key request; cost = main_cost board key request }
 
 -- its entry
-unfoldable pub main_told : Board → Key → Request68 → Entry
-main_told board key request = main_entry key request (main_value board key request) board.vdp.a
+unfoldable pub main_reported : Board → Key → Request68 → Entry
+main_reported board key request = main_entry key request (main_value board key request) board.vdp.a
 
 -- the board after an access of the 68000
 unfoldable pub main_board : Board → Key → Request68 → Board
@@ -167,7 +167,7 @@ sub_pins board = record {
 unfoldable pub carried : Board → Key → Request → AccessOutcome
 carried board key (requests.Main request) = record {
   answer = Main (main_answer board key request);
-  entry = main_told board key request;
+  entry = main_reported board key request;
   board = main_board board key request;
 }
 carried board key (requests.Sub request) =

@@ -90,7 +90,7 @@ pub record IsTransfer (transfer : Transfer) : Type 0 where
   pub cost : IsWordCost transfer.cost
 
 -- what the 68000 is answered: a byte, a word, a transfer, and what a word of one costs
-pub record TellsMain (board : Board) (key : Key) : Type 0 where
+pub record ReportsMain (board : Board) (key : Key) : Type 0 where
   pub byte : (address : ℕ) → main_value board key (Read8 address) < 0x100
   pub word : (address : ℕ) → main_value board key (Read16 address) < 0x1_0000
   pub transfer : (request : Request68) → IfSome (main_transfer board key request) IsTransfer

@@ -8,7 +8,7 @@ pub mod Lines
 pub mod Registers
 pub mod Saved
 pub mod Settled
-pub mod Sheets
+pub mod LineBuffers
 pub mod Spelling
 pub mod Video
 pub mod Z80Space

@@ -98,46 +98,46 @@ store_length bytes = length bytes - 88407
 -- bytes as the parts in their order
 abbrev pub cut : List ℕ → Parts
 cut bytes =
-    let behind = drop (store_length bytes) bytes in
+    let following = drop (store_length bytes) bytes in
     record {
       store = take (store_length bytes) bytes;
-      vdp = take 65813 behind;
-      fm = take 12316 (drop 65813 behind);
-      psg = take 10242 (drop 12316 (drop 65813 behind));
-      lines = drop 10242 (drop 12316 (drop 65813 behind));
+      vdp = take 65813 following;
+      fm = take 12316 (drop 65813 following);
+      psg = take 10242 (drop 12316 (drop 65813 following));
+      lines = drop 10242 (drop 12316 (drop 65813 following));
     }
 
 -- the offset of a refusal in what follows a start
-abbrev pub behind : ℕ → Unspell → Unspell
-behind start (Rule place) = Rule (start + place)
-behind start NoMemory = NoMemory
+abbrev pub following : ℕ → Unspell → Unspell
+following start (Rule place) = Rule (start + place)
+following start NoMemory = NoMemory
 
 -- a bank register has nine bits
-abbrev pub StoreGoesWrongAt : List ℕ → ℕ → Type 0
-StoreGoesWrongAt bytes place = (0 < length bytes) × (512 ≤ number_at w16 8192 bytes) × (place ≡ 8192)
+abbrev pub StoreInvalidAt : List ℕ → ℕ → Type 0
+StoreInvalidAt bytes place = (0 < length bytes) × (512 ≤ number_at w16 8192 bytes) × (place ≡ 8192)
 
 -- bytes that keep no lines and pads are invalid at this offset
-abbrev pub LinesGoWrongAt : ℕ → List ℕ → ℕ → Type 0
-LinesGoWrongAt at bytes place = IsRefused 36 (lines_fields at) bytes place
+abbrev pub LinesInvalidAt : ℕ → List ℕ → ℕ → Type 0
+LinesInvalidAt at bytes place = IsRefused 36 (lines_fields at) bytes place
 
 -- a part that begins at a place is invalid, or it is invalid nowhere and what follows it is
-abbrev pub GoesWrongFrom : ℕ → (ℕ → Type 0) → (ℕ → Type 0) → ℕ → Type 0
-GoesWrongFrom start Wrong Behind place =
-    ((p : ℕ) × Wrong p × (place ≡ start + p)) ⊎ (((p : ℕ) → Wrong p → ⊥) × Behind place)
+abbrev pub InvalidFrom : ℕ → (ℕ → Type 0) → (ℕ → Type 0) → ℕ → Type 0
+InvalidFrom start Invalid Following place =
+    ((p : ℕ) × Invalid p × (place ≡ start + p)) ⊎ (((p : ℕ) → Invalid p → ⊥) × Following place)
 
 -- the offset of the first of the two ports and the lines, which begin at a place, that is invalid
-abbrev pub PortsGoWrongAt : ℕ → ℕ → List ℕ → List ℕ → List ℕ → ℕ → Type 0
-PortsGoWrongAt at start fm psg lines =
-    GoesWrongFrom start (fm_spelling.PortGoesWrongAt at fm)
-    (GoesWrongFrom (start + 12316) (psg_spelling.PortGoesWrongAt at psg)
-    (GoesWrongFrom (start + 22558) (LinesGoWrongAt at lines) (λ place. ⊥)))
+abbrev pub PortsInvalidAt : ℕ → ℕ → List ℕ → List ℕ → List ℕ → ℕ → Type 0
+PortsInvalidAt at start fm psg lines =
+    InvalidFrom start (fm_spelling.PortInvalidAt at fm)
+    (InvalidFrom (start + 12316) (psg_spelling.PortInvalidAt at psg)
+    (InvalidFrom (start + 22558) (LinesInvalidAt at lines) (λ place. ⊥)))
 
 -- the same of all parts, where RAM and bank register have so many bytes
-abbrev pub PartsGoWrongAt : ℕ → Bool → ℕ → Parts → ℕ → Type 0
-PartsGoWrongAt at pal start parts =
-    GoesWrongFrom 0 (StoreGoesWrongAt parts.store)
-    (GoesWrongFrom start (vdp_spelling.GoesWrongAt at pal parts.vdp)
-    (PortsGoWrongAt at (start + 65813) parts.fm parts.psg parts.lines))
+abbrev pub PartsInvalidAt : ℕ → Bool → ℕ → Parts → ℕ → Type 0
+PartsInvalidAt at pal start parts =
+    InvalidFrom 0 (StoreInvalidAt parts.store)
+    (InvalidFrom start (vdp_spelling.InvalidAt at pal parts.vdp)
+    (PortsInvalidAt at (start + 65813) parts.fm parts.psg parts.lines))
 
 -- as many bytes as there can be
 abbrev pub IsLength : List ℕ → Type 0
@@ -145,7 +145,7 @@ IsLength bytes = (length bytes ≡ 88407) ⊎ (length bytes ≡ 96601)
 
 -- bytes of a state at a cycle and of a region that keep no board are invalid at this offset: by their
 -- length, at the lesser one, or by the first part that is invalid
-abbrev pub GoesWrongAt : ℕ → Bool → List ℕ → ℕ → Type 0
-GoesWrongAt at pal bytes place =
+abbrev pub InvalidAt : ℕ → Bool → List ℕ → ℕ → Type 0
+InvalidAt at pal bytes place =
     ((IsLength bytes → ⊥) × (place ≡ min (length bytes) 96601))
-    ⊎ (IsLength bytes × PartsGoWrongAt at pal (store_length bytes) (cut bytes) place)
+    ⊎ (IsLength bytes × PartsInvalidAt at pal (store_length bytes) (cut bytes) place)

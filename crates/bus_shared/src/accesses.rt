@@ -44,12 +44,12 @@ impl Shared {
 
     /// Carries out an access of the 68000, at a cycle of at most 2^50: its answer, and its entry in the
     /// journal. It does what [`carry_out`] does with such a request.
-    #[tactic(auto, unfolding(crate::specs::Accesses::main_answer, crate::specs::Accesses::main_told))]
+    #[tactic(auto, unfolding(crate::specs::Accesses::main_answer, crate::specs::Accesses::main_reported))]
     pub fn carry_out_main(&mut self, key: Key, request: Request68) -> (Answer68, Entry)
         requires chip { key.chip ≡ 0 }
         requires soon { key.cycle ≤ 2 ^ 50 }
         ensures answer { result.0 ≡ accesses.main_answer self.old key request }
-        ensures entry { result.1 ≡ accesses.main_told self.old key request }
+        ensures entry { result.1 ≡ accesses.main_reported self.old key request }
         ensures board { self.new ≡ accesses.main_board self.old key request }
     {
         let a = self.vdp.a;

@@ -5,7 +5,7 @@ ghost use Rattle.md_word.specs.declared.key.Key.{Key};
 ghost use Rattle.bus_shared.specs.Accesses.{psg_board, sub_access};
 ghost use Rattle.bus_shared.specs.Fm.{fm_board};
 ghost use Rattle.bus_shared.specs.Board.{Board, IsBoard};
-ghost use Rattle.bus_shared.specs.Laws.{BatchLeaves, FmBatchLeaves, LeavesPins, LineLeaves, MainLeaves, StaysBoard, SubLeaves, TellsMain, WritersLaw};
+ghost use Rattle.bus_shared.specs.Laws.{BatchLeaves, FmBatchLeaves, LeavesPins, LineLeaves, MainLeaves, StaysBoard, SubLeaves, ReportsMain, WritersLaw};
 ghost use Rattle.bus_shared.specs.Settled.{SeesNoSettling};
 ghost use Rattle.bus_shared.specs.declared.request.Request.{Request};
 ghost use Rattle.vdp_planes.specs.declared.view.SpriteNote.{SpriteNote};
@@ -35,9 +35,9 @@ pub fn pins_have_two_writers()
 
 /// What a board answers the 68000: a byte, a word, a transfer of 1 to 65,536 words at an even address
 /// below 2^24, and what a word of one costs, 34 or 380 master cycles.
-#[tactic(auto, using(crate::proofs::Values::tells))]
+#[tactic(auto, using(crate::proofs::Values::reports))]
 pub fn answers_have_their_ranges()
-    ensures { (board : Board) (key : Key) → IsBoard board → TellsMain board key }
+    ensures { (board : Board) (key : Key) → IsBoard board → ReportsMain board key }
 {}
 
 /// Accesses of the 68000, lines and batches leave a board.

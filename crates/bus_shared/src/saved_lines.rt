@@ -3,9 +3,9 @@ ghost use Rattle.md_fields.specs.Fields.{AreSized, seen};
 ghost use Rattle.md_fields.specs.Items.{IsRight, Keeps};
 ghost use Rattle.md_fields.specs.Places.{Stand};
 ghost use Rattle.bus_shared.specs.Saved.{is_fall, lines_fields};
-ghost use Rattle.bus_shared.specs.Spelling.{LinesGoWrongAt};
+ghost use Rattle.bus_shared.specs.Spelling.{LinesInvalidAt};
 
-use md_fields::{Field, first_wrong, u8_at, u16_at, u64_at};
+use md_fields::{Field, first_invalid, u8_at, u16_at, u64_at};
 
 /// How many bytes of a saved state keep the lines and the pads.
 pub const LINES: usize = 36;
@@ -89,13 +89,13 @@ impl SavedLines {
     /// field whose rule fails, or the lesser of the number of bytes and 36 where it is not 36.
     pub fn checked(bytes: &[u8], at: u64) -> Result<SavedLines, usize>
         ensures found { IfOk result (λ lines. Keeps (lines_fields at) bytes.now lines × IsRight (lines_fields at) lines) }
-        ensures refused { IfErr result (λ place. LinesGoWrongAt at bytes.now place) }
+        ensures refused { IfErr result (λ place. LinesInvalidAt at bytes.now place) }
     {
         if bytes.len() != LINES {
             return Err(bytes.len().min(LINES));
         }
         let lines = SavedLines::read(bytes);
-        match first_wrong(&lines.fields(at)) {
+        match first_invalid(&lines.fields(at)) {
             Some(place) => Err(place),
             None => Ok(lines),
         }

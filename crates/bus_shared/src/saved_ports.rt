@@ -6,7 +6,7 @@ ghost use Rattle.psg_sound.specs.PortSpelling as psg_spelling;
 ghost use Rattle.psg_sound.specs.Port.{IsPort};
 ghost use Rattle.bus_shared.specs.Board.{IsFewFm};
 ghost use Rattle.bus_shared.specs.Saved.{lines_fields};
-ghost use Rattle.bus_shared.specs.Spelling.{PortsGoWrongAt, behind as place_behind};
+ghost use Rattle.bus_shared.specs.Spelling.{PortsInvalidAt, following as place_after};
 
 use crate::saved_lines::SavedLines;
 use fm_port::FmPort;
@@ -28,10 +28,10 @@ pub(crate) struct Ports {
 }
 
 /// An error whose offset is counted from a start, counted from the front.
-pub(crate) fn behind(start: u64, fault: Unspell) -> Unspell
+pub(crate) fn following(start: u64, fault: Unspell) -> Unspell
     requires start { start ≤ 2 ^ 32 }
     requires near { (place : ℕ) → fault ≡ Unspell.Rule place → place ≤ 2 ^ 32 }
-    ensures { result ≡ place_behind start fault }
+    ensures { result ≡ place_after start fault }
 {
     match fault {
         Unspell::Rule { place } => Unspell::Rule {
@@ -47,8 +47,8 @@ fn fm_in(alloc: Global, bytes: &[u8], at: u64) -> Result<Box<FmPort>, Unspell>
     requires { at ≤ 2 ^ 50 }
     ensures found { IfOk result (λ port. fm_spelling.SpellsPort at bytes.now port.value) }
     ensures few { IfOk result (λ port. IsFewFm port.value.writes) }
-    ensures right { IfOk result (λ port. (place : ℕ) → fm_spelling.PortGoesWrongAt at bytes.now place → ⊥) }
-    ensures rule { (place : ℕ) → IsErrOf result (Unspell.Rule place) → fm_spelling.PortGoesWrongAt at bytes.now place }
+    ensures right { IfOk result (λ port. (place : ℕ) → fm_spelling.PortInvalidAt at bytes.now place → ⊥) }
+    ensures rule { (place : ℕ) → IsErrOf result (Unspell.Rule place) → fm_spelling.PortInvalidAt at bytes.now place }
 {
     match Box::new(alloc, FmPort::power_on()) {
         Ok(port) => restored_fm(port, bytes, at),
@@ -61,8 +61,8 @@ fn restored_fm(port: Box<FmPort>, bytes: &[u8], at: u64) -> Result<Box<FmPort>, 
     requires { at ≤ 2 ^ 50 }
     ensures found { IfOk result (λ port. fm_spelling.SpellsPort at bytes.now port.value) }
     ensures few { IfOk result (λ port. IsFewFm port.value.writes) }
-    ensures right { IfOk result (λ port. (place : ℕ) → fm_spelling.PortGoesWrongAt at bytes.now place → ⊥) }
-    ensures rule { (place : ℕ) → IsErrOf result (Unspell.Rule place) → fm_spelling.PortGoesWrongAt at bytes.now place }
+    ensures right { IfOk result (λ port. (place : ℕ) → fm_spelling.PortInvalidAt at bytes.now place → ⊥) }
+    ensures rule { (place : ℕ) → IsErrOf result (Unspell.Rule place) → fm_spelling.PortInvalidAt at bytes.now place }
 {
     let mut port = port;
     match port.restore(bytes, at) {
@@ -76,8 +76,8 @@ fn restored_fm(port: Box<FmPort>, bytes: &[u8], at: u64) -> Result<Box<FmPort>, 
 fn psg_in(alloc: Global, bytes: &[u8], at: u64) -> Result<Box<PsgPort>, Unspell>
     ensures found { IfOk result (λ port. psg_spelling.SpellsPort at bytes.now port.value) }
     ensures port { IfOk result (λ port. IsPort port.value) }
-    ensures right { IfOk result (λ port. (place : ℕ) → psg_spelling.PortGoesWrongAt at bytes.now place → ⊥) }
-    ensures rule { (place : ℕ) → IsErrOf result (Unspell.Rule place) → psg_spelling.PortGoesWrongAt at bytes.now place }
+    ensures right { IfOk result (λ port. (place : ℕ) → psg_spelling.PortInvalidAt at bytes.now place → ⊥) }
+    ensures rule { (place : ℕ) → IsErrOf result (Unspell.Rule place) → psg_spelling.PortInvalidAt at bytes.now place }
 {
     match Box::new(alloc, PsgPort::power_on()) {
         Ok(port) => restored(port, bytes, at),
@@ -89,8 +89,8 @@ fn psg_in(alloc: Global, bytes: &[u8], at: u64) -> Result<Box<PsgPort>, Unspell>
 fn restored(port: Box<PsgPort>, bytes: &[u8], at: u64) -> Result<Box<PsgPort>, Unspell>
     ensures found { IfOk result (λ port. psg_spelling.SpellsPort at bytes.now port.value) }
     ensures port { IfOk result (λ port. IsPort port.value) }
-    ensures right { IfOk result (λ port. (place : ℕ) → psg_spelling.PortGoesWrongAt at bytes.now place → ⊥) }
-    ensures rule { (place : ℕ) → IsErrOf result (Unspell.Rule place) → psg_spelling.PortGoesWrongAt at bytes.now place }
+    ensures right { IfOk result (λ port. (place : ℕ) → psg_spelling.PortInvalidAt at bytes.now place → ⊥) }
+    ensures rule { (place : ℕ) → IsErrOf result (Unspell.Rule place) → psg_spelling.PortInvalidAt at bytes.now place }
 {
     let mut port = port;
     match port.restore(bytes, at) {
@@ -110,7 +110,7 @@ pub(crate) fn ports_in(alloc: Global, bytes: &[u8], at: u64) -> Result<Ports, Un
     ensures port { IfOk result (λ ports. IsPort ports.psg.value) }
     ensures lines { IfOk result (λ ports. Keeps (lines_fields at) (drop 10242 (drop 12316 bytes.now)) ports.lines × IsRight (lines_fields at) ports.lines) }
     ensures rule { (place : ℕ) → IsErrOf result (Unspell.Rule place)
-        → PortsGoWrongAt at 0 (take 12316 bytes.now) (take 10242 (drop 12316 bytes.now)) (drop 10242 (drop 12316 bytes.now)) place }
+        → PortsInvalidAt at 0 (take 12316 bytes.now) (take 10242 (drop 12316 bytes.now)) (drop 10242 (drop 12316 bytes.now)) place }
 {
     let (fm, rest) = bytes.split_at(FM);
     let fm = match fm_in(alloc, fm, at) {
@@ -120,7 +120,7 @@ pub(crate) fn ports_in(alloc: Global, bytes: &[u8], at: u64) -> Result<Ports, Un
     let (psg, rest) = rest.split_at(PSG);
     let psg = match psg_in(alloc, psg, at) {
         Ok(psg) => psg,
-        Err(fault) => return Err(behind(FM as u64, fault)),
+        Err(fault) => return Err(following(FM as u64, fault)),
     };
     match SavedLines::checked(rest, at) {
         Ok(lines) => Ok(Ports { fm, psg, lines }),

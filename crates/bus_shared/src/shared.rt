@@ -11,7 +11,7 @@ use psg_sound::PsgPort;
 use std::alloc::Global;
 use std::marker::Model;
 use std::sync::Arc;
-use vdp_ahead::Sheet;
+use vdp_ahead::LineBuffer;
 use vdp_planes::{Scene, scene_of};
 use vdp_ports::VdpState;
 
@@ -30,7 +30,7 @@ pub struct Shared {
     pub(crate) parcel: Option<Parcel>,
     pub(crate) vdp: Box<VdpState>,
     /// A buffer of pre-rendered lines, where the board has one.
-    pub(crate) sheet: Option<Box<Sheet>>,
+    pub(crate) line_buffer: Option<Box<LineBuffer>>,
     /// Whether the VDP is as that buffer shows it.
     pub(crate) fits: bool,
 }
@@ -39,14 +39,14 @@ impl Model for Shared {
     ghost use Rattle.std.specs.Arc.{arc_value};
     ghost use Rattle.std.specs.Prelude.{option_map};
     ghost use Rattle.bus_shared.specs.Board.{Board, IsBoard};
-    ghost use Rattle.bus_shared.specs.Sheets.{Fits};
+    ghost use Rattle.bus_shared.specs.LineBuffers.{Fits};
     ghost use Rattle.z80_parcel.specs.Parcels.{store_of};
 
     ghost Value = { Board };
 
     ghost view = { λ s. record { recording = arc_value s.recording; pads = s.pads; port1 = s.port1; port2 = s.port2; psg = s.psg.value; fm = s.fm.value; request = s.request; reset = s.reset; resets = s.resets; store = option_map store_of s.parcel; vdp = s.vdp.value } };
 
-    ghost invariant = { λ s. IsBoard (record { recording = arc_value s.recording; pads = s.pads; port1 = s.port1; port2 = s.port2; psg = s.psg.value; fm = s.fm.value; request = s.request; reset = s.reset; resets = s.resets; store = option_map store_of s.parcel; vdp = s.vdp.value }) × Fits s.fits (option_map (λ b. b.value) s.sheet) s.vdp.value };
+    ghost invariant = { λ s. IsBoard (record { recording = arc_value s.recording; pads = s.pads; port1 = s.port1; port2 = s.port2; psg = s.psg.value; fm = s.fm.value; request = s.request; reset = s.reset; resets = s.resets; store = option_map store_of s.parcel; vdp = s.vdp.value }) × Fits s.fits (option_map (λ b. b.value) s.line_buffer) s.vdp.value };
 }
 
 impl Shared {
@@ -69,7 +69,7 @@ impl Shared {
             resets: 0,
             parcel: None,
             vdp: power_on(alloc, pal)?,
-            sheet: None,
+            line_buffer: None,
             fits: false,
         })
     }

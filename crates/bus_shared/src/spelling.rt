@@ -5,10 +5,10 @@ ghost use Rattle.psg_sound.specs.Port.{IsPort};
 ghost use Rattle.bus_shared.specs.Board.{AreBytes, Board, IsFewFm};
 ghost use Rattle.bus_shared.specs.Saved.{AreFalls, board_from, lines_of};
 ghost use Rattle.std.specs.Arc.{arc_value};
-ghost use Rattle.bus_shared.specs.Spelling.{GoesWrongAt, IsReady, Spells, StoreGoesWrongAt, board_bytes, board_size, settled_board, store_bytes};
+ghost use Rattle.bus_shared.specs.Spelling.{InvalidAt, IsReady, Spells, StoreInvalidAt, board_bytes, board_size, settled_board, store_bytes};
 
 use crate::saved_lines::SavedLines;
-use crate::saved_ports::{Ports, behind, ports_in};
+use crate::saved_ports::{Ports, following, ports_in};
 use crate::shared::Shared;
 use fm_port::FmPort;
 use md_fields::{put, u16_at};
@@ -109,8 +109,8 @@ impl Shared {
         ensures found { IfOk result (λ shared. Spells at pal bytes.now shared × (shared.recording ≡ arc_value recording)) }
         ensures only { (board : Board) → Spells at pal bytes.now board → board.recording ≡ arc_value recording
             → result ≢ Err Unspell.NoMemory → result ≡ Ok board }
-        ensures rule { (place : ℕ) → IsErrOf result (Unspell.Rule place) → GoesWrongAt at pal bytes.now place }
-        ensures refused { (place : ℕ) → GoesWrongAt at pal bytes.now place → result ≢ Err Unspell.NoMemory
+        ensures rule { (place : ℕ) → IsErrOf result (Unspell.Rule place) → InvalidAt at pal bytes.now place }
+        ensures refused { (place : ℕ) → InvalidAt at pal bytes.now place → result ≢ Err Unspell.NoMemory
             → IsErrOf result (Unspell.Rule place) }
     {
         match read(alloc, bytes, at, recording, pal) {
@@ -137,7 +137,7 @@ fn read(
 ) -> Result<Shared, Unspell>
     requires { at ≤ 2 ^ 50 }
     ensures found { IfOk result (λ shared. Spells at pal bytes.now shared × (shared.recording ≡ arc_value recording)) }
-    ensures rule { (place : ℕ) → IsErrOf result (Unspell.Rule place) → GoesWrongAt at pal bytes.now place }
+    ensures rule { (place : ℕ) → IsErrOf result (Unspell.Rule place) → InvalidAt at pal bytes.now place }
 {
     if bytes.len() != SHORT && bytes.len() != LONG {
         return Err(Unspell::Rule {
@@ -152,11 +152,11 @@ fn read(
     let (video, rest) = rest.split_at(VDP);
     let vdp = match VdpState::unspell(alloc, video, at, pal) {
         Ok(vdp) => vdp,
-        Err(fault) => return Err(behind(store.len() as u64, fault)),
+        Err(fault) => return Err(following(store.len() as u64, fault)),
     };
     let ports = match ports_in(alloc, rest, at) {
         Ok(ports) => ports,
-        Err(fault) => return Err(behind((store.len() + VDP) as u64, fault)),
+        Err(fault) => return Err(following((store.len() + VDP) as u64, fault)),
     };
     let Ports { fm, psg, lines } = ports;
     Ok(board_of(alloc, recording, parcel, vdp, fm, psg, lines)?)
@@ -191,7 +191,7 @@ fn board_of(
         resets: lines.resets,
         parcel,
         vdp: Box::new(alloc, vdp)?,
-        sheet: None,
+        line_buffer: None,
         fits: false,
     })
 }
@@ -207,8 +207,8 @@ fn are_bytes(bytes: &[u8])
 fn parcel_in(alloc: Global, store: &[u8]) -> Result<Option<Parcel>, Unspell>
     requires { (length store.now ≡ 0) ⊎ (length store.now ≡ 8194) }
     ensures found { IfOk result (λ parcel. (store.now ≡ store_bytes (option_map store_of parcel)) × IfSome (option_map store_of parcel) IsStore) }
-    ensures right { IfOk result (λ parcel. (place : ℕ) → StoreGoesWrongAt store.now place → ⊥) }
-    ensures rule { (place : ℕ) → IsErrOf result (Unspell.Rule place) → StoreGoesWrongAt store.now place }
+    ensures right { IfOk result (λ parcel. (place : ℕ) → StoreInvalidAt store.now place → ⊥) }
+    ensures rule { (place : ℕ) → IsErrOf result (Unspell.Rule place) → StoreInvalidAt store.now place }
 {
     if store.is_empty() {
         return Ok(None);
@@ -224,8 +224,8 @@ fn parcel_in(alloc: Global, store: &[u8]) -> Result<Option<Parcel>, Unspell>
 fn held_in(alloc: Global, store: &[u8]) -> Result<Parcel, Unspell>
     requires { length store.now ≡ 8194 }
     ensures found { IfOk result (λ parcel. (store.now ≡ store_bytes (Some (store_of parcel))) × IsStore (store_of parcel)) }
-    ensures right { IfOk result (λ parcel. (place : ℕ) → StoreGoesWrongAt store.now place → ⊥) }
-    ensures rule { (place : ℕ) → IsErrOf result (Unspell.Rule place) → StoreGoesWrongAt store.now place }
+    ensures right { IfOk result (λ parcel. (place : ℕ) → StoreInvalidAt store.now place → ⊥) }
+    ensures rule { (place : ℕ) → IsErrOf result (Unspell.Rule place) → StoreInvalidAt store.now place }
 {
     let bank = u16_at(store, BANK);
     if bank >= BANKS {

@@ -105,7 +105,7 @@ module _ {Chip Shared Pins : Type 0} (rules : Rules Chip Shared Pins) (chip_ok :
     -- above chip i's key
     early : (n : ℕ) → st.accesses ≤ n → n < k → is_sample rules (run rules base n) (mover rules (run rules base n)) ≡ false
         → (mover rules (run rules base n) ≢ i) × (key_lt (key_of rules s.machine i) (s.bound (mover rules (run rules base n))) ≡ false)
-    early n from to access = (apart, behind)
+    early n from to access = (apart, following)
       where
         who : ℕ
         who = mover rules (run rules base n)
@@ -126,8 +126,8 @@ module _ {Chip Shared Pins : Type 0} (rules : Rules Chip Shared Pins) (chip_ok :
             let mono = made-mono rules base i (suc n) k to in
             omega arith
 
-        behind : key_lt (key_of rules s.machine i) (s.bound (mover rules (run rules base n))) ≡ false
-        behind =
+        following : key_lt (key_of rules s.machine i) (s.bound (mover rules (run rules base n))) ≡ false
+        following =
             let p = st.path (mover rules (run rules base n)) who_in in
             let pm = p.made in
             let few = lacks in

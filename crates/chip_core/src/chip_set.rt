@@ -23,7 +23,7 @@ pub trait ChipSet: Send + Sync {
 
     /// Where a chip queues speculative jobs: work that it asks for ahead of its events, and goes without where nobody does
     /// it. What contracts see depends on none.
-    type Errands: Send + Sync + Drop;
+    type Jobs: Send + Sync + Drop;
 
     /// What the calls compute.
     ghost rules: { Rules Self.Chip Self.Shared Self.Pins };
@@ -105,22 +105,22 @@ pub trait ChipSet: Send + Sync {
 
     /// Whether the private work after the chip's next event is worth being handed to another thread, where
     /// there is one: how several workers share their work depends on it, and nothing else.
-    fn is_dear(_chip: &Self::Chip) -> bool {
+    fn is_worth_offloading(_chip: &Self::Chip) -> bool {
         true
     }
 
     /// The place where these chips queue their jobs; none where no chip does.
-    fn errands(_chips: &[Self::Chip]) -> Option<Self::Errands> {
+    fn jobs(_chips: &[Self::Chip]) -> Option<Self::Jobs> {
         None
     }
 
     /// Whether a job is queued there that nobody has begun. It is asked again and again, so it must be cheap.
-    fn has_errand(_errands: &Self::Errands) -> bool {
+    fn has_job(_jobs: &Self::Jobs) -> bool {
         false
     }
 
     /// Runs a job, if one is queued there that nobody has begun.
-    fn run_errand<R: Wait>(_rt: &R, _errands: &Self::Errands) {}
+    fn run_job<R: Wait>(_rt: &R, _jobs: &Self::Jobs) {}
 
     /// The least number of cycles between two events of the chip: 1 to 2^50.
     fn gap(chip: u8) -> u64

@@ -323,65 +323,65 @@ module _ {Chip Shared Pins : Type 0} (rules : Rules Chip Shared Pins) (chip_ok :
       all-here : h.amount ≡ count_of counts i + ahead
       all-here = all ∙ ap (λ n. n + ahead) (sym booked)
 
-      abbrev told : PartsValue Shared
-      told = record p { bounds = announced rules i h.chip p.bounds }
+      abbrev reported : PartsValue Shared
+      reported = record p { bounds = announced rules i h.chip p.bounds }
 
       abbrev paid_counts : List ℕ
       paid_counts = slice_set counts i h.amount
 
-      pub kept-told : IsLocked rules chip_ok shared_ok base t told paid_counts
-      kept-told = kept-booked rules chip_ok shared_ok law base t p counts lk i ahead h.amount h.chip inside-count path-here samples-here all-here inside
+      pub kept-reported : IsLocked rules chip_ok shared_ok base t reported paid_counts
+      kept-reported = kept-booked rules chip_ok shared_ok law base t p counts lk i ahead h.amount h.chip inside-count path-here samples-here all-here inside
 
-      inside-told : i < length paid_counts
-      inside-told = let n = length-set counts i h.amount in omega arith
+      inside-reported : i < length paid_counts
+      inside-reported = let n = length-set counts i h.amount in omega arith
 
-      booked-told : count_of paid_counts i ≡ h.amount
-      booked-told = get_or-set_same counts i h.amount 0 inside
+      booked-reported : count_of paid_counts i ≡ h.amount
+      booked-reported = get_or-set_same counts i h.amount 0 inside
 
       -- announcing twice is announcing once
-      raised-told : raised rules i h.chip told.bounds ≡ raised rules i h.chip p.bounds
-      raised-told = ap (λ bs. slice_set bs i (record { cycle = (rules.next h.chip).key.cycle + rules.gap i; chip = i })) (set-set p.bounds i (rules.next h.chip).key (rules.next h.chip).key)
+      raised-reported : raised rules i h.chip reported.bounds ≡ raised rules i h.chip p.bounds
+      raised-reported = ap (λ bs. slice_set bs i (record { cycle = (rules.next h.chip).key.cycle + rules.gap i; chip = i })) (set-set p.bounds i (rules.next h.chip).key (rules.next h.chip).key)
 
-      counts-told : (n : ℕ) → slice_set paid_counts i n ≡ slice_set counts i n
-      counts-told n = set-set counts i h.amount n
+      counts-reported : (n : ℕ) → slice_set paid_counts i n ≡ slice_set counts i n
+      counts-reported n = set-set counts i h.amount n
 
-      turn-told : HasTurn rules p i h.chip → HasTurn rules told i h.chip
-      turn-told turn = record {
+      turn-reported : HasTurn rules p i h.chip → HasTurn rules reported i h.chip
+      turn-reported turn = record {
         early = turn.early;
         first = λ j q looks. ap (key_lt (rules.next h.chip).key) (get_or-set_other p.bounds i j (rules.next h.chip).key no_key looks.0)
             ∙ turn.first j (let n = length-set p.bounds i (rules.next h.chip).key in omega arith) looks;
       }
 
       pub place-here : HasPlaceFor rules p i h.chip
-      place-here turn access = place base t told paid_counts kept-told numbered inside-count path-here inside-told booked-told (turn-told turn) access
+      place-here turn access = place base t reported paid_counts kept-reported numbered inside-count path-here inside-reported booked-reported (turn-reported turn) access
 
       pub kept-performed : (q : PartsValue Shared) (d : Chip) → IsStep rules p i h.chip Performed q d → (n : ℕ) → n ≡ h.amount + 1 → IsLocked rules chip_ok shared_ok base t q (slice_set counts i n)
       kept-performed q d is n e =
           subst (λ (x : PartsValue Shared). IsLocked rules chip_ok shared_ok base t x (slice_set counts i n)) (sym is.2)
           (subst (λ k. IsLocked rules chip_ok shared_ok base t (after_access rules p i h.chip) (slice_set counts i k)) (sym e)
-          (subst (λ cs. IsLocked rules chip_ok shared_ok base t (after_access rules p i h.chip) cs) (counts-told (h.amount + 1))
-          (subst (λ bs. IsLocked rules chip_ok shared_ok base t (record (after_access rules p i h.chip) { bounds = bs }) (slice_set paid_counts i (h.amount + 1))) raised-told
-          (kept-access base t told paid_counts kept-told numbered inside-count path-here inside-told booked-told (turn-told is.0) is.1))))
+          (subst (λ cs. IsLocked rules chip_ok shared_ok base t (after_access rules p i h.chip) cs) (counts-reported (h.amount + 1))
+          (subst (λ bs. IsLocked rules chip_ok shared_ok base t (record (after_access rules p i h.chip) { bounds = bs }) (slice_set paid_counts i (h.amount + 1))) raised-reported
+          (kept-access base t reported paid_counts kept-reported numbered inside-count path-here inside-reported booked-reported (turn-reported is.0) is.1))))
 
       pub kept-sampled : (q : PartsValue Shared) (d : Chip) (pins : Pins) (end : Key) → IsStep rules p i h.chip (Sampled pins end) q d → (n : ℕ) → n ≡ h.amount + 1 → IsLocked rules chip_ok shared_ok base t q (slice_set counts i n)
       kept-sampled q d pins end is n e =
           subst (λ (x : PartsValue Shared). IsLocked rules chip_ok shared_ok base t x (slice_set counts i n)) (sym is.3)
           (subst (λ k. IsLocked rules chip_ok shared_ok base t (record p { bounds = raised rules i h.chip p.bounds }) (slice_set counts i k)) (sym e)
-          (subst (λ cs. IsLocked rules chip_ok shared_ok base t (record p { bounds = raised rules i h.chip p.bounds }) cs) (counts-told (h.amount + 1))
-          (subst (λ bs. IsLocked rules chip_ok shared_ok base t (record p { bounds = bs }) (slice_set paid_counts i (h.amount + 1))) raised-told
-          (kept-sample base t told paid_counts kept-told numbered inside-count path-here inside-told booked-told (turn-told is.0) is.1))))
+          (subst (λ cs. IsLocked rules chip_ok shared_ok base t (record p { bounds = raised rules i h.chip p.bounds }) cs) (counts-reported (h.amount + 1))
+          (subst (λ bs. IsLocked rules chip_ok shared_ok base t (record p { bounds = bs }) (slice_set paid_counts i (h.amount + 1))) raised-reported
+          (kept-sample base t reported paid_counts kept-reported numbered inside-count path-here inside-reported booked-reported (turn-reported is.0) is.1))))
 
       pub kept-stayed : (q : PartsValue Shared) → q ≡ record p { bounds = announced rules i h.chip p.bounds } → (n : ℕ) → n ≡ h.amount → IsLocked rules chip_ok shared_ok base t q (slice_set counts i n)
       kept-stayed q is n e =
           subst (λ (x : PartsValue Shared). IsLocked rules chip_ok shared_ok base t x (slice_set counts i n)) (sym is)
-          (subst (λ k. IsLocked rules chip_ok shared_ok base t told (slice_set counts i k)) (sym e) kept-told)
+          (subst (λ k. IsLocked rules chip_ok shared_ok base t reported (slice_set counts i k)) (sym e) kept-reported)
 
       pub held-performed : (q : PartsValue Shared) (d : Chip) → IsStep rules p i h.chip Performed q d → (n : ℕ) → n ≡ h.amount + 1 → IsHeld rules chip_ok shared_ok base t (record h { chip = d; due = Advance; amount = n })
       held-performed q d is n e =
           subst (λ (x : Chip). IsHeld rules chip_ok shared_ok base t (record h { chip = x; due = Advance; amount = n })) (sym is.3)
           (subst (λ k. IsHeld rules chip_ok shared_ok base t (record h { chip = (rules.perform h.chip p.shared).chip; due = Advance; amount = k })) (sym e)
           (subst (λ (x : HeldValue Chip Pins). IsHeld rules chip_ok shared_ok base t (performed rules p x)) same-held
-          (held-access base t told paid_counts kept-told numbered inside-count path-here inside-told booked-told (turn-told is.0) is.1)))
+          (held-access base t reported paid_counts kept-reported numbered inside-count path-here inside-reported booked-reported (turn-reported is.0) is.1)))
 
       pub held-sampled : (q : PartsValue Shared) (d : Chip) (pins : Pins) (end : Key) → IsStep rules p i h.chip (Sampled pins end) q d → (n : ℕ) → n ≡ h.amount + 1
           → IsHeld rules chip_ok shared_ok base t (record h { chip = d; due = Dues.Sample pins end; amount = n })
@@ -390,8 +390,8 @@ module _ {Chip Shared Pins : Type 0} (rules : Rules Chip Shared Pins) (chip_ok :
           (subst (λ (x : Pins). IsHeld rules chip_ok shared_ok base t (record h { due = Dues.Sample x end; amount = n })) (sym is.2)
           (subst (λ k. IsHeld rules chip_ok shared_ok base t (record h { due = Dues.Sample (rules.pins p.shared i) end; amount = k })) (sym e)
           (subst (λ (x : HeldValue Chip Pins). IsHeld rules chip_ok shared_ok base t (sampled rules p i end x)) same-held
-          (held-sample base t told paid_counts kept-told numbered inside-count path-here inside-told booked-told (turn-told is.0) is.1 end
-          (subst (λ (bs : List Key). IsLeaseEnd rules (record p { bounds = bs }) i end) (sym raised-told) (subst (λ (x : PartsValue Shared). IsLeaseEnd rules x i end) is.3 is.5))))))
+          (held-sample base t reported paid_counts kept-reported numbered inside-count path-here inside-reported booked-reported (turn-reported is.0) is.1 end
+          (subst (λ (bs : List Key). IsLeaseEnd rules (record p { bounds = bs }) i end) (sym raised-reported) (subst (λ (x : PartsValue Shared). IsLeaseEnd rules x i end) is.3 is.5))))))
 
     module _ (at : IsLockedAt rules chip_ok shared_ok base t p i paid) where
       pub place-at : HasPlaceFor rules p i h.chip

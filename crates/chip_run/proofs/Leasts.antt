@@ -43,17 +43,17 @@ other-key a b ne p = go (cases_lt a.chip b.chip) (cases_lt b.chip a.chip)
 module _ {Chip Shared Pins : Type 0} (rules : Rules Chip Shared Pins) (chip_ok : Chip → Type 0) (shared_ok : Shared → Type 0) (law : Lawful rules chip_ok shared_ok) where
   -- where the least bound is its chip's key, all bounds are above that key
   first-least : (p : PartsValue Shared) (i total : ℕ) (h : HeldValue Chip Pins) → IsFound rules i p h total → IsLeastBound p i → bound_in p.bounds i ≡ (rules.next h.chip).key → IsFirst rules (rules.next h.chip) p.bounds i
-  first-least p i total h found least told j low looks =
+  first-least p i total h found least reported j low looks =
       let few = law.few in
       let many = found.bound_count in
-      subst (λ (k : Key). key_lt k (bound_in p.bounds j) ≡ true) told
+      subst (λ (k : Key). key_lt k (bound_in p.bounds j) ≡ true) reported
       (other-key (bound_in p.bounds i) (bound_in p.bounds j)
       (λ e. looks.0 (let a = found.bound_number i found.inside in let b = found.bound_number j (omega arith) in omega (arith, e)))
       (least-of p.bounds i (λ k q. let b = found.bound_number k (omega arith) in omega arith) least.inside least.least j low))
 
   -- it then has its turn
   pub turn-least : (p : PartsValue Shared) (i total : ℕ) (h : HeldValue Chip Pins) → IsFound rules i p h total → IsLeastBound p i → bound_in p.bounds i ≡ (rules.next h.chip).key → HasTurn rules p i h.chip
-  turn-least p i total h found least told = record {
-    early = subst (λ (k : Key). k.cycle < p.end) told least.early;
-    first = first-least p i total h found least told;
+  turn-least p i total h found least reported = record {
+    early = subst (λ (k : Key). k.cycle < p.end) reported least.early;
+    first = first-least p i total h found least reported;
   }

@@ -2,7 +2,7 @@ pub mod Answered
 pub mod Booking
 pub mod Books
 pub mod CoreSteps
-pub mod Desks
+pub mod WorkQueues
 pub mod Gathers
 pub mod Keeping
 pub mod KeyOrder

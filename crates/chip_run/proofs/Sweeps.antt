@@ -61,23 +61,23 @@ got-bound : (cs ds : List Key) (n : ℕ) → slice_get ds n ≡ slice_get cs n �
 got-bound cs ds n e = sym (unwrap_or-slice_get ds n no_key) ∙ ap (λ (o : Option Key). unwrap_or o no_key) e ∙ unwrap_or-slice_get cs n no_key
 
 -- what was reported of the bounds once the chips below a number had their sections
-pub record Told (n : ℕ) (first : Bool) (bs : List Key) (told : Bool) (cs : List Key) : Type 0 where
+pub record Reported (n : ℕ) (first : Bool) (bs : List Key) (reported : Bool) (cs : List Key) : Type 0 where
   pub count : length cs ≡ length bs
   pub later : (j : ℕ) → n ≤ j → bound_in cs j ≡ bound_in bs j
-  pub unchanged : told ≡ false → (first ≡ false) × AreUnchanged bs cs
-  pub changed : told ≡ true → (first ≡ true) ⊎ IsChanged bs cs
+  pub unchanged : reported ≡ false → (first ≡ false) × AreUnchanged bs cs
+  pub changed : reported ≡ true → (first ≡ true) ⊎ IsChanged bs cs
 
-pub told-past : (n : ℕ) (first : Bool) (bs : List Key) (told : Bool) (cs : List Key) → Told n first bs told cs → Told (n + 1) first bs told cs
-told-past n first bs told cs t = record { count = t.count; later = λ j le. t.later j (omega arith); unchanged = t.unchanged; changed = t.changed }
+pub reported-past : (n : ℕ) (first : Bool) (bs : List Key) (reported : Bool) (cs : List Key) → Reported n first bs reported cs → Reported (n + 1) first bs reported cs
+reported-past n first bs reported cs t = record { count = t.count; later = λ j le. t.later j (omega arith); unchanged = t.unchanged; changed = t.changed }
 
-pub told-next : (n : ℕ) (first : Bool) (bs : List Key) (told : Bool) (cs : List Key) (told2 : Bool) (ds : List Key) → Told n first bs told cs → KeepsOthers n cs ds
-    → (told2 ≡ false → (told ≡ false) × (slice_get ds n ≡ slice_get cs n)) → (told2 ≡ true → (told ≡ true) ⊎ (slice_get ds n ≢ slice_get cs n))
-    → Told (n + 1) first bs told2 ds
-told-next n first bs told cs told2 ds t keeps same differs = record {
+pub reported-next : (n : ℕ) (first : Bool) (bs : List Key) (reported : Bool) (cs : List Key) (reported2 : Bool) (ds : List Key) → Reported n first bs reported cs → KeepsOthers n cs ds
+    → (reported2 ≡ false → (reported ≡ false) × (slice_get ds n ≡ slice_get cs n)) → (reported2 ≡ true → (reported ≡ true) ⊎ (slice_get ds n ≢ slice_get cs n))
+    → Reported (n + 1) first bs reported2 ds
+reported-next n first bs reported cs reported2 ds t keeps same differs = record {
   count = keeps.count ∙ t.count;
   later = λ j le. keeps.others j (λ e. omega (arith, e)) ∙ t.later j (omega arith);
   unchanged = λ e. (let s = same e in let u = t.unchanged s.0 in (u.0, λ j. each s.1 j (same_or j n) ∙ u.1 j));
-  changed = λ e. told-by (differs e);
+  changed = λ e. reported-by (differs e);
 }
   where
     each : slice_get ds n ≡ slice_get cs n → (j : ℕ) → (j ≡ n) ⊎ (j ≢ n) → bound_in ds j ≡ bound_in cs j
@@ -88,25 +88,25 @@ told-next n first bs told cs told2 ds t keeps same differs = record {
     before (inl e) = inl e
     before (inr c) = inr (c.0, λ e. c.1 (sym (keeps.others c.0 (λ at. c.1 (ap (bound_in cs) at ∙ t.later n (omega arith) ∙ ap (bound_in bs) (sym at)))) ∙ e))
 
-    told-by : (told ≡ true) ⊎ (slice_get ds n ≢ slice_get cs n) → (first ≡ true) ⊎ IsChanged bs ds
-    told-by (inl old) = before (t.changed old)
-    told-by (inr ne) = inr (n, λ e. ne (got-same cs ds n keeps.count (e ∙ sym (t.later n (omega arith)))))
+    reported-by : (reported ≡ true) ⊎ (slice_get ds n ≢ slice_get cs n) → (first ≡ true) ⊎ IsChanged bs ds
+    reported-by (inl old) = before (t.changed old)
+    reported-by (inr ne) = inr (n, λ e. ne (got-same cs ds n keeps.count (e ∙ sym (t.later n (omega arith)))))
 
 -- a section and what it noted
-pub told-noted : (n : ℕ) (first : Bool) (bs : List Key) (told : Bool) (cs : List Key) (told2 : Bool) (ds : List Key) → Told n first bs told cs → IsNoted n told cs told2 ds
-    → Told (n + 1) first bs told2 ds
-told-noted n first bs told cs told2 ds t is = told-next n first bs told cs told2 ds t is.keeps is.unchanged is.changed
+pub reported-noted : (n : ℕ) (first : Bool) (bs : List Key) (reported : Bool) (cs : List Key) (reported2 : Bool) (ds : List Key) → Reported n first bs reported cs → IsNoted n reported cs reported2 ds
+    → Reported (n + 1) first bs reported2 ds
+reported-noted n first bs reported cs reported2 ds t is = reported-next n first bs reported cs reported2 ds t is.keeps is.unchanged is.changed
 
 -- the same by the bounds that the code compares
-pub noted : (n : ℕ) (told : Bool) (cs : List Key) (told2 : Bool) (ds : List Key) (before after : Option Key) → KeepsOthers n cs ds → before ≡ slice_get cs n
-    → after ≡ slice_get ds n → (told2 ≡ false → (told ≡ false) × (after ≡ before)) → (told2 ≡ true → (told ≡ true) ⊎ (after ≢ before)) → IsNoted n told cs told2 ds
-noted n told cs told2 ds before after keeps before_is after_is same differs = record {
+pub noted : (n : ℕ) (reported : Bool) (cs : List Key) (reported2 : Bool) (ds : List Key) (before after : Option Key) → KeepsOthers n cs ds → before ≡ slice_get cs n
+    → after ≡ slice_get ds n → (reported2 ≡ false → (reported ≡ false) × (after ≡ before)) → (reported2 ≡ true → (reported ≡ true) ⊎ (after ≢ before)) → IsNoted n reported cs reported2 ds
+noted n reported cs reported2 ds before after keeps before_is after_is same differs = record {
   keeps = keeps;
   unchanged = λ e. ((same e).0, sym after_is ∙ (same e).1 ∙ before_is);
   changed = λ e. go (differs e);
 }
   where
-    go : (told ≡ true) ⊎ (after ≢ before) → (told ≡ true) ⊎ (slice_get ds n ≢ slice_get cs n)
+    go : (reported ≡ true) ⊎ (after ≢ before) → (reported ≡ true) ⊎ (slice_get ds n ≢ slice_get cs n)
     go (inl e) = inl e
     go (inr ne) = inr (λ e. ne (after_is ∙ e ∙ sym before_is))
 

@@ -1,5 +1,5 @@
 pub mod CoreSteps
-pub mod Desks
+pub mod WorkQueues
 pub mod Gathering
 pub mod Held
 pub mod Locked

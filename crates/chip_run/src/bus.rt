@@ -1,11 +1,11 @@
 ghost use Rattle.std.specs.Prelude.{◌≡◌, ◌↔◌, ℕ, ◌<◌, IsSome};
-ghost use Rattle.chip_run.specs.Desks.{IsLed};
+ghost use Rattle.chip_run.specs.WorkQueues.{IsLed};
 ghost use Rattle.chip_run.specs.Places.{AllFree, AreOnPaths, place};
 ghost use Rattle.chip_run.specs.Rounds.{IsEnded, IsRound, IsSwept, Keeps};
 
-use crate::desk::Desk;
 use crate::leading::{Led, lead};
 use crate::sweep::{Swept, look};
+use crate::work_queue::WorkQueue;
 use crate::{Helds, Locked, Named, Round};
 use chip_core::ChipSet;
 use md_outer::Gate;
@@ -19,7 +19,7 @@ pub struct Bus<C: ChipSet, N: Named, L0: Ledger, L1: Ledger, L2: Ledger, L3: Led
     lock: Mutex<Locked<C, N, L0, L1, L2, L3, L4>>,
     moved: Condvar,
     end: u64,
-    errands: Option<C::Errands>,
+    jobs: Option<C::Jobs>,
     ghost ends: { end ≡ N.end },
 }
 
@@ -36,7 +36,7 @@ impl<C: ChipSet, N: Named, L0: Ledger, L1: Ledger, L2: Ledger, L3: Ledger, L4: L
     pub(crate) fn over(
         locked: Locked<C, N, L0, L1, L2, L3, L4>,
         end: u64,
-        errands: Option<C::Errands>,
+        jobs: Option<C::Jobs>,
     ) -> Self
         requires { end ≡ N.end }
     {
@@ -44,13 +44,13 @@ impl<C: ChipSet, N: Named, L0: Ledger, L1: Ledger, L2: Ledger, L3: Ledger, L4: L
             lock: Mutex::new(locked),
             moved: Condvar::new(),
             end,
-            errands,
+            jobs,
         }
     }
 
     /// The queue of the chips' speculative jobs; none where no chip has any.
-    fn errands(&self) -> &Option<C::Errands> {
-        &self.errands
+    fn jobs(&self) -> &Option<C::Jobs> {
+        &self.jobs
     }
 
     /// One look at the held chips under one lock. It ends with a wait where none of them can move
@@ -113,13 +113,13 @@ impl<C: ChipSet, N: Named, L0: Ledger, L1: Ledger, L2: Ledger, L3: Ledger, L4: L
         unreachable!()
     }
 
-    /// Takes the turns of the held chips under one lock, as far as `lead` does. `tells`: whether it notifies
+    /// Takes the turns of the held chips under one lock, as far as `lead` does. `reports`: whether it notifies
     /// workers that may wait for a bound to change.
     fn turns<R: Wait>(
         &self,
         rt: &R,
         helds: &mut Helds<C, N, L0, L1, L2, L3, L4>,
-        tells: bool,
+        reports: bool,
     ) -> Led
         requires free { AllFree helds.old }
         requires whole { (L0.parts ≡ 1) × (L1.parts ≡ 1) × (L2.parts ≡ 1) × (L3.parts ≡ 1) × (L4.parts ≡ 1) }
@@ -127,7 +127,7 @@ impl<C: ChipSet, N: Named, L0: Ledger, L1: Ledger, L2: Ledger, L3: Ledger, L4: L
     {
         let mut guard = self.lock.lock(rt);
         let led = lead(rt, &mut *guard, helds);
-        if tells {
+        if reports {
             self.moved.notify_all();
         }
         led
@@ -138,7 +138,7 @@ impl<C: ChipSet, N: Named, L0: Ledger, L1: Ledger, L2: Ledger, L3: Ledger, L4: L
     fn take_turns<R: Wait, G: Gate>(
         &self,
         rt: &R,
-        desk: &Desk<C, N, L0, L1, L2, L3, L4>,
+        work_queue: &WorkQueue<C, N, L0, L1, L2, L3, L4>,
         helds: &mut Helds<C, N, L0, L1, L2, L3, L4>,
         gate: &G,
     )
@@ -152,14 +152,14 @@ impl<C: ChipSet, N: Named, L0: Ledger, L1: Ledger, L2: Ledger, L3: Ledger, L4: L
         for _ in rt.forever() {
             if !met && helds.has_all() {
                 met = true;
-                desk.close_without(rt, helds);
+                work_queue.close_without(rt, helds);
             }
             helds.pass_all(self.end, gate);
             match self.turns(rt, helds, !met) {
-                Led::Dear(chip) => desk.lay_due(rt, helds, chip),
-                Led::Away(chip) => desk.fetch(rt, helds, chip),
+                Led::WorthOffloading(chip) => work_queue.lay_due(rt, helds, chip),
+                Led::Away(chip) => work_queue.fetch(rt, helds, chip),
                 Led::Ended => match helds.missing() {
-                    Some(chip) => desk.fetch(rt, helds, chip),
+                    Some(chip) => work_queue.fetch(rt, helds, chip),
                     None => return,
                 },
             }
@@ -171,7 +171,7 @@ impl<C: ChipSet, N: Named, L0: Ledger, L1: Ledger, L2: Ledger, L3: Ledger, L4: L
     pub(crate) fn take_all_turns<R: Wait, G: Gate>(
         &self,
         rt: &R,
-        desk: &Desk<C, N, L0, L1, L2, L3, L4>,
+        work_queue: &WorkQueue<C, N, L0, L1, L2, L3, L4>,
         helds: &mut Helds<C, N, L0, L1, L2, L3, L4>,
         gate: &G,
         helpers: u8,
@@ -181,9 +181,9 @@ impl<C: ChipSet, N: Named, L0: Ledger, L1: Ledger, L2: Ledger, L3: Ledger, L4: L
         ensures free { AllFree helds.new }
         ensures held { (i : ℕ) → i < C.rules.count → IsSome (place helds.new i) }
     {
-        self.take_turns(rt, desk, helds, gate);
-        desk.end(rt);
-        desk.see_off(helpers);
+        self.take_turns(rt, work_queue, helds, gate);
+        work_queue.end(rt);
+        work_queue.see_off(helpers);
     }
 
     /// Does the work of a helper: makes the next event of its chip with its private work, unless the leader has
@@ -191,36 +191,36 @@ impl<C: ChipSet, N: Named, L0: Ledger, L1: Ledger, L2: Ledger, L3: Ledger, L4: L
     pub(crate) fn help<R: Wait, G: Gate>(
         &self,
         rt: &R,
-        desk: &Desk<C, N, L0, L1, L2, L3, L4>,
+        work_queue: &WorkQueue<C, N, L0, L1, L2, L3, L4>,
         worker: u8,
         gate: &G,
     )
         requires { (L0.parts ≡ 1) × (L1.parts ≡ 1) × (L2.parts ≡ 1) × (L3.parts ≡ 1) × (L4.parts ≡ 1) }
     {
-        self.begin(rt, desk, worker, gate);
-        desk.help(rt, self.errands());
-        desk.leave();
+        self.begin(rt, work_queue, worker, gate);
+        work_queue.help(rt, self.jobs());
+        work_queue.leave();
     }
 
     /// Makes the next event of a worker's chip, with its private work, unless another has taken that chip.
     fn begin<R: Wait, G: Gate>(
         &self,
         rt: &R,
-        desk: &Desk<C, N, L0, L1, L2, L3, L4>,
+        work_queue: &WorkQueue<C, N, L0, L1, L2, L3, L4>,
         worker: u8,
         gate: &G,
     )
         requires whole { (L0.parts ≡ 1) × (L1.parts ≡ 1) × (L2.parts ≡ 1) × (L3.parts ≡ 1) × (L4.parts ≡ 1) }
     {
         let mut one = Helds::none();
-        self.begin_with(rt, desk, &mut one, worker, gate);
+        self.begin_with(rt, work_queue, &mut one, worker, gate);
     }
 
     /// The same with a holder in which no work is due.
     fn begin_with<R: Wait, G: Gate>(
         &self,
         rt: &R,
-        desk: &Desk<C, N, L0, L1, L2, L3, L4>,
+        work_queue: &WorkQueue<C, N, L0, L1, L2, L3, L4>,
         one: &mut Helds<C, N, L0, L1, L2, L3, L4>,
         worker: u8,
         gate: &G,
@@ -228,9 +228,9 @@ impl<C: ChipSet, N: Named, L0: Ledger, L1: Ledger, L2: Ledger, L3: Ledger, L4: L
         requires free { AllFree one.old }
         requires whole { (L0.parts ≡ 1) × (L1.parts ≡ 1) × (L2.parts ≡ 1) × (L3.parts ≡ 1) × (L4.parts ≡ 1) }
     {
-        if desk.take_waiting(rt, one, worker) {
+        if work_queue.take_waiting(rt, one, worker) {
             self.wait_turn(rt, one, gate);
-            desk.lay_done(rt, one, worker);
+            work_queue.lay_done(rt, one, worker);
         }
     }
 
@@ -261,7 +261,7 @@ impl<C: ChipSet, N: Named, L0: Ledger, L1: Ledger, L2: Ledger, L3: Ledger, L4: L
             lock,
             moved: _,
             end: _,
-            errands: _,
+            jobs: _,
         } = self;
         lock.into_inner()
     }

@@ -96,14 +96,14 @@ impl<C: ChipSet, N: Named, L0: Ledger, L1: Ledger, L2: Ledger, L3: Ledger, L4: L
     }
 
     /// Of how many held chips the next private work is worth offloading.
-    pub(crate) fn dear(&self) -> u8
+    pub(crate) fn worth_offloading(&self) -> u8
         ensures { result ≤ 5 }
     {
-        dear_in(&self.place0)
-            + dear_in(&self.place1)
-            + dear_in(&self.place2)
-            + dear_in(&self.place3)
-            + dear_in(&self.place4)
+        worth_offloading_in(&self.place0)
+            + worth_offloading_in(&self.place1)
+            + worth_offloading_in(&self.place2)
+            + worth_offloading_in(&self.place3)
+            + worth_offloading_in(&self.place4)
     }
 
     /// Moves the chip of this number to the same place of another holder.
@@ -183,11 +183,11 @@ impl<C: ChipSet, N: Named, L0: Ledger, L1: Ledger, L2: Ledger, L3: Ledger, L4: L
     }
 }
 
-fn dear_in<C: ChipSet, N: Named, L: Ledger>(held: &Option<Held<C, N, L>>) -> u8
+fn worth_offloading_in<C: ChipSet, N: Named, L: Ledger>(held: &Option<Held<C, N, L>>) -> u8
     ensures { result ≤ 1 }
 {
     if let Some(held) = held
-        && C::is_dear(&held.chip)
+        && C::is_worth_offloading(&held.chip)
     {
         return 1;
     }

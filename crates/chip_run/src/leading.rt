@@ -1,5 +1,5 @@
 ghost use Rattle.std.specs.Prelude.{◌≡◌, IfSome};
-ghost use Rattle.chip_run.specs.Desks.{IsLed, IsTurned, IsTurnedPlace};
+ghost use Rattle.chip_run.specs.WorkQueues.{IsLed, IsTurned, IsTurnedPlace};
 ghost use Rattle.chip_run.specs.Places.{AllFree, HasNumber};
 ghost use Rattle.chip_run.specs.Sections.{IsLockedAt, KeepsLocked};
 ghost use Rattle.chip_run.specs.Steps.{IsLeastBound};
@@ -15,7 +15,7 @@ use std::sync::ledger::{Book, Ledger};
 #[derive(Clone, Copy)]
 pub(crate) enum Led {
     /// The chip of this number made its event, but for its private work, which is worth offloading.
-    Dear(u8),
+    WorthOffloading(u8),
     /// The chip of this number, that of least bound, is not held.
     Away(u8),
     /// No bound lies below the run's end.
@@ -28,7 +28,7 @@ pub(crate) enum Turned {
     /// It was taken.
     Taken,
     /// It was taken, but for the private work, which is worth offloading.
-    Dear,
+    WorthOffloading,
     /// The chip is not held.
     Away,
 }
@@ -54,12 +54,12 @@ fn turn_place<C: ChipSet, N: Named, L: Ledger>(
     let Some(held) = place else {
         return Turned::Away;
     };
-    if !C::is_dear(&held.chip) {
+    if !C::is_worth_offloading(&held.chip) {
         turn_held(parts, book, held, number);
         return Turned::Taken;
     }
     match step_held(parts, book, held, number) {
-        Turn::Moved => return Turned::Dear,
+        Turn::Moved => return Turned::WorthOffloading,
         Turn::Blocked { other: _, bound: _ } => return Turned::Taken,
         Turn::Finished => return Turned::Taken,
     }
@@ -113,7 +113,7 @@ pub(crate) fn lead<
         };
         match turn_on(locked, helds, chip) {
             Turned::Taken => {}
-            Turned::Dear => return Led::Dear(chip),
+            Turned::WorthOffloading => return Led::WorthOffloading(chip),
             Turned::Away => return Led::Away(chip),
         }
     }

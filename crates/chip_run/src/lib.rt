@@ -12,7 +12,6 @@
 
 mod blanks;
 mod bus;
-mod desk;
 mod gathering;
 mod held;
 mod helds;
@@ -29,6 +28,7 @@ mod stepped;
 mod sweep;
 mod turn;
 mod whole;
+mod work_queue;
 mod workers;
 
 pub use blanks::Blanks;

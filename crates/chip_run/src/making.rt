@@ -144,8 +144,8 @@ impl<C: ChipSet, N: Named, L0: Ledger, L1: Ledger, L2: Ledger, L3: Ledger, L4: L
         ensures held { AreFirst C.rules (C.core_of N.base) result.1 }
         ensures free { AllFree result.1 }
     {
-        let errands = C::errands(core.chips());
+        let jobs = C::jobs(core.chips());
         let (locked, helds) = Locked::make(core, t, blanks);
-        (Bus::over(locked, t, errands), helds)
+        (Bus::over(locked, t, jobs), helds)
     }
 }

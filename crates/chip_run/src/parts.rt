@@ -33,7 +33,7 @@ impl<C: ChipSet> Model for Parts<C> {
 
 /// Whether the chip of this number has announced its next event already.
 #[inline(always)]
-fn is_told(bounds: &[Key], number: u8, key: &Key) -> bool
+fn is_reported(bounds: &[Key], number: u8, key: &Key) -> bool
     requires { number < length bounds.now }
     ensures { result ≡ true → bound_in bounds.now number ≡ key.now }
 {
@@ -114,9 +114,9 @@ impl<C: ChipSet> Parts<C> {
     {
         let next = C::next(chip);
         let i = number as usize;
-        let told = is_told(&self.bounds, number, &next.key);
+        let reported = is_reported(&self.bounds, number, &next.key);
         set_bound(&mut self.bounds[i], &next.key);
-        if !told {
+        if !reported {
             return false;
         }
         if next.sample {

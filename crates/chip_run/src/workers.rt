@@ -2,7 +2,7 @@ ghost use Rattle.std.specs.Prelude.{◌≡◌, ℕ, ◌+◌, ◌<◌, ◌≤◌,
 ghost use Rattle.chip_run.specs.Places.{AllFree, place};
 ghost use Rattle.chip_run.specs.Rounds.{IsEnded};
 
-use crate::desk::Desk;
+use crate::work_queue::WorkQueue;
 use crate::{Bus, Helds, Named};
 use chip_core::ChipSet;
 use md_outer::Gate;
@@ -29,7 +29,7 @@ fn start<
     scope: &'s Scope<'s, E>,
     rt: &'s R,
     bus: &'s Bus<C, N, L0, L1, L2, L3, L4>,
-    desk: &'s Desk<C, N, L0, L1, L2, L3, L4>,
+    work_queue: &'s WorkQueue<C, N, L0, L1, L2, L3, L4>,
     gate: &'s G,
     worker: u8,
 )
@@ -38,13 +38,13 @@ fn start<
     let job = move || -> ()
         requires { (L0.parts ≡ 1) × (L1.parts ≡ 1) × (L2.parts ≡ 1) × (L3.parts ≡ 1) × (L4.parts ≡ 1) }
     {
-        bus.help(rt, desk, worker, gate);
+        bus.help(rt, work_queue, worker, gate);
     };
     match scope.spawn(job) {
         Ok(child) => drop(child),
         Err(back) => {
             drop(back);
-            desk.leave();
+            work_queue.leave();
         }
     }
 }
@@ -66,14 +66,14 @@ fn start_below<
     scope: &'s Scope<'s, E>,
     rt: &'s R,
     bus: &'s Bus<C, N, L0, L1, L2, L3, L4>,
-    desk: &'s Desk<C, N, L0, L1, L2, L3, L4>,
+    work_queue: &'s WorkQueue<C, N, L0, L1, L2, L3, L4>,
     gate: &'s G,
     last: u8,
 )
     requires { (L0.parts ≡ 1) × (L1.parts ≡ 1) × (L2.parts ≡ 1) × (L3.parts ≡ 1) × (L4.parts ≡ 1) }
 {
     for worker in 0..last {
-        start(scope, rt, bus, desk, gate, worker);
+        start(scope, rt, bus, work_queue, gate, worker);
     }
 }
 
@@ -95,7 +95,7 @@ fn start_all<
     scope: &'s Scope<'s, E>,
     rt: &'s R,
     bus: &'s Bus<C, N, L0, L1, L2, L3, L4>,
-    desk: &'s Desk<C, N, L0, L1, L2, L3, L4>,
+    work_queue: &'s WorkQueue<C, N, L0, L1, L2, L3, L4>,
     gate: &'s G,
     helpers: u8,
 )
@@ -108,15 +108,15 @@ fn start_all<
     let job = move || -> ()
         requires { (L0.parts ≡ 1) × (L1.parts ≡ 1) × (L2.parts ≡ 1) × (L3.parts ≡ 1) × (L4.parts ≡ 1) }
     {
-        start_below(scope, rt, bus, desk, gate, last);
-        bus.help(rt, desk, last, gate);
+        start_below(scope, rt, bus, work_queue, gate, last);
+        bus.help(rt, work_queue, last, gate);
     };
     match scope.spawn(job) {
         Ok(child) => drop(child),
         Err(back) => {
             drop(back);
-            desk.leave();
-            start_below(scope, rt, bus, desk, gate, last);
+            work_queue.leave();
+            start_below(scope, rt, bus, work_queue, gate, last);
         }
     }
 }
@@ -142,7 +142,7 @@ fn lay_all<
     R: Wait,
 >(
     rt: &R,
-    desk: &Desk<C, N, L0, L1, L2, L3, L4>,
+    work_queue: &WorkQueue<C, N, L0, L1, L2, L3, L4>,
     helds: &mut Helds<C, N, L0, L1, L2, L3, L4>,
     helpers: u8,
 )
@@ -150,7 +150,7 @@ fn lay_all<
     ensures { AllFree helds.new }
 {
     for worker in 0..helpers {
-        desk.lay_waiting(rt, helds, worker);
+        work_queue.lay_waiting(rt, helds, worker);
     }
 }
 
@@ -188,9 +188,9 @@ pub fn work<
     ensures ended { IsEnded C.rules N.end helds.new }
 {
     let helpers = others(workers);
-    let desk = Desk::new(helds.dear());
-    let shared_desk = &desk;
-    lay_all(rt, shared_desk, helds, helpers);
+    let work_queue = WorkQueue::new(helds.worth_offloading());
+    let shared_work_queue = &work_queue;
+    lay_all(rt, shared_work_queue, helds, helpers);
     let all = replace(helds, Helds::none());
     *helds = thread::scope(
         thread::scope_env(),
@@ -199,9 +199,9 @@ pub fn work<
             requires { (L0.parts ≡ 1) × (L1.parts ≡ 1) × (L2.parts ≡ 1) × (L3.parts ≡ 1) × (L4.parts ≡ 1) × AllFree all }
             ensures { AllFree result × ((i : ℕ) → i < C.rules.count → IsSome (place result i)) }
         {
-            start_all(scope, rt, bus, shared_desk, gate, helpers);
+            start_all(scope, rt, bus, shared_work_queue, gate, helpers);
             let mut rest = all;
-            bus.take_all_turns(rt, shared_desk, &mut rest, gate, helpers);
+            bus.take_all_turns(rt, shared_work_queue, &mut rest, gate, helpers);
             rest
         },
     );

@@ -50,7 +50,7 @@ impl ChipSet for Five {
 
     type Pins = u64;
 
-    type Errands = ();
+    type Jobs = ();
 
     ghost rules = { record {
       count = 5;

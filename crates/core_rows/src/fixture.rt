@@ -26,7 +26,10 @@ fn with_journal<C: ChipSet>(core: Core<C>, journal: Vec<Entry>) -> Core<C>
 }
 
 /// The core, and the text of its bounds.
-fn told_bounds<C: ChipSet>(alloc: Global, core: Core<C>) -> (Core<C>, Result<String, AllocError>) {
+fn reported_bounds<C: ChipSet>(
+    alloc: Global,
+    core: Core<C>,
+) -> (Core<C>, Result<String, AllocError>) {
     let (shared, chips, bounds, journal) = core.into_parts();
     let text = keys_text(alloc, &bounds);
     (Core::make(shared, chips, bounds, journal), text)
@@ -175,7 +178,7 @@ impl<C: ChipSet> CoreFixture<C> {
     fn bounds(&mut self, alloc: Global) -> Result<String, RowError> {
         match self.core.take() {
             Some(core) => {
-                let (core, text) = told_bounds(alloc, core);
+                let (core, text) = reported_bounds(alloc, core);
                 self.core = Some(core);
                 Ok(text?)
             }

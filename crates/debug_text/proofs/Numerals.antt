@@ -9,11 +9,11 @@ use Rattle.std.proofs.lemmas.Bool.Decides.{nat_tests}
 use Rattle.std.proofs.lemmas.Str.Parse.{IsDigitsTest, IsNumeralModel, numerals_by_value, parse_digits}
 use Rattle.debug_text.specs.Numbers.{address_of, decimal_of, is_address, is_decimal, is_hex_digit}
 
-tells : IsDigitsTest (λ ds. list_all is_ascii_digit ds ≡ true)
-tells = search rules
+reports : IsDigitsTest (λ ds. list_all is_ascii_digit ds ≡ true)
+reports = search rules
 
 model : IsNumeralModel (λ ds. list_all is_ascii_digit ds ≡ true) (digits_value 10)
-model = numerals_by_value _ tells
+model = numerals_by_value _ reports
 
 digits_are : (word : List ℕ) → is_decimal word ≡ true → list_all is_ascii_digit word ≡ true
 digits_are word digits = grind arith

@@ -22,8 +22,8 @@ abbrev pub word_in : List ℕ → List ℕ
 word_in text = before_first is_blank text
 
 -- what follows that blank, if there is one
-abbrev pub behind : List ℕ → Option (List ℕ)
-behind text = if nat_lt (position_or_len is_blank text) (length text) then Some (after_first is_blank text) else None
+abbrev pub following : List ℕ → Option (List ℕ)
+following text = if nat_lt (position_or_len is_blank text) (length text) then Some (after_first is_blank text) else None
 
 -- a number within bounds
 abbrev pub within : ℕ → ℕ → ℕ → Option ℕ
@@ -39,7 +39,7 @@ bus_address_in word = option_map (λ at. at % 16777216) (address_of word)
 
 -- an address, and how many items are from there on
 abbrev pub place_in : List ℕ → Option (ℕ × ℕ)
-place_in text = option_and_then (λ at. option_map (λ count. (at, count)) (number_in 1 256 (behind text))) (bus_address_in (word_in text))
+place_in text = option_and_then (λ at. option_map (λ count. (at, count)) (number_in 1 256 (following text))) (bus_address_in (word_in text))
 
 -- an address of an instruction is even
 abbrev pub even_place : ℕ × ℕ → Option (ℕ × ℕ)
@@ -83,4 +83,4 @@ read_by None text = Err UnknownWord
 
 -- the command of a line, or the first thing that is wrong with it: its word, then its numbers
 abbrev pub command_of : List ℕ → Result Command Misread
-command_of line = if list_all is_seven_bit line then read_by (word_of (word_in line)) (behind line) else Err UnknownWord
+command_of line = if list_all is_seven_bit line then read_by (word_of (word_in line)) (following line) else Err UnknownWord

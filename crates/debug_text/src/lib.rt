@@ -12,7 +12,7 @@ mod trace;
 
 pub use command::{Command, Misread};
 pub use cycle::put_cycle;
-pub use line::{behind, is_ascii, read_command, word_in};
+pub use line::{following, is_ascii, read_command, word_in};
 pub use memory::{byte_reply, instruction_reply};
 pub use number::read_decimal;
 pub use registers::register_reply;

@@ -27,7 +27,7 @@ pub fn read_command(line: &str) -> Result<Command, Misread>
         return Err(Misread::UnknownWord);
     }
     match word_of(word_in(line)) {
-        Some(word) => match commanded(word, behind(line)) {
+        Some(word) => match commanded(word, following(line)) {
             Some(command) => Ok(command),
             None => Err(Misread::BadNumber),
         },
@@ -53,11 +53,11 @@ pub fn word_in(text: &str) -> &str
 }
 
 /// What follows the first blank of a text; `None` where it has no blank.
-pub fn behind(text: &str) -> Option<&str>
-    ensures { option_copied result ≡ meaning.behind text.now }
+pub fn following(text: &str) -> Option<&str>
+    ensures { option_copied result ≡ meaning.following text.now }
 {
     match text.split_once(' ') {
-        Some((_, behind)) => Some(behind),
+        Some((_, following)) => Some(following),
         None => None,
     }
 }
@@ -175,7 +175,7 @@ fn place_in(text: &str) -> Option<(u32, u32)>
     ensures { result ≡ meaning.place_in text.now }
 {
     match read_address(word_in(text)) {
-        Some(at) => match short_number(1, MOST, behind(text)) {
+        Some(at) => match short_number(1, MOST, following(text)) {
             Some(count) => Some((at % ADDRESSES, count)),
             None => None,
         },

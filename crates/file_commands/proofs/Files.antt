@@ -15,8 +15,8 @@ use Rattle.asm_laws.specs.Sources.{KeepsInstruction}
 use Rattle.file_commands.specs.Assemblies.{HoldsParts, IsFound, KeepsSource, LeavesEmpty, LeavesFiles, LeavesParts, SaysSource, WriteCause, WritesFiles, limit, with_both, with_list}
 use Rattle.file_commands.specs.Begun.{IsBegun, with_more}
 use Rattle.file_commands.specs.Lists.{list_of}
-use Rattle.file_commands.specs.declared.comes.Comes.{Comes}
-use Rattle.file_commands.specs.declared.comes.Comes.TheVariants.{Made, Unread, TooLong, Refused, Unwritten, Unlisted, NoMemory}
+use Rattle.file_commands.specs.declared.completion.Completion.{Completion}
+use Rattle.file_commands.specs.declared.completion.Completion.TheVariants.{Made, Unread, TooLong, Refused, Unwritten, Unlisted, NoMemory}
 
 -- ---- two files
 
@@ -89,19 +89,19 @@ kept_of : (source : Option (List ℕ)) (outcome : AssemblyOutcome) → AllKeep �
 kept_of None outcome keeps found = absurd found
 kept_of (Some bytes) outcome keeps found = keeps bytes outcome found.1
 
-said_of : (source : Option (List ℕ)) (image : List ℕ) (lines : List Placed) → ((bytes : List ℕ) (placed : List Placed) → assembly bytes ≡ Done image placed → SaysLines bytes image placed)
+round_trips_of : (source : Option (List ℕ)) (image : List ℕ) (lines : List Placed) → ((bytes : List ℕ) (placed : List Placed) → assembly bytes ≡ Done image placed → SaysLines bytes image placed)
     → ((bytes : List ℕ) (placed : List Placed) → assembly bytes ≡ Done image placed → FitsLines bytes) → AllKeep → IsFound source (Done image lines) → SaysSource source image lines
-said_of None image lines says fits keeps found = absurd found
-said_of (Some bytes) image lines says fits keeps found = (says bytes lines found.1, fits bytes lines found.1, kept_of (Some bytes) (Done image lines) keeps found)
+round_trips_of None image lines says fits keeps found = absurd found
+round_trips_of (Some bytes) image lines says fits keeps found = (says bytes lines found.1, fits bytes lines found.1, kept_of (Some bytes) (Done image lines) keeps found)
 
 -- what an assembly leaves, by what its writing leaves
-pub leaves : (words : Assembling) (old before new : Files) (first last : DepotState) (image list : List ℕ) (lines : List Placed) (ending : Comes)
+pub leaves : (words : Assembling) (old before new : Files) (first last : DepotState) (image list : List ℕ) (lines : List Placed) (completion : Completion)
     → ((bytes : List ℕ) (placed : List Placed) → assembly bytes ≡ Done image placed → SaysLines bytes image placed)
     → ((bytes : List ℕ) (placed : List Placed) → assembly bytes ≡ Done image placed → FitsLines bytes) → AllKeep
     → before ≡ old → IsFound (old words.source) (Done image lines) → list ≡ list_of image lines
-    → WriteCause (length image) first last ending → WritesFiles words before new image list ending → LeavesFiles words old new ending
-leaves words old before new first last image list lines ending says fits keeps same found is cause left =
-    go ending cause (subst (λ (f : Files). WritesFiles words f new image (list_of image lines) ending) same (subst (λ (l : List ℕ). WritesFiles words before new image l ending) is left))
+    → WriteCause (length image) first last completion → WritesFiles words before new image list completion → LeavesFiles words old new completion
+leaves words old before new first last image list lines completion says fits keeps same found is cause left =
+    go completion cause (subst (λ (f : Files). WritesFiles words f new image (list_of image lines) completion) same (subst (λ (l : List ℕ). WritesFiles words before new image l completion) is left))
   where
     parts : (new ≡ old) ⊎ HoldsParts words old new image (list_of image lines) → LeavesParts words old new
     parts (inl same) = inl same
@@ -111,8 +111,8 @@ leaves words old before new first last image list lines ending says fits keeps s
     emptied (inl same) = inl same
     emptied (inr is) = inr (image, lines, found, is)
 
-    go : (ending : Comes) → WriteCause (length image) first last ending → WritesFiles words old new image (list_of image lines) ending → LeavesFiles words old new ending
-    go (Made size) cause left = (image, lines, found, cause, left, said_of (old words.source) image lines says fits keeps found)
+    go : (completion : Completion) → WriteCause (length image) first last completion → WritesFiles words old new image (list_of image lines) completion → LeavesFiles words old new completion
+    go (Made size) cause left = (image, lines, found, cause, left, round_trips_of (old words.source) image lines says fits keeps found)
     go Unwritten cause left = parts left
     go Unlisted cause left = parts left
     go NoMemory cause left = emptied left
@@ -122,10 +122,10 @@ leaves words old before new first last image list lines ending says fits keeps s
 
 -- ---- a line of the list
 
-pub line_more : (old place text behind first second new : List ℕ) → first ≡ old ++ place → second ≡ first ++ text → new ≡ second ++ behind
-    → new ≡ old ++ ((place ++ text) ++ behind)
-line_more old place text behind first second new is is' is'' =
-    is'' ∙ ap (λ (l : List ℕ). l ++ behind) (is' ∙ ap (λ (l : List ℕ). l ++ text) is)
+pub line_more : (old place text following first second new : List ℕ) → first ≡ old ++ place → second ≡ first ++ text → new ≡ second ++ following
+    → new ≡ old ++ ((place ++ text) ++ following)
+line_more old place text following first second new is is' is'' =
+    is'' ∙ ap (λ (l : List ℕ). l ++ following) (is' ∙ ap (λ (l : List ℕ). l ++ text) is)
     ∙ simp append_assoc
 
 -- the source that was fetched is assembled so

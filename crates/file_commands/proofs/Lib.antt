@@ -1,3 +1,3 @@
-pub mod AssemblyEndings
-pub mod ConversionEndings
+pub mod AssemblyCompletions
+pub mod ConversionCompletions
 pub mod Files

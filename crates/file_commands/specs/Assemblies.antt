@@ -10,8 +10,8 @@ use Rattle.asm_laws.specs.Fitting.{FitsLines}
 use Rattle.asm_laws.specs.Sources.{KeepsInstruction}
 use Rattle.md_args.specs.Words.{Assembling}
 use Rattle.file_commands.specs.Lists.{list_of}
-use Rattle.file_commands.specs.declared.comes.Comes.{Comes}
-use Rattle.file_commands.specs.declared.comes.Comes.TheVariants.{Made, Unread, TooLong, Refused, Unwritten, Unlisted, NoMemory}
+use Rattle.file_commands.specs.declared.completion.Completion.{Completion}
+use Rattle.file_commands.specs.declared.completion.Completion.TheVariants.{Made, Unread, TooLong, Refused, Unwritten, Unlisted, NoMemory}
 
 -- the greatest length of a source
 abbrev pub limit : ℕ
@@ -31,19 +31,19 @@ IsAtFault source line kind =
     IsFound source (assembly.Failed line kind) × KeepsSource source (assembly.Failed line kind) × IsSomeAnd source (λ bytes. IsFaulty bytes line kind)
 
 -- The cause of each outcome. What a file holds is spoken of where the depot's files are observable.
-abbrev pub HasCause : Type 0 → Assembling → DepotState → DepotState → Comes → Type 0
-HasCause told words old new (Made size) =
-    told → (image : List ℕ) × (lines : List Placed) × IsFound (old.files words.source) (assembly.Done image lines) × (size ≡ length image)
-HasCause told words old new Unread = Rose old.read_faults new.read_faults ⊎ (told × (old.files words.source ≡ None))
-HasCause told words old new TooLong = told → IsSomeAnd (old.files words.source) (λ bytes. limit < length bytes)
-HasCause told words old new (Refused line kind) = told → IsAtFault (old.files words.source) line kind
-HasCause told words old new Unwritten =
+abbrev pub HasCause : Type 0 → Assembling → DepotState → DepotState → Completion → Type 0
+HasCause observable words old new (Made size) =
+    observable → (image : List ℕ) × (lines : List Placed) × IsFound (old.files words.source) (assembly.Done image lines) × (size ≡ length image)
+HasCause observable words old new Unread = Rose old.read_faults new.read_faults ⊎ (observable × (old.files words.source ≡ None))
+HasCause observable words old new TooLong = observable → IsSomeAnd (old.files words.source) (λ bytes. limit < length bytes)
+HasCause observable words old new (Refused line kind) = observable → IsAtFault (old.files words.source) line kind
+HasCause observable words old new Unwritten =
     Rose old.write_faults new.write_faults
-    × (told → (image : List ℕ) × (lines : List Placed) × IsFound (old.files words.source) (assembly.Done image lines))
-HasCause told words old new Unlisted =
+    × (observable → (image : List ℕ) × (lines : List Placed) × IsFound (old.files words.source) (assembly.Done image lines))
+HasCause observable words old new Unlisted =
     Rose old.write_faults new.write_faults
-    × (told → (image : List ℕ) × (lines : List Placed) × IsFound (old.files words.source) (assembly.Done image lines))
-HasCause told words old new NoMemory = Unit {0}
+    × (observable → (image : List ℕ) × (lines : List Placed) × IsFound (old.files words.source) (assembly.Done image lines))
+HasCause observable words old new NoMemory = Unit {0}
 
 -- the files with this list, if one is asked for
 abbrev pub with_list : Option (List ℕ) → Files → List ℕ → Files
@@ -80,7 +80,7 @@ SaysSource source image lines = IsSomeAnd source (λ bytes. SaysLines bytes imag
 -- What the files hold then. Where they were written, the outputs hold the image, which says the lines of its source, and
 -- its list. Where a write failed, they hold parts of them, or what they held; where memory ran out, what they held, or
 -- nothing. All others hold what they held.
-abbrev pub LeavesFiles : Assembling → Files → Files → Comes → Type 0
+abbrev pub LeavesFiles : Assembling → Files → Files → Completion → Type 0
 LeavesFiles words old new (Made size) =
     (image : List ℕ) × (lines : List Placed) × IsFound (old words.source) (assembly.Done image lines) × (size ≡ length image)
     × (new ≡ with_both words old image (list_of image lines)) × SaysSource (old words.source) image lines
@@ -92,16 +92,16 @@ LeavesFiles words old new TooLong = new ≡ old
 LeavesFiles words old new (Refused line kind) = new ≡ old
 
 -- The outcome without a fault and with enough memory, by what the source is assembled to.
-abbrev pub made_ending : AssemblyOutcome → Comes
-made_ending (assembly.Done image lines) = Made (length image)
-made_ending (assembly.Failed line kind) = Refused line kind
+abbrev pub made_completion : AssemblyOutcome → Completion
+made_completion (assembly.Done image lines) = Made (length image)
+made_completion (assembly.Failed line kind) = Refused line kind
 
-abbrev pub right_ending : Option (List ℕ) → Comes
-right_ending None = Unread
-right_ending (Some bytes) = if nat_lt limit (length bytes) then TooLong else made_ending (assembly.assembly bytes)
+abbrev pub right_completion : Option (List ℕ) → Completion
+right_completion None = Unread
+right_completion (Some bytes) = if nat_lt limit (length bytes) then TooLong else made_completion (assembly.assembly bytes)
 
 -- why writing an image of this length and its list results in this
-abbrev pub WriteCause : ℕ → DepotState → DepotState → Comes → Type 0
+abbrev pub WriteCause : ℕ → DepotState → DepotState → Completion → Type 0
 WriteCause size old new (Made written) = written ≡ size
 WriteCause size old new Unwritten = Rose old.write_faults new.write_faults
 WriteCause size old new Unlisted = Rose old.write_faults new.write_faults
@@ -111,7 +111,7 @@ WriteCause size old new TooLong = ⊥
 WriteCause size old new (Refused line kind) = ⊥
 
 -- what the files hold then
-abbrev pub WritesFiles : Assembling → Files → Files → List ℕ → List ℕ → Comes → Type 0
+abbrev pub WritesFiles : Assembling → Files → Files → List ℕ → List ℕ → Completion → Type 0
 WritesFiles words old new image list (Made written) = new ≡ with_both words old image list
 WritesFiles words old new image list NoMemory = (new ≡ old) ⊎ (new ≡ with_file old words.output [])
-WritesFiles words old new image list ending = (new ≡ old) ⊎ HoldsParts words old new image list
+WritesFiles words old new image list completion = (new ≡ old) ⊎ HoldsParts words old new image list

@@ -15,12 +15,12 @@ abbrev pub limit : ℕ
 limit = 67108864
 
 -- what bytes result in: a journal by the file of its sound writes, a VGM file by its sound
-abbrev pub comes_to : Product → Bool → List ℕ → Outcome → Type 0
-comes_to Vgm pal bytes outcome = IsMade pal bytes outcome
-comes_to Sound pal bytes outcome = IsPlayed pal bytes outcome
+abbrev pub completes_with : Product → Bool → List ℕ → Outcome → Type 0
+completes_with Vgm pal bytes outcome = IsMade pal bytes outcome
+completes_with Sound pal bytes outcome = IsPlayed pal bytes outcome
 
 abbrev pub IsOutcome : Conversion → List ℕ → Outcome → Type 0
-IsOutcome conversion bytes outcome = comes_to conversion.product conversion.pal bytes outcome
+IsOutcome conversion bytes outcome = completes_with conversion.product conversion.pal bytes outcome
 
 -- what is made of a journal is not refused for its form, nor since its writes are too dense
 abbrev pub plays : Product → Bool → List ℕ → Type 0
@@ -40,14 +40,14 @@ IsMadeOf conversion input made = IsFound conversion input (outcomes.Made made) �
 
 -- The cause of each outcome. What a file holds is spoken of where the depot's files are observable.
 abbrev pub HasCause : Type 0 → Conversion → DepotState → DepotState → Converted → Type 0
-HasCause told conversion old new (Made size) =
-    told → (made : List ℕ) × IsMadeOf conversion (old.files conversion.input) made × (size ≡ length made)
-HasCause told conversion old new Unread = Rose old.read_faults new.read_faults ⊎ (told × (old.files conversion.input ≡ None))
-HasCause told conversion old new TooLong = told → IsSomeAnd (old.files conversion.input) (λ bytes. limit < length bytes)
-HasCause told conversion old new (Refused fault) = told → IsFound conversion (old.files conversion.input) (outcomes.Failed fault)
-HasCause told conversion old new Unwritten =
-    Rose old.write_faults new.write_faults × (told → (made : List ℕ) × IsMadeOf conversion (old.files conversion.input) made)
-HasCause told conversion old new NoMemory = Unit {0}
+HasCause observable conversion old new (Made size) =
+    observable → (made : List ℕ) × IsMadeOf conversion (old.files conversion.input) made × (size ≡ length made)
+HasCause observable conversion old new Unread = Rose old.read_faults new.read_faults ⊎ (observable × (old.files conversion.input ≡ None))
+HasCause observable conversion old new TooLong = observable → IsSomeAnd (old.files conversion.input) (λ bytes. limit < length bytes)
+HasCause observable conversion old new (Refused fault) = observable → IsFound conversion (old.files conversion.input) (outcomes.Failed fault)
+HasCause observable conversion old new Unwritten =
+    Rose old.write_faults new.write_faults × (observable → (made : List ℕ) × IsMadeOf conversion (old.files conversion.input) made)
+HasCause observable conversion old new NoMemory = Unit {0}
 
 -- What the files hold then. The output holds what was made, where it was written; a part of it, or what it held, where a
 -- write failed. All others hold what they held.
@@ -64,10 +64,10 @@ LeavesFiles conversion old new (Refused fault) = new ≡ old
 LeavesFiles conversion old new NoMemory = new ≡ old
 
 -- The outcome without a fault and with enough memory, by the outcome of the input.
-abbrev pub made_ending : Outcome → Converted
-made_ending (outcomes.Made made) = Made (length made)
-made_ending (outcomes.Failed fault) = Refused fault
+abbrev pub made_completion : Outcome → Converted
+made_completion (outcomes.Made made) = Made (length made)
+made_completion (outcomes.Failed fault) = Refused fault
 
-abbrev pub right_ending : Option (List ℕ) → Outcome → Converted
-right_ending None outcome = Unread
-right_ending (Some bytes) outcome = if nat_lt limit (length bytes) then TooLong else made_ending outcome
+abbrev pub right_completion : Option (List ℕ) → Outcome → Converted
+right_completion None outcome = Unread
+right_completion (Some bytes) outcome = if nat_lt limit (length bytes) then TooLong else made_completion outcome

@@ -5,7 +5,7 @@ ghost use Rattle.md_outer.specs.Outside.{GoesOn, IsPrefix, Rose};
 ghost use Rattle.file_commands.specs.Assemblies.{WriteCause, WritesFiles, with_list};
 ghost use Rattle.file_commands.specs.Begun.{IsBegun, with_more};
 
-use crate::comes::Comes;
+use crate::completion::Completion;
 use md_args::AsmWords;
 use md_outer::{Begin, Depot, Failed};
 use std::alloc::Global;
@@ -18,9 +18,9 @@ pub(crate) fn begin_list<D: Depot>(
     depot: &mut D,
 ) -> Result<Option<u32>, Begin>
     ensures begun { IfOk result (λ file. IsBegun (D.state depot.new) file (option_copied name.entry)) }
-    ensures emptied { OnOk result (D.told → (D.state depot.new).files ≡ with_list (option_copied name.entry) (D.state depot.old).files []) }
+    ensures emptied { OnOk result (D.observable → (D.state depot.new).files ≡ with_list (option_copied name.entry) (D.state depot.old).files []) }
     ensures failed { IsErrOf result Begin.Failed → Rose (D.state depot.old).write_faults (D.state depot.new).write_faults }
-    ensures files { OnErr result (D.told → (D.state depot.new).files ≡ (D.state depot.old).files) }
+    ensures files { OnErr result (D.observable → (D.state depot.new).files ≡ (D.state depot.old).files) }
     ensures goes_on { GoesOn (D.state depot.old) (D.state depot.new) }
 {
     match name {
@@ -40,10 +40,10 @@ pub(crate) fn append_list<D: Depot>(
     depot: &mut D,
 ) -> Result<(), Failed>
     requires { (name : Option (List ℕ)) × IsBegun (D.state depot.old) file name }
-    ensures appended { OnOk result (D.told → (name : Option (List ℕ)) → IsBegun (D.state depot.old) file name
+    ensures appended { OnOk result (D.observable → (name : Option (List ℕ)) → IsBegun (D.state depot.old) file name
         → (D.state depot.new).files ≡ with_more name (D.state depot.old).files list.now) }
     ensures failed { OnErr result (Rose (D.state depot.old).write_faults (D.state depot.new).write_faults) }
-    ensures part { OnErr result (D.told → (name : Option (List ℕ)) → IsBegun (D.state depot.old) file name
+    ensures part { OnErr result (D.observable → (name : Option (List ℕ)) → IsBegun (D.state depot.old) file name
         → (part : List ℕ) × IsPrefix part list.now × ((D.state depot.new).files ≡ with_more name (D.state depot.old).files part)) }
     ensures goes_on { GoesOn (D.state depot.old) (D.state depot.new) }
 {
@@ -61,26 +61,26 @@ pub(crate) fn write_both<D: Depot>(
     image: &[u8],
     list: &[u8],
     depot: &mut D,
-) -> Comes
+) -> Completion
     ensures cause { WriteCause (length image.now) (D.state depot.old) (D.state depot.new) result }
-    ensures files { D.told → WritesFiles (shown_assembling words.now) (D.state depot.old).files (D.state depot.new).files image.now list.now result }
+    ensures files { D.observable → WritesFiles (shown_assembling words.now) (D.state depot.old).files (D.state depot.new).files image.now list.now result }
     ensures goes_on { GoesOn (D.state depot.old) (D.state depot.new) }
 {
     let file = match depot.begin(alloc, words.output) {
         Ok(file) => file,
-        Err(Begin::Failed) => return Comes::Unwritten,
-        Err(Begin::NoMemory) => return Comes::NoMemory,
+        Err(Begin::Failed) => return Completion::Unwritten,
+        Err(Begin::NoMemory) => return Completion::NoMemory,
     };
     let second = match begin_list(alloc, words.list, depot) {
         Ok(second) => second,
-        Err(Begin::Failed) => return Comes::Unlisted,
-        Err(Begin::NoMemory) => return Comes::NoMemory,
+        Err(Begin::Failed) => return Completion::Unlisted,
+        Err(Begin::NoMemory) => return Completion::NoMemory,
     };
     match depot.append(file, image) {
         Ok(()) => match append_list(second, list, depot) {
-            Ok(()) => Comes::Made(image.len() as u64),
-            Err(Failed) => Comes::Unlisted,
+            Ok(()) => Completion::Made(image.len() as u64),
+            Err(Failed) => Completion::Unlisted,
         },
-        Err(Failed) => Comes::Unwritten,
+        Err(Failed) => Completion::Unwritten,
     }
 }

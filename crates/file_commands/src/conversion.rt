@@ -17,8 +17,8 @@ const LONGEST: u64 = 67_108_864;
 /// into the output's bytes before the output is begun, so that what is refused changes no file. The outcome says whether
 /// it was written, and else what failed first.
 pub fn convert<D: Depot>(alloc: Global, words: &ConvertWords<'_>, depot: &mut D) -> Converted
-    ensures cause { HasCause D.told (shown_conversion words.now) (D.state depot.old) (D.state depot.new) result }
-    ensures files { D.told → LeavesFiles (shown_conversion words.now) (D.state depot.old).files (D.state depot.new).files result }
+    ensures cause { HasCause D.observable (shown_conversion words.now) (D.state depot.old) (D.state depot.new) result }
+    ensures files { D.observable → LeavesFiles (shown_conversion words.now) (D.state depot.old).files (D.state depot.new).files result }
     ensures goes_on { GoesOn (D.state depot.old) (D.state depot.new) }
 {
     let bytes = match depot.fetch(alloc, words.input, LONGEST) {

@@ -5,8 +5,8 @@ ghost use Rattle.md_outer.specs.Outside.{DepotState, Rose, bytes_of};
 ghost use Rattle.md_vgm.specs.Outcomes.{Outcome};
 ghost use Rattle.md_args.specs.Shown.{shown_conversion};
 ghost use Rattle.md_args.specs.Words.{Conversion};
-ghost use Rattle.file_commands.specs.Conversions.{HasCause, IsOutcome, limit, right_ending};
-ghost use Rattle.file_commands.specs.declared.converted.Converted.{Converted as Ending};
+ghost use Rattle.file_commands.specs.Conversions.{HasCause, IsOutcome, limit, right_completion};
+ghost use Rattle.file_commands.specs.declared.converted.Converted.{Converted as Completion};
 ghost use Rattle.file_commands.specs.declared.converted.Converted.TheVariants.{NoMemory};
 
 use crate::making::make;
@@ -24,8 +24,8 @@ pub fn inputs_have_an_outcome(alloc: Global, words: &ConvertWords<'_>, bytes: &[
 /// Where no fault rises and the store's files are observable, a conversion results in what the outcome of its input says,
 /// or in out of memory.
 pub fn conversions_end_as_they_should()
-    ensures { (conversion : Conversion) (old new : DepotState) (ending : Ending) (outcome : Outcome)
+    ensures { (conversion : Conversion) (old new : DepotState) (completion : Completion) (outcome : Outcome)
         → ¬ Rose old.read_faults new.read_faults → ¬ Rose old.write_faults new.write_faults
-        → HasCause (Unit {0}) conversion old new ending → IsOutcome conversion (bytes_of old.files conversion.input) outcome
-        → (ending ≡ right_ending (old.files conversion.input) outcome) ⊎ (ending ≡ NoMemory) }
+        → HasCause (Unit {0}) conversion old new completion → IsOutcome conversion (bytes_of old.files conversion.input) outcome
+        → (completion ≡ right_completion (old.files conversion.input) outcome) ⊎ (completion ≡ NoMemory) }
 {}

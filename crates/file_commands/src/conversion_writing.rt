@@ -12,10 +12,10 @@ pub(crate) fn write_file<D: Depot>(
     bytes: &[u8],
     depot: &mut D,
 ) -> Result<(), Begin>
-    ensures files { OnOk result (D.told → (D.state depot.new).files ≡ with_file (D.state depot.old).files name.now bytes.now) }
+    ensures files { OnOk result (D.observable → (D.state depot.new).files ≡ with_file (D.state depot.old).files name.now bytes.now) }
     ensures failed { IsErrOf result Begin.Failed → Rose (D.state depot.old).write_faults (D.state depot.new).write_faults }
-    ensures begun { IsErrOf result Begin.NoMemory → D.told → (D.state depot.new).files ≡ (D.state depot.old).files }
-    ensures part { OnErr result (D.told → ((D.state depot.new).files ≡ (D.state depot.old).files)
+    ensures begun { IsErrOf result Begin.NoMemory → D.observable → (D.state depot.new).files ≡ (D.state depot.old).files }
+    ensures part { OnErr result (D.observable → ((D.state depot.new).files ≡ (D.state depot.old).files)
         ⊎ ((part : List ℕ) × IsPrefix part bytes.now × ((D.state depot.new).files ≡ with_file (D.state depot.old).files name.now part))) }
     ensures goes_on { GoesOn (D.state depot.old) (D.state depot.new) }
 {

@@ -4,7 +4,7 @@
 mod assembling;
 pub mod assembly_laws;
 mod assembly_writing;
-mod comes;
+mod completion;
 mod conversion;
 pub mod conversion_laws;
 mod conversion_writing;
@@ -14,6 +14,6 @@ mod making;
 mod reading;
 
 pub use assembling::assemble_file;
-pub use comes::Comes;
+pub use completion::Completion;
 pub use conversion::convert;
 pub use converted::Converted;

@@ -1,5 +1,5 @@
 // Cartridges and pictures.
-use crate::fixture::told;
+use crate::fixture::reported;
 use md_demo::demo_cart;
 use md_files::{ppm_head, put_frame};
 use rom_header::{Cart, CartFault};
@@ -28,8 +28,8 @@ fn cart_of(alloc: Global, file: &[u8]) -> Result<Cart, RowError> {
 /// Whether a file is a cartridge, `yes`, or why it is none.
 pub(crate) fn accept(alloc: Global, file: &[u8]) -> Result<String, RowError> {
     match Cart::accept(alloc, file.to_vec(alloc)?) {
-        Ok(_) => told(alloc, "yes"),
-        Err(fault) => told(alloc, fault_text(fault)),
+        Ok(_) => reported(alloc, "yes"),
+        Err(fault) => reported(alloc, fault_text(fault)),
     }
 }
 
@@ -39,9 +39,9 @@ pub(crate) fn image(alloc: Global, file: &[u8]) -> Result<String, RowError> {
     let image = cart.bytes();
     let is_begun = image.get(..file.len()) == Some(file);
     match image.get(file.len()..) {
-        Some([]) if is_begun => told(alloc, "file"),
-        Some([0]) if is_begun => told(alloc, "file 00"),
-        _ => told(alloc, "other"),
+        Some([]) if is_begun => reported(alloc, "file"),
+        Some([0]) if is_begun => reported(alloc, "file 00"),
+        _ => reported(alloc, "other"),
     }
 }
 

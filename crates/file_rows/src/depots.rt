@@ -2,7 +2,7 @@
 ghost use Rattle.std.specs.Prelude.{IsSome, IfOk};
 ghost use Rattle.md_outer.specs.MemDepot.{depot_state_of};
 
-use crate::fixture::{halves, told, two, yes_or_no};
+use crate::fixture::{halves, reported, two, yes_or_no};
 use md_outer::{Begin, Depot, Fetch, MemDepot, MemSink, Sink};
 use row_lines::{RowError, bytes, number, push};
 use std::alloc::{AllocError, Global};
@@ -26,8 +26,8 @@ fn fetch(alloc: Global, depot: &mut MemDepot, text: &str) -> Result<String, RowE
     let (name, limit) = two(text)?;
     match depot.fetch(alloc, name, number(limit)?) {
         Ok(bytes) => Ok(hex::encode_upper(alloc, &bytes)?),
-        Err(Fetch::Failed) => told(alloc, "failed"),
-        Err(Fetch::TooLong) => told(alloc, "too long"),
+        Err(Fetch::Failed) => reported(alloc, "failed"),
+        Err(Fetch::TooLong) => reported(alloc, "too long"),
         Err(Fetch::NoMemory) => Err(RowError::Memory),
     }
 }
@@ -36,7 +36,7 @@ fn fetch(alloc: Global, depot: &mut MemDepot, text: &str) -> Result<String, RowE
 fn begin(alloc: Global, depot: &mut MemDepot, name: &str) -> Result<String, RowError> {
     match depot.begin(alloc, name) {
         Ok(number) => Ok(format!(in alloc; "{number}")?),
-        Err(Begin::Failed) => told(alloc, "failed"),
+        Err(Begin::Failed) => reported(alloc, "failed"),
         Err(Begin::NoMemory) => Err(RowError::Memory),
     }
 }
@@ -62,7 +62,7 @@ fn append(
 fn write(alloc: Global, depot: &mut MemDepot, text: &str) -> Result<String, RowError> {
     let (name, pieces) = two(text)?;
     let Ok(number) = depot.begin(alloc, name) else {
-        return told(alloc, "failed");
+        return reported(alloc, "failed");
     };
     let mut text = format!(in alloc; "{number}")?;
     append_all(alloc, depot, number, pieces, &mut text)?;
@@ -88,9 +88,9 @@ fn append_all(
 /// What a file holds, or `none`.
 fn held(alloc: Global, depot: &MemDepot, name: &str) -> Result<String, RowError> {
     match depot.file(name) {
-        Some(bytes) if bytes.is_empty() => told(alloc, "empty"),
+        Some(bytes) if bytes.is_empty() => reported(alloc, "empty"),
         Some(bytes) => Ok(hex::encode_upper(alloc, bytes)?),
-        None => told(alloc, "none"),
+        None => reported(alloc, "none"),
     }
 }
 

@@ -27,13 +27,13 @@ pub(crate) fn two(text: &str) -> Result<(&str, &str), RowError> {
 }
 
 /// A text as an answer.
-pub(crate) fn told(alloc: Global, text: &str) -> Result<String, RowError> {
+pub(crate) fn reported(alloc: Global, text: &str) -> Result<String, RowError> {
     Ok(String::from_str(alloc, text)?)
 }
 
 /// `yes` or `no`.
 pub(crate) fn yes_or_no(alloc: Global, is_so: bool) -> Result<String, RowError> {
-    told(alloc, if is_so { "yes" } else { "no" })
+    reported(alloc, if is_so { "yes" } else { "no" })
 }
 
 /// Puts bytes over those from a place on, which is hexadecimal.

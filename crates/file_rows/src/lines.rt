@@ -1,5 +1,5 @@
 // Lines of scripts.
-use crate::fixture::told;
+use crate::fixture::reported;
 use debug_text::{Command, Misread, read_command};
 use md_rollback::{Line, Player, read_line};
 use row_lines::{RowError, bytes};
@@ -17,27 +17,27 @@ pub(crate) fn command(alloc: Global, text: &str) -> Result<String, RowError> {
         Ok(Command::Step(count)) => Ok(format!(in alloc; "step {count}")?),
         Ok(Command::RunTo(cycle)) => Ok(format!(in alloc; "run {cycle}")?),
         Ok(Command::Back(count)) => Ok(format!(in alloc; "back {count}")?),
-        Ok(Command::Regs) => told(alloc, "regs"),
+        Ok(Command::Regs) => reported(alloc, "regs"),
         Ok(Command::Mem(at, count)) => Ok(format!(in alloc; "mem {at:X} {count}")?),
         Ok(Command::Dis(at, count)) => Ok(format!(in alloc; "dis {at:X} {count}")?),
         Ok(Command::Trace(count)) => Ok(format!(in alloc; "trace {count}")?),
-        Ok(Command::Report) => told(alloc, "report"),
-        Err(Misread::UnknownWord) => told(alloc, "unknown word"),
-        Err(Misread::BadNumber) => told(alloc, "bad number"),
+        Ok(Command::Report) => reported(alloc, "report"),
+        Err(Misread::UnknownWord) => reported(alloc, "unknown word"),
+        Err(Misread::BadNumber) => reported(alloc, "bad number"),
     }
 }
 
 /// What a line of a session's script asks for.
 fn line_text(alloc: Global, line: Option<Line>) -> Result<String, RowError> {
     match line {
-        Some(Line::Advance) => told(alloc, "advance"),
+        Some(Line::Advance) => reported(alloc, "advance"),
         Some(Line::Press(Player::Local, frame, buttons)) => {
             Ok(format!(in alloc; "local {frame} {buttons:X}")?)
         }
         Some(Line::Press(Player::Remote, frame, buttons)) => {
             Ok(format!(in alloc; "remote {frame} {buttons:X}")?)
         }
-        None => told(alloc, "none"),
+        None => reported(alloc, "none"),
     }
 }
 

@@ -1,5 +1,5 @@
 // Recordings, and the port that a pad hangs on.
-use crate::fixture::{halves, told, two, yes_or_no};
+use crate::fixture::{halves, reported, two, yes_or_no};
 use bitflags::Flags;
 use md_pads::{Buttons, PadPort, RecFault, Recording};
 use row_lines::{RowError, byte, number, word};
@@ -33,7 +33,7 @@ fn place_of(alloc: Global, file: &[u8]) -> Option<u64> {
 /// Whether bytes are a recording, `yes`, or from which place on they are none.
 fn read(alloc: Global, file: &[u8]) -> Result<String, RowError> {
     match Recording::read(alloc, file) {
-        Ok(_) => told(alloc, "yes"),
+        Ok(_) => reported(alloc, "yes"),
         Err(RecFault::Form { place }) => Ok(format!(in alloc; "wrong at {place}")?),
         Err(RecFault::NoMemory) => Err(RowError::Memory),
     }

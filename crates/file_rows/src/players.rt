@@ -1,5 +1,5 @@
 // What two players press, and what is expected of them.
-use crate::fixture::{halves, told, two};
+use crate::fixture::{halves, reported, two};
 use md_rollback::{InputFault, Inputs, MOST_FRAMES};
 use row_lines::{RowError, number, place_of, word};
 use std::alloc::Global;
@@ -13,10 +13,10 @@ pub(crate) struct Players {
 /// `ok`, or why an input is refused.
 fn fault_text(alloc: Global, given: Result<(), InputFault>) -> Result<String, RowError> {
     match given {
-        Ok(()) => told(alloc, "ok"),
+        Ok(()) => reported(alloc, "ok"),
         Err(InputFault::Far { last }) => Ok(format!(in alloc; "far {last}")?),
         Err(InputFault::Given { kept }) => Ok(format!(in alloc; "given {kept:X}")?),
-        Err(InputFault::Buttons) => told(alloc, "buttons"),
+        Err(InputFault::Buttons) => reported(alloc, "buttons"),
     }
 }
 

@@ -1,6 +1,6 @@
 // Replies of the debugger, for the cartridge of 512 bytes that branches to itself at 1FCh.
 use crate::cartridges::in_one_line;
-use crate::fixture::{halves, told, two};
+use crate::fixture::{halves, reported, two};
 use debug_text::{address_reply, byte_reply, instruction_reply, register_reply, report_reply};
 use md_word::{NoMemory, Regs};
 use row_lines::{RowError, long, number, push};
@@ -36,7 +36,7 @@ fn image() -> [u8; 512] {
 /// A reply as an answer, `none` where it is empty.
 fn line_of(alloc: Global, reply: Result<String, NoMemory>) -> Result<String, RowError> {
     match reply {
-        Ok(text) if text.is_empty() => told(alloc, "none"),
+        Ok(text) if text.is_empty() => reported(alloc, "none"),
         Ok(text) => in_one_line(alloc, text.as_bytes(), '.'),
         Err(_) => Err(RowError::Memory),
     }

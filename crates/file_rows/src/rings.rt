@@ -62,7 +62,7 @@ fn tell(text: &mut String, state: &[u8; 8192]) -> Result<(), RowError> {
 }
 
 /// The states that a ring keeps, the newest first, or `none`; and after them `..` where their number is another.
-fn told(alloc: Global, ring: &PageRing) -> Result<String, RowError>
+fn reported(alloc: Global, ring: &PageRing) -> Result<String, RowError>
     requires { ring.now.per_state ≡ 2 }
 {
     let mut text = String::new(alloc);
@@ -93,7 +93,7 @@ pub(crate) fn kept(alloc: Global, text: &str) -> Result<String, RowError> {
     match PageRing::make(alloc, pages as u32, 2) {
         Ok(mut ring) => {
             keep_all(&mut ring, words)?;
-            told(alloc, &ring)
+            reported(alloc, &ring)
         }
         Err(_) => Err(RowError::Memory),
     }

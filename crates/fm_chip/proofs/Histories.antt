@@ -5,7 +5,7 @@ use Rattle.std.proofs.lemmas.Bool.{le-ltb, lt-leb}
 use Rattle.md_word.specs.Clock.{fm_sample}
 use Rattle.sound_writes.specs.Order.{is_below, is_from}
 use Rattle.sound_writes.proofs.Courses.{finished-made_below}
-use Rattle.sound_writes.proofs.Filters.{filter-none, filter-filter, filter-later, stamped-before, stamped-behind}
+use Rattle.sound_writes.proofs.Filters.{filter-none, filter-filter, filter-later, stamped-before, stamped-following}
 use Rattle.sound_writes.proofs.Orders.{IsInOrder-append, IsInOrder-filter}
 use Rattle.sound_writes.proofs.Splits.{made_below-in_order}
 use Rattle.fm_port.specs.declared.write.FmWrite.{FmWrite}
@@ -52,7 +52,7 @@ due-heard history ws first s h e (suc n) =
     let number : first + suc n ≡ suc (first + n) = add-suc first n in
     let before = due-heard history ws first s h e n in
     let made : filter (is_below stamp_of next) (filter (is_from stamp_of low) ws) ≡ stamped low next all =
-    filter-filter (is_below stamp_of next) (is_from stamp_of low) ws ∙ sym (stamped-behind stamp_of low next 0 cut history ws h.past (omega arith)) in
+    filter-filter (is_below stamp_of next) (is_from stamp_of low) ws ∙ sym (stamped-following stamp_of low next 0 cut history ws h.past (omega arith)) in
     let left : filter (is_from stamp_of next) (filter (is_from stamp_of low) ws) ≡ filter (is_from stamp_of next) ws =
     filter-later stamp_of low next cut high ws h.span (omega arith) in
     let at : made_below next (sampled (first + n) (chip_before all (first + n))) (filter (is_from stamp_of low) ws)

@@ -5,7 +5,7 @@ use Rattle.std.specs.Int.{w16}
 use Rattle.std.proofs.lemmas.Int.{ints}
 use Rattle.std.proofs.lemmas.Bool.{and_parts, le-ltb, leb-true, lt-ltb, ltb-true}
 use Rattle.std.proofs.lemmas.List.Elements.{All-cons, All-get_or, All-nil}
-use Rattle.md_fields.specs.Fields.{AllHold, AreWithin, Field, first_wrong, holds_of, or_else, size_of, sizes}
+use Rattle.md_fields.specs.Fields.{AllHold, AreWithin, Field, first_invalid, holds_of, or_else, size_of, sizes}
 use Rattle.md_fields.specs.Items.{IsRight, Keeps}
 use Rattle.md_fields.specs.Places.{IsBytes, Stand, number_at}
 use Rattle.md_fields.proofs.Flags.{flag_again, flag_back}
@@ -15,7 +15,7 @@ use Rattle.fm_voice.specs.Channel.{IsLevel}
 use Rattle.fm_chip.specs.Channels.{IsChannel, channel_at}
 use Rattle.fm_chip.specs.Operators.{IsOperator}
 use Rattle.fm_chip.specs.Synth.{IsSynth, Synth}
-use Rattle.fm_chip.specs.SynthSpelling.{SpellsSynth, SynthGoesWrongAt, channel_from, fields1, fields2, fields3, fields4, fields5, fields6, four_at, four_fields, head_fields, is_output, last_at, last_before, last_fields, last_from, operator_at, operator_before, operator_from, output_of, saved_four_of, saved_last_of, saved_synth_of, state_again, state_number, state_of, synth_at, synth_fields, synth_from, word_of}
+use Rattle.fm_chip.specs.SynthSpelling.{SpellsSynth, SynthInvalidAt, channel_from, fields1, fields2, fields3, fields4, fields5, fields6, four_at, four_fields, head_fields, is_output, last_at, last_before, last_fields, last_from, operator_at, operator_before, operator_from, output_of, saved_four_of, saved_last_of, saved_synth_of, state_again, state_number, state_of, synth_at, synth_fields, synth_from, word_of}
 use Rattle.fm_chip.specs.declared.channels.Channel.{Channel}
 use Rattle.fm_chip.specs.declared.saved_operator.SavedFour.{SavedFour}
 use Rattle.fm_chip.specs.declared.saved_operator.SavedOperator.{SavedOperator}
@@ -244,39 +244,39 @@ pub last_size : (s : SavedSynth) → sizes (last_fields s) ≡ 24
 unfolding sizes
 last_size s = refl
 
-four_first : (place next : ℕ) (s : SavedFour) (rest : List Field) → place + 32 ≡ next → or_else (first_wrong place (four_fields s)) (first_wrong next rest) ≡ first_wrong place (four_fields s ++ rest)
+four_first : (place next : ℕ) (s : SavedFour) (rest : List Field) → place + 32 ≡ next → or_else (first_invalid place (four_fields s)) (first_invalid next rest) ≡ first_invalid place (four_fields s ++ rest)
 four_first place next s rest e =
     let same : next ≡ place + sizes (four_fields s) = omega (arith, e, four_size s) in
-    ap (λ (n : ℕ). or_else (first_wrong place (four_fields s)) (first_wrong n rest)) same ∙ sym (first_append place (four_fields s) rest)
+    ap (λ (n : ℕ). or_else (first_invalid place (four_fields s)) (first_invalid n rest)) same ∙ sym (first_append place (four_fields s) rest)
 
-head_first : (s : SavedSynth) (rest : List Field) → or_else (first_wrong 0 (head_fields s)) (first_wrong 525 rest) ≡ first_wrong 0 (head_fields s ++ rest)
+head_first : (s : SavedSynth) (rest : List Field) → or_else (first_invalid 0 (head_fields s)) (first_invalid 525 rest) ≡ first_invalid 0 (head_fields s ++ rest)
 head_first s rest =
     let same : 525 ≡ 0 + sizes (head_fields s) = omega (arith, head_size s) in
-    ap (λ (n : ℕ). or_else (first_wrong 0 (head_fields s)) (first_wrong n rest)) same ∙ sym (first_append 0 (head_fields s) rest)
+    ap (λ (n : ℕ). or_else (first_invalid 0 (head_fields s)) (first_invalid n rest)) same ∙ sym (first_append 0 (head_fields s) rest)
 
-pub wrong_is : (s : SavedSynth) → or_else (first_wrong 0 (head_fields s)) (or_else (first_wrong 525 (four_fields s.four1)) (or_else (first_wrong 557 (four_fields s.four2))
-    (or_else (first_wrong 589 (four_fields s.four3)) (or_else (first_wrong 621 (four_fields s.four4)) (or_else (first_wrong 653 (four_fields s.four5))
-    (or_else (first_wrong 685 (four_fields s.four6)) (first_wrong 717 (last_fields s)))))))) ≡ first_wrong 0 (synth_fields s)
+pub invalid_is : (s : SavedSynth) → or_else (first_invalid 0 (head_fields s)) (or_else (first_invalid 525 (four_fields s.four1)) (or_else (first_invalid 557 (four_fields s.four2))
+    (or_else (first_invalid 589 (four_fields s.four3)) (or_else (first_invalid 621 (four_fields s.four4)) (or_else (first_invalid 653 (four_fields s.four5))
+    (or_else (first_invalid 685 (four_fields s.four6)) (first_invalid 717 (last_fields s)))))))) ≡ first_invalid 0 (synth_fields s)
 unfolding synth_fields
-wrong_is s =
+invalid_is s =
     let w6 = four_first 685 717 s.four6 (last_fields s) refl in
-    let w5 = ap (or_else (first_wrong 653 (four_fields s.four5))) w6 ∙ four_first 653 685 s.four5 (fields6 s) refl in
-    let w4 = ap (or_else (first_wrong 621 (four_fields s.four4))) w5 ∙ four_first 621 653 s.four4 (fields5 s) refl in
-    let w3 = ap (or_else (first_wrong 589 (four_fields s.four3))) w4 ∙ four_first 589 621 s.four3 (fields4 s) refl in
-    let w2 = ap (or_else (first_wrong 557 (four_fields s.four2))) w3 ∙ four_first 557 589 s.four2 (fields3 s) refl in
-    let w1 = ap (or_else (first_wrong 525 (four_fields s.four1))) w2 ∙ four_first 525 557 s.four1 (fields2 s) refl in
-    ap (or_else (first_wrong 0 (head_fields s))) w1 ∙ head_first s (fields1 s)
+    let w5 = ap (or_else (first_invalid 653 (four_fields s.four5))) w6 ∙ four_first 653 685 s.four5 (fields6 s) refl in
+    let w4 = ap (or_else (first_invalid 621 (four_fields s.four4))) w5 ∙ four_first 621 653 s.four4 (fields5 s) refl in
+    let w3 = ap (or_else (first_invalid 589 (four_fields s.four3))) w4 ∙ four_first 589 621 s.four3 (fields4 s) refl in
+    let w2 = ap (or_else (first_invalid 557 (four_fields s.four2))) w3 ∙ four_first 557 589 s.four2 (fields3 s) refl in
+    let w1 = ap (or_else (first_invalid 525 (four_fields s.four1))) w2 ∙ four_first 525 557 s.four1 (fields2 s) refl in
+    ap (or_else (first_invalid 0 (head_fields s))) w1 ∙ head_first s (fields1 s)
 
 shift_by : (holds : Bool) (a b : ℕ) (one two : Option ℕ) → one ≡ option_map (λ q. a + q) two → cond holds one (Some (a + b)) ≡ option_map (λ q. a + q) (cond holds two (Some b))
 shift_by true a b one two e = e
 shift_by false a b one two e = refl
 
-pub shifted : (a b : ℕ) (fs : List Field) → first_wrong (a + b) fs ≡ option_map (λ q. a + q) (first_wrong b fs)
-unfolding first_wrong
+pub shifted : (a b : ℕ) (fs : List Field) → first_invalid (a + b) fs ≡ option_map (λ q. a + q) (first_invalid b fs)
+unfolding first_invalid
 shifted a b [] = refl
 shifted a b (f ∷ fs) =
-    shift_by (holds_of f) a b (first_wrong (a + b + size_of f) fs) (first_wrong (b + size_of f) fs)
-    (ap (λ (p : ℕ). first_wrong p fs) (omega arith) ∙ shifted a (b + size_of f) fs)
+    shift_by (holds_of f) a b (first_invalid (a + b + size_of f) fs) (first_invalid (b + size_of f) fs)
+    (ap (λ (p : ℕ). first_invalid p fs) (omega arith) ∙ shifted a (b + size_of f) fs)
 
 -- ---- from the numbers to the chip and back
 
@@ -514,11 +514,11 @@ read_only bytes s synth keeps spells =
     ap synth_from (same synth_fields bytes (only_one bytes) s (saved_synth_of synth) keeps spells.keeps) ∙ synth_again synth spells.synth
 
 -- what is right is refused nowhere, and there is one place of a refusal
-pub right_nowhere : (bytes : List ℕ) (s : SavedSynth) → Keeps synth_fields bytes s → IsRight synth_fields s → (place : ℕ) → SynthGoesWrongAt bytes place → ⊥
-right_nowhere bytes s keeps right place wrong = not_both synth_fields bytes (only_one bytes) 741 s place keeps right (synth_size s) wrong
+pub right_nowhere : (bytes : List ℕ) (s : SavedSynth) → Keeps synth_fields bytes s → IsRight synth_fields s → (place : ℕ) → SynthInvalidAt bytes place → ⊥
+right_nowhere bytes s keeps right place invalid = not_both synth_fields bytes (only_one bytes) 741 s place keeps right (synth_size s) invalid
 
-pub wrong_once : (bytes : List ℕ) (p q : ℕ) → SynthGoesWrongAt bytes p → SynthGoesWrongAt bytes q → p ≡ q
-wrong_once bytes p q a b = one_place synth_fields bytes (only_one bytes) 741 synth_size p q a b
+pub invalid_once : (bytes : List ℕ) (p q : ℕ) → SynthInvalidAt bytes p → SynthInvalidAt bytes q → p ≡ q
+invalid_once bytes p q a b = one_place synth_fields bytes (only_one bytes) 741 synth_size p q a b
 
 -- what is read is in the bytes
 pub keeps_synth : (bytes : List ℕ) (s : SavedSynth) → IsBytes bytes → length bytes ≡ 741 → s ≡ synth_at bytes → Keeps synth_fields bytes s

@@ -7,7 +7,7 @@ use Rattle.std.proofs.lemmas.List.Elements.{All-get_or}
 use Rattle.fm_env.specs.declared.state.EnvelopeState.{EnvelopeState}
 use Rattle.fm_env.specs.declared.state.EnvelopeState.TheVariants.{Attack, Decay, Sustain, Release}
 use Rattle.md_fields.specs.Fields.{AllHold, AreWithin, Field}
-use Rattle.md_fields.proofs.Items.{none_wrong}
+use Rattle.md_fields.proofs.Items.{none_invalid}
 use Rattle.md_fields.proofs.Flags.{flag_byte, flag_small}
 use Rattle.fm_voice.specs.Channel.{IsLevel}
 use Rattle.fm_chip.specs.Channels.{IsChannel, blank, channel_at}
@@ -122,6 +122,6 @@ synth_ready s ok = head_ready s (fields1 (saved_synth_of s)) ok (channels_ready 
 pub synth_spelled : (s : Synth) → IsSynth s → SpellsSynth (synth_bytes s) s
 synth_spelled s ok = record {
   keeps = record { within = (synth_ready s ok).1; all = refl };
-  right = none_wrong 0 (synth_fields (saved_synth_of s)) (synth_ready s ok).0;
+  right = none_invalid 0 (synth_fields (saved_synth_of s)) (synth_ready s ok).0;
   synth = ok;
 }

@@ -242,5 +242,5 @@ pub record SpellsSynth (bytes : List ℕ) (s : Synth) : Type 0 where
   pub synth : IsSynth s
 
 -- bytes that keep no chip are refused at this place
-abbrev pub SynthGoesWrongAt : List ℕ → ℕ → Type 0
-SynthGoesWrongAt bytes place = IsRefused 741 synth_fields bytes place
+abbrev pub SynthInvalidAt : List ℕ → ℕ → Type 0
+SynthInvalidAt bytes place = IsRefused 741 synth_fields bytes place

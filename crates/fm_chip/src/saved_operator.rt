@@ -1,10 +1,10 @@
 ghost use Rattle.std.specs.Prelude.{◌≡◌, ◌+◌, ◌≤◌, ◌++◌, length, map, vec_len, vec_capacity};
-ghost use Rattle.md_fields.specs.Fields.{AreSized, first_wrong as wrong_place, seen, spelling};
+ghost use Rattle.md_fields.specs.Fields.{AreSized, first_invalid as invalid_place, seen, spelling};
 ghost use Rattle.fm_chip.specs.SynthSpelling as meaning;
 
 use crate::channels::Channel;
 use crate::operator::Operator;
-use crate::saved_synth::{SavedLast, wrong_from};
+use crate::saved_synth::{SavedLast, invalid_from};
 use fm_env::EnvelopeState;
 use md_fields::{Field, put, u8_at, u16_at, u32_at};
 
@@ -158,11 +158,11 @@ impl SavedFour {
 
     /// The offset of the first field whose rule fails, where the first field is at `place`; None where
     /// each rule holds.
-    pub fn wrong_at(&self, place: usize) -> Option<usize>
+    pub fn invalid_at(&self, place: usize) -> Option<usize>
         requires { place ≤ 1000 }
-        ensures { result ≡ wrong_place place (meaning.four_fields self.now) }
+        ensures { result ≡ invalid_place place (meaning.four_fields self.now) }
     {
-        wrong_from(place, &self.fields())
+        invalid_from(place, &self.fields())
     }
 
     /// Appends the bytes of the operators.

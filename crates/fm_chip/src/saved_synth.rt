@@ -1,12 +1,12 @@
 ghost use Rattle.std.specs.Prelude.{◌≡◌, ◌+◌, ◌<◌, ◌≤◌, ◌^◌, ◌&&◌, ◌++◌, length, map, take, drop, vec_len, vec_capacity};
-ghost use Rattle.md_fields.specs.Fields.{AreSized, first_wrong as wrong_place, or_else, seen, sizes, spelling};
+ghost use Rattle.md_fields.specs.Fields.{AreSized, first_invalid as invalid_place, or_else, seen, sizes, spelling};
 ghost use Rattle.fm_chip.specs.Channels.{IsChannel};
 ghost use Rattle.fm_chip.specs.SynthSpelling as meaning;
 ghost use Rattle.fm_voice.specs.Channel.{IsLevel};
 
 use crate::channels::Channel;
 use crate::saved_operator::SavedFour;
-use md_fields::{Field, first_wrong, put, u8_at, u16_at};
+use md_fields::{Field, first_invalid, put, u8_at, u16_at};
 
 /// The numbers that a saved state keeps of the last two outputs of a channel, in two's complement.
 #[derive(Clone, Copy)]
@@ -188,30 +188,30 @@ impl SavedSynth {
     }
 
     /// The offset of the first field before the operators whose rule fails, None where none does.
-    fn head_wrong(&self) -> Option<usize>
-        ensures { result ≡ wrong_place 0 (meaning.head_fields self.now) }
+    fn head_invalid(&self) -> Option<usize>
+        ensures { result ≡ invalid_place 0 (meaning.head_fields self.now) }
     {
-        first_wrong(&self.head_fields())
+        first_invalid(&self.head_fields())
     }
 
     /// The offset of the first field after the operators whose rule fails, None where none does.
-    fn last_wrong(&self) -> Option<usize>
-        ensures { result ≡ wrong_place 717 (meaning.last_fields self.now) }
+    fn last_invalid(&self) -> Option<usize>
+        ensures { result ≡ invalid_place 717 (meaning.last_fields self.now) }
     {
-        wrong_from(717, &self.last_fields())
+        invalid_from(717, &self.last_fields())
     }
 
     /// The offset of the first field whose rule fails, None where each rule holds.
-    pub fn wrong(&self) -> Option<usize>
-        ensures { result ≡ wrong_place 0 (meaning.synth_fields self.now) }
+    pub fn invalid(&self) -> Option<usize>
+        ensures { result ≡ invalid_place 0 (meaning.synth_fields self.now) }
     {
-        let from6 = first_of(self.four6.wrong_at(685), self.last_wrong());
-        let from5 = first_of(self.four5.wrong_at(653), from6);
-        let from4 = first_of(self.four4.wrong_at(621), from5);
-        let from3 = first_of(self.four3.wrong_at(589), from4);
-        let from2 = first_of(self.four2.wrong_at(557), from3);
-        let from1 = first_of(self.four1.wrong_at(525), from2);
-        first_of(self.head_wrong(), from1)
+        let from6 = first_of(self.four6.invalid_at(685), self.last_invalid());
+        let from5 = first_of(self.four5.invalid_at(653), from6);
+        let from4 = first_of(self.four4.invalid_at(621), from5);
+        let from3 = first_of(self.four3.invalid_at(589), from4);
+        let from2 = first_of(self.four2.invalid_at(557), from3);
+        let from1 = first_of(self.four1.invalid_at(525), from2);
+        first_of(self.head_invalid(), from1)
     }
 
     fn put_head(&self, into: &mut Vec<u8>)
@@ -272,12 +272,12 @@ fn latches_at(bytes: &[u8]) -> [u8; 9]
 
 /// The offset of the first field whose rule fails, where the first field is at `place`; None where
 /// each rule holds.
-pub fn wrong_from(place: usize, fields: &[Field<'_>]) -> Option<usize>
+pub fn invalid_from(place: usize, fields: &[Field<'_>]) -> Option<usize>
     requires { place + sizes (map seen fields.now) < 2 ^ 32 }
-    ensures { result ≡ wrong_place place (map seen fields.now) }
+    ensures { result ≡ invalid_place place (map seen fields.now) }
 {
-    match first_wrong(fields) {
-        Some(wrong) => Some(place + wrong),
+    match first_invalid(fields) {
+        Some(invalid) => Some(place + invalid),
         None => None,
     }
 }

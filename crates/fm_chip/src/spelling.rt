@@ -1,7 +1,7 @@
 ghost use Rattle.std.specs.Prelude.{◌≡◌, ◌≢◌, ◌↔◌, ◌+◌, ◌≤◌, ◌++◌, ℕ, vec_len, vec_capacity, IfErr, IfOk, IsErrOf, Ok, Err};
 ghost use Rattle.md_fields.specs.Items.{IsRight, Keeps};
 ghost use Rattle.fm_chip.specs.Synth.{IsSynth, Synth};
-ghost use Rattle.fm_chip.specs.SynthSpelling.{SpellsSynth, SynthGoesWrongAt, saved_synth_of, synth_bytes, synth_fields, synth_from};
+ghost use Rattle.fm_chip.specs.SynthSpelling.{SpellsSynth, SynthInvalidAt, saved_synth_of, synth_bytes, synth_fields, synth_from};
 
 use crate::kept::Kept;
 use crate::lfo::Lfo;
@@ -68,7 +68,7 @@ impl FmSynth {
     pub fn unspell(_alloc: Global, bytes: &[u8], _at: u64) -> Result<FmSynth, Unspell>
         ensures found { IfOk result (λ synth. SpellsSynth bytes.now synth) }
         ensures only { (synth : Synth) → SpellsSynth bytes.now synth → result ≡ Ok synth }
-        ensures rule { (place : ℕ) → IsErrOf result (Unspell.Rule place) ↔ SynthGoesWrongAt bytes.now place }
+        ensures rule { (place : ℕ) → IsErrOf result (Unspell.Rule place) ↔ SynthInvalidAt bytes.now place }
         ensures memory { result ≢ Err Unspell.NoMemory }
     {
         match saved_of(bytes) {
@@ -101,13 +101,13 @@ fn synth_of(saved: &SavedSynth) -> FmSynth
 /// The numbers that the bytes keep, where the rules hold of them; else the offset of the refusal.
 fn saved_of(bytes: &[u8]) -> Result<SavedSynth, usize>
     ensures found { IfOk result (λ saved. Keeps synth_fields bytes.now saved × IsRight synth_fields saved) }
-    ensures refused { IfErr result (λ place. SynthGoesWrongAt bytes.now place) }
+    ensures refused { IfErr result (λ place. SynthInvalidAt bytes.now place) }
 {
     if bytes.len() != LENGTH {
         return Err(bytes.len().min(LENGTH));
     }
     let saved = SavedSynth::read(bytes);
-    match saved.wrong() {
+    match saved.invalid() {
         Some(place) => Err(place),
         None => Ok(saved),
     }

@@ -12,12 +12,12 @@ use Rattle.md_word.specs.Clock.{cycle_limit}
 use Rattle.md_word.specs.Coding.{flag_number}
 use Rattle.md_word.proofs.Below.{bit_below}
 use Rattle.md_word.specs.declared.key.Key.{Key}
-use Rattle.md_fields.specs.Fields.{AreWithin, AllHold, Field, first_wrong, sizes, spelling}
+use Rattle.md_fields.specs.Fields.{AreWithin, AllHold, Field, first_invalid, sizes, spelling}
 use Rattle.md_fields.specs.Items.{IsRight, Keeps}
 use Rattle.md_fields.specs.Padding.{are_zeros, padded}
 use Rattle.md_fields.specs.Places.{IsBytes, Stand, number_at}
 use Rattle.md_fields.proofs.Flags.{flag_again, flag_back, flag_small}
-use Rattle.md_fields.proofs.Items.{none_wrong, rules_hold, kept, not_both, one_place, same}
+use Rattle.md_fields.proofs.Items.{none_invalid, rules_hold, kept, not_both, one_place, same}
 use Rattle.md_fields.proofs.Padding.{padded_back, padded_length, padded_zeros}
 use Rattle.md_fields.proofs.Standing.{IsBytes-drop, IsBytes-take}
 use Rattle.sound_writes.specs.Entries.{AreFit, entries_bytes, entries_from}
@@ -25,9 +25,9 @@ use Rattle.sound_writes.specs.Keys.{after, all_fit, are_kept, fits, is_kept}
 use Rattle.sound_writes.specs.declared.earliest.Earliest.{Earliest}
 use Rattle.sound_writes.proofs.Entries as entries
 use Rattle.sound_writes.proofs.Entries.{second_fails, third_fails}
-use Rattle.md_fields.proofs.Tables.{within_append, first_behind, first_front, spelling_append}
+use Rattle.md_fields.proofs.Tables.{within_append, first_following, first_front, spelling_append}
 use Rattle.fm_port.specs.Port.{IsPort, Port}
-use Rattle.fm_port.specs.PortSpelling.{are_saved_timers, PortGoesWrongAt, SavedPort, SpellsPort, are_right, at_most_2, are_writes, is_next, is_write, key_of, list_fields, number_fields, port_bytes, port_fields, port_from, port_with, saved_numbers, saved_port_of, saved_write_of, write_at, write_fields, write_from, writes_at, writes_from}
+use Rattle.fm_port.specs.PortSpelling.{are_saved_timers, PortInvalidAt, SavedPort, SpellsPort, are_right, at_most_2, are_writes, is_next, is_write, key_of, list_fields, number_fields, port_bytes, port_fields, port_from, port_with, saved_numbers, saved_port_of, saved_write_of, write_at, write_fields, write_from, writes_at, writes_from}
 use Rattle.fm_port.specs.declared.saved_port.SavedPort.{SavedPort as Numbers}
 use Rattle.fm_port.specs.declared.saved_write.SavedWrite.{SavedWrite}
 use Rattle.fm_port.specs.declared.write.FmWrite.{FmWrite}
@@ -165,7 +165,7 @@ keeps_port at bytes s fits long head =
 
 -- a rule of a number fails, and that of the writes
 pub breaks_number : (at : ℕ) (bytes : List ℕ) (s : Numbers) (place : ℕ) → IsBytes bytes → length bytes ≡ 12316 → IsHead bytes s
-    → first_wrong 0 (number_fields at s) ≡ Some place → PortGoesWrongAt at bytes place
+    → first_invalid 0 (number_fields at s) ≡ Some place → PortInvalidAt at bytes place
 breaks_number at bytes s place fits long head e =
     inr (record {
       saved = read_port bytes s;
@@ -173,25 +173,25 @@ breaks_number at bytes s place fits long head e =
       first = first_front 0 place (number_fields at s) (list_fields at (read_port bytes s)) e;
     })
 
-first_by : (at : ℕ) (s : SavedPort) → are_writes at s.count s.entries ≡ false → first_wrong 26 (list_fields at s) ≡ Some 26
-unfolding first_wrong
+first_by : (at : ℕ) (s : SavedPort) → are_writes at s.count s.entries ≡ false → first_invalid 26 (list_fields at s) ≡ Some 26
+unfolding first_invalid
 first_by at s e = rw e refl
 
-none_by : (at : ℕ) (s : SavedPort) → are_writes at s.count s.entries ≡ true → first_wrong 26 (list_fields at s) ≡ None
-unfolding first_wrong
+none_by : (at : ℕ) (s : SavedPort) → are_writes at s.count s.entries ≡ true → first_invalid 26 (list_fields at s) ≡ None
+unfolding first_invalid
 none_by at s e = rw e refl
 
-behind : (at : ℕ) (s : SavedPort) → first_wrong 0 (number_fields at s.numbers) ≡ None → first_wrong 0 (port_fields at s) ≡ first_wrong 26 (list_fields at s)
-behind at s e =
-    first_behind 0 (number_fields at s.numbers) (list_fields at s) e ∙ ap (λ (n : ℕ). first_wrong n (list_fields at s)) (omega (arith, number_size at s.numbers))
+following : (at : ℕ) (s : SavedPort) → first_invalid 0 (number_fields at s.numbers) ≡ None → first_invalid 0 (port_fields at s) ≡ first_invalid 26 (list_fields at s)
+following at s e =
+    first_following 0 (number_fields at s.numbers) (list_fields at s) e ∙ ap (λ (n : ℕ). first_invalid n (list_fields at s)) (omega (arith, number_size at s.numbers))
 
 pub breaks_writes : (at : ℕ) (bytes : List ℕ) (s : Numbers) → IsBytes bytes → length bytes ≡ 12316 → IsHead bytes s
-    → first_wrong 0 (number_fields at s) ≡ None → are_writes at (count_in bytes) (entries_in bytes) ≡ false → PortGoesWrongAt at bytes 26
+    → first_invalid 0 (number_fields at s) ≡ None → are_writes at (count_in bytes) (entries_in bytes) ≡ false → PortInvalidAt at bytes 26
 breaks_writes at bytes s fits long head none e =
     inr (record {
       saved = read_port bytes s;
       keeps = keeps_port at bytes s fits long head;
-      first = behind at (read_port bytes s) none ∙ first_by at (read_port bytes s) e;
+      first = following at (read_port bytes s) none ∙ first_by at (read_port bytes s) e;
     })
 
 -- a part of the writes' rule fails, and all hold
@@ -377,13 +377,13 @@ port_again p fit = λ i. record {
 -- ---- what is read
 
 pub read_spells : (at : ℕ) (bytes : List ℕ) (s : Numbers) → IsBytes bytes → length bytes ≡ 12316 → IsHead bytes s
-    → first_wrong 0 (number_fields at s) ≡ None → are_writes at (count_in bytes) (entries_in bytes) ≡ true
+    → first_invalid 0 (number_fields at s) ≡ None → are_writes at (count_in bytes) (entries_in bytes) ≡ true
     → SpellsPort at bytes (port_with s (writes_from (count_in bytes) (entries_in bytes)))
 read_spells at bytes s fits long head none e =
     let k : SavedPort = read_port bytes s in
     let size : length k.entries ≡ 12288 = omega (arith, length-take 12288 (drop 28 bytes), length-drop 28 bytes, long) in
     let inner : IsBytes k.entries = IsBytes-take 12288 (drop 28 bytes) (IsBytes-drop 28 bytes fits) in
-    let right : IsRight (port_fields at) k = behind at k none ∙ none_by at k e in
+    let right : IsRight (port_fields at) k = following at k none ∙ none_by at k e in
     let few : k.count ≤ 1024 = leb-true k.count 1024 (and_parts _ _ e).0 in
     let back = sym (saved_back at k size inner (rules_of at k right)) in
     let fit : AreFit write_fields (writes_at k.count k.entries) =
@@ -432,12 +432,12 @@ spelled_once at bytes p q a b =
     sym (port_again p a.fit) ∙ ap port_from (same (port_fields at) bytes (only_one at bytes) (saved_port_of p) (saved_port_of q) a.keeps b.keeps) ∙ port_again q b.fit
 
 -- what is spelled is refused nowhere, and there is one place of a refusal
-pub right_nowhere : (at : ℕ) (bytes : List ℕ) (p : Port) → SpellsPort at bytes p → (place : ℕ) → PortGoesWrongAt at bytes place → ⊥
-right_nowhere at bytes p spells place wrong =
-    not_both (port_fields at) bytes (only_one at bytes) 12316 (saved_port_of p) place spells.keeps spells.right (port_size at (saved_port_of p)) wrong
+pub right_nowhere : (at : ℕ) (bytes : List ℕ) (p : Port) → SpellsPort at bytes p → (place : ℕ) → PortInvalidAt at bytes place → ⊥
+right_nowhere at bytes p spells place invalid =
+    not_both (port_fields at) bytes (only_one at bytes) 12316 (saved_port_of p) place spells.keeps spells.right (port_size at (saved_port_of p)) invalid
 
-pub wrong_once : (at : ℕ) (bytes : List ℕ) (p q : ℕ) → PortGoesWrongAt at bytes p → PortGoesWrongAt at bytes q → p ≡ q
-wrong_once at bytes p q a b = one_place (port_fields at) bytes (only_one at bytes) 12316 (port_size at) p q a b
+pub invalid_once : (at : ℕ) (bytes : List ℕ) (p q : ℕ) → PortInvalidAt at bytes p → PortInvalidAt at bytes q → p ≡ q
+invalid_once at bytes p q a b = one_place (port_fields at) bytes (only_one at bytes) 12316 (port_size at) p q a b
 
 -- ---- the bytes of a port
 
@@ -479,13 +479,13 @@ port_within at p n is h0 h1 h2 h3 h4 h5 h7 h9 =
     (subst (λ (k : Numbers). k.run_a ≤ 1) (sym is) (bit_below p.timers.a.run)) (subst (λ (k : Numbers). k.run_b ≤ 1) (sym is) (bit_below p.timers.b.run))
     (subst (λ (k : Numbers). k.flag_a ≤ 1) (sym is) (bit_below p.timers.a.flag)) (subst (λ (k : Numbers). k.flag_b ≤ 1) (sym is) (bit_below p.timers.b.flag)))
 
-numbers_right : (at : ℕ) (p : Port) → are_saved_timers at p.timers ≡ true → first_wrong 0 (number_fields at (saved_numbers p)) ≡ None
+numbers_right : (at : ℕ) (p : Port) → are_saved_timers at p.timers ≡ true → first_invalid 0 (number_fields at (saved_numbers p)) ≡ None
 unfolding AllHold
 numbers_right at p timed =
     let parts = and_parts _ _ timed in
     let a = and_parts _ _ parts.0 in
     let b = and_parts _ _ parts.1 in
-    none_wrong 0 (number_fields at (saved_numbers p))
+    none_invalid 0 (number_fields at (saved_numbers p))
     (refl, (refl, (refl, (refl, (refl, (refl, (a.0, (a.1, (b.0, (b.1, (flag_small p.timers.a.flag, (flag_small p.timers.b.flag, tt))))))))))))
 
 keeps_own : (at : ℕ) (p : Port) → length p.writes ≤ 1024 → AreWithin (number_fields at (saved_numbers p)) → Keeps (port_fields at) (port_bytes p) (saved_port_of p)
@@ -507,7 +507,7 @@ port_kept at p few within fit timed right =
     ∙ entries.entries_read 12 write_fields write_at write_size write_stands write_only es [] (replicate (12288 - length (entries_bytes write_fields es)) 0) fit in
     record {
       keeps = keeps_own at p few within;
-      right = behind at (saved_port_of p) (numbers_right at p timed)
+      right = following at (saved_port_of p) (numbers_right at p timed)
           ∙ none_by at (saved_port_of p) (all_right at (length p.writes) padding few (ap (are_right at) again ∙ right)
           (ap (λ (n : ℕ). are_zeros (drop n padding)) (sym (entries_size p.writes)) ∙ padded_zeros 12288 (entries_bytes write_fields es)));
       fit = fit;

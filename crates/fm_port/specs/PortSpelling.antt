@@ -185,5 +185,5 @@ pub record SpellsPort (at : ℕ) (bytes : List ℕ) (p : Port) : Type 0 where
   pub fit : AreFit write_fields (map saved_write_of p.writes)
 
 -- bytes that keep no port are refused at this place
-abbrev pub PortGoesWrongAt : ℕ → List ℕ → ℕ → Type 0
-PortGoesWrongAt at bytes place = IsRefused 12316 (port_fields at) bytes place
+abbrev pub PortInvalidAt : ℕ → List ℕ → ℕ → Type 0
+PortInvalidAt at bytes place = IsRefused 12316 (port_fields at) bytes place

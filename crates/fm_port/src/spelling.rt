@@ -7,7 +7,7 @@ ghost use Rattle.sound_writes.specs.Keys.{are_kept};
 ghost use Rattle.fm_port.specs.Port.{IsPort, Port};
 ghost use Rattle.fm_port.specs.Timed.{AreTimed};
 ghost use Rattle.fm_port.specs.PortSpelling as meaning;
-ghost use Rattle.fm_port.specs.PortSpelling.{PortGoesWrongAt, SpellsPort, port_bytes, settled_port};
+ghost use Rattle.fm_port.specs.PortSpelling.{PortInvalidAt, SpellsPort, port_bytes, settled_port};
 ghost use Rattle.fm_port.specs.declared.write.FmWrite.{FmWrite as Write};
 
 use crate::port::FmPort;
@@ -15,7 +15,7 @@ use crate::saved_port::SavedPort;
 use crate::saved_write::{SavedWrite, WRITE};
 use crate::timers::Timers;
 use crate::write::{FmList, FmWrite};
-use md_fields::{are_zeros, first_wrong, put, u16_at};
+use md_fields::{are_zeros, first_invalid, put, u16_at};
 use md_word::Unspell;
 use sound_writes::{Earliest, put_count, put_zeros};
 use std::alloc::Global;
@@ -82,7 +82,7 @@ impl FmPort {
         requires { at ≤ cycle_limit }
         ensures found { IfOk result (λ port. SpellsPort at bytes.now port) }
         ensures only { (port : Port) → SpellsPort at bytes.now port → result ≡ Ok port }
-        ensures rule { (place : ℕ) → IsErrOf result (Unspell.Rule place) ↔ PortGoesWrongAt at bytes.now place }
+        ensures rule { (place : ℕ) → IsErrOf result (Unspell.Rule place) ↔ PortInvalidAt at bytes.now place }
         ensures memory { result ≢ Err Unspell.NoMemory }
     {
         let mut port = FmPort::power_on();
@@ -98,7 +98,7 @@ impl FmPort {
         requires { at ≤ cycle_limit }
         ensures found { IfOk result (λ nothing. SpellsPort at bytes.now self.new) }
         ensures only { (port : Port) → SpellsPort at bytes.now port → (result ≡ Ok tt) × (self.new ≡ port) }
-        ensures rule { (place : ℕ) → IsErrOf result (Unspell.Rule place) ↔ PortGoesWrongAt at bytes.now place }
+        ensures rule { (place : ℕ) → IsErrOf result (Unspell.Rule place) ↔ PortInvalidAt at bytes.now place }
         ensures memory { result ≢ Err Unspell.NoMemory }
         ensures empty { IfErr result (λ fault. self.new.writes ≡ []) }
         ensures port { IsPort self.new }
@@ -124,13 +124,13 @@ impl FmPort {
 /// the offset of the refusal.
 fn parts_of(bytes: &[u8], at: u64, into: &mut FmList) -> Result<SavedPort, usize>
     ensures found { IfOk result (λ saved. SpellsPort at bytes.now (meaning.port_with saved into.new.items)) }
-    ensures refused { IfErr result (λ place. PortGoesWrongAt at bytes.now place) }
+    ensures refused { IfErr result (λ place. PortInvalidAt at bytes.now place) }
 {
     if bytes.len() != LENGTH {
         return Err(bytes.len().min(LENGTH));
     }
     let numbers = SavedPort::read(bytes);
-    if let Some(place) = first_wrong(&numbers.fields(at)) {
+    if let Some(place) = first_invalid(&numbers.fields(at)) {
         return Err(place);
     }
     let count = usize::from(u16_at(bytes, COUNT));
@@ -176,7 +176,7 @@ fn are_kept(entries: &[u8], count: usize, at: u64) -> bool
     requires there { length entries.now ≡ 12288 }
     ensures { result ≡ are_kept at (map meaning.key_of (meaning.writes_at count entries.now)) }
 {
-    let mut earliest = Earliest::behind_batch(at);
+    let mut earliest = Earliest::following_batch(at);
     for index in 0..count {
         let key = SavedWrite::read(entries, WRITE * index).key();
         if !earliest.fits(&key, at) {

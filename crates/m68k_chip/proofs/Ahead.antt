@@ -16,8 +16,8 @@ one-ahead cart state level end after is = record {
 }
 
 pub not-below : (a b : ℕ) → (a < b → false ≡ true) → b ≤ a
-not-below a b wrong = elim (cases_lt a b) [
-  | inl low ↦ (let no_way = wrong low in cc)
+not-below a b invalid = elim (cases_lt a b) [
+  | inl low ↦ (let no_way = invalid low in cc)
   | inr late ↦ late
 ]
 

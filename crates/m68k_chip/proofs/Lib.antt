@@ -1,7 +1,7 @@
 pub mod Ahead
 pub mod Fitting
 pub mod Kept
-pub mod Laps
+pub mod Iterations
 pub mod Laws
 pub mod Recent
 pub mod Rested

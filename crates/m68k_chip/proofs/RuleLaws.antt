@@ -11,7 +11,7 @@ use Rattle.md_fields.specs.Items.{IsRight}
 use Rattle.md_fields.specs.Padding.{padded}
 use Rattle.md_fields.proofs.Distances.{is_after_by}
 use Rattle.md_fields.proofs.Flags.{flag_byte, flag_small}
-use Rattle.md_fields.proofs.Items.{none_wrong}
+use Rattle.md_fields.proofs.Items.{none_invalid}
 use Rattle.md_fields.proofs.Padding.{padded_length, padded_zeros}
 use Rattle.md_word.specs.declared.main_bus.Request68.{Request68}
 use Rattle.md_word.specs.declared.main_bus.Request68.TheVariants.{Read8, Read16, Write8, Write16, Ack, Word as TransferWord}
@@ -260,7 +260,7 @@ right_to : (at : ℕ) (v : Chip68Value) → IsChip68 v → IsRegs v.state.regs �
 right_to at v ok regs rules late =
     let asks : asks_more v.cart (state_from (numbers_of v.state)) ≡ true =
     ap (λ (s : State68). asks_more v.cart s) (state_again v.state regs) ∙ asks_to v.state.stage v.cart v.state ok.stands in
-    none_wrong 0 (chip_fields v.cart at (numbers_of v.state))
+    none_invalid 0 (chip_fields v.cart at (numbers_of v.state))
     (subst (λ (b : Bool). AllHold (fields_by at b (numbers_of v.state))) (sym asks) (holding at v ok rules late))
 
 -- ---- what is spelled is read again

@@ -4,7 +4,7 @@ use Rattle.std.specs.Prelude.{bit_and}
 use Rattle.std.proofs.lemmas.Bool.{leb-true, eqb-true, and_parts}
 use Rattle.std.proofs.lemmas.List.{length-take}
 use Rattle.md_fields.specs.Distances.{is_soon}
-use Rattle.md_fields.specs.Fields.{AllHold, first_wrong}
+use Rattle.md_fields.specs.Fields.{AllHold, first_invalid}
 use Rattle.md_fields.specs.Padding.{are_zeros}
 use Rattle.md_fields.specs.Places.{Stand}
 use Rattle.md_fields.proofs.Flags.{flag_again, flag_back}
@@ -155,7 +155,7 @@ pub record Rules (at : ℕ) (holds : Bool) (n : Numbers68) : Type 0 where
   pub cost : is_cost n ≡ true
   pub ram : holds ≡ true
 
-pub rules_of : (at : ℕ) (holds : Bool) (n : Numbers68) → first_wrong 0 (fields_by at holds n) ≡ None → Rules at holds n
+pub rules_of : (at : ℕ) (holds : Bool) (n : Numbers68) → first_invalid 0 (fields_by at holds n) ≡ None → Rules at holds n
 unfolding AllHold
 rules_of at holds n right =
     let h0 = rules_hold 0 (fields_by at holds n) right in

@@ -1,6 +1,6 @@
 -- Laws of the bytes that keep the 68000, and of those that keep none.
 use Rattle.std.proofs.Common.{◌≡◌, ℕ, ◌+◌, Bool, true, false, cond, List, [], ◌∷◌, ◌++◌, length, Option, Some, None, refl, sym, ap, subst, ◌∙◌, inr, arith}
-use Rattle.md_fields.specs.Fields.{AreWithin, Field, block, first_wrong, holds_of, size_of, sizes, spelling}
+use Rattle.md_fields.specs.Fields.{AreWithin, Field, block, first_invalid, holds_of, size_of, sizes, spelling}
 use Rattle.md_fields.specs.Items.{IsRight, Keeps}
 use Rattle.md_fields.specs.Places.{IsBytes, Stand}
 use Rattle.md_fields.proofs.Items.{kept, not_both, one_place, same}
@@ -10,7 +10,7 @@ use Rattle.m68k_chip.specs.Numbers.{Numbers68, numbers_of, state_from}
 use Rattle.m68k_chip.specs.Resuming.{asks_more}
 use Rattle.m68k_chip.specs.Saved.{chip_fields, fields_by, number_fields}
 use Rattle.m68k_chip.specs.Validity.{IsChip68}
-use Rattle.m68k_chip.specs.Spelling.{GoesWrongAt, Spells, chip_size}
+use Rattle.m68k_chip.specs.Spelling.{InvalidAt, Spells, chip_size}
 use Rattle.m68k_chip.specs.States.{State68}
 use Rattle.m68k_chip.proofs.Laws.{of}
 use Rattle.m68k_chip.proofs.SavedLaws.{Rules, numbers_back, only_one, rules_of, state_again}
@@ -36,19 +36,19 @@ step_none true place p x y f e = f e
 step_none false place p x y f e = absurd cc
 
 -- a rule that fails before the last is the first that fails, whatever the last one is
-early : (place p size : ℕ) (bytes : List ℕ) (holds : Bool) (fs : List Field) → first_wrong place (fs ++ block size bytes true ∷ []) ≡ Some p → first_wrong place (fs ++ block size bytes holds ∷ []) ≡ Some p
-unfolding first_wrong
+early : (place p size : ℕ) (bytes : List ℕ) (holds : Bool) (fs : List Field) → first_invalid place (fs ++ block size bytes true ∷ []) ≡ Some p → first_invalid place (fs ++ block size bytes holds ∷ []) ≡ Some p
+unfolding first_invalid
 early place p size bytes holds [] e = absurd cc
 early place p size bytes holds (f ∷ fs) e =
-    step_some (holds_of f) place p (first_wrong (place + size_of f) (fs ++ block size bytes true ∷ [])) (first_wrong (place + size_of f) (fs ++ block size bytes holds ∷ []))
+    step_some (holds_of f) place p (first_invalid (place + size_of f) (fs ++ block size bytes true ∷ [])) (first_invalid (place + size_of f) (fs ++ block size bytes holds ∷ []))
     (early (place + size_of f) p size bytes holds fs) e
 
 -- where no other fails, the last one fails at its place
-last : (place size : ℕ) (bytes : List ℕ) (fs : List Field) → first_wrong place (fs ++ block size bytes true ∷ []) ≡ None → first_wrong place (fs ++ block size bytes false ∷ []) ≡ Some (place + sizes fs)
-unfolding first_wrong sizes
+last : (place size : ℕ) (bytes : List ℕ) (fs : List Field) → first_invalid place (fs ++ block size bytes true ∷ []) ≡ None → first_invalid place (fs ++ block size bytes false ∷ []) ≡ Some (place + sizes fs)
+unfolding first_invalid sizes
 last place size bytes [] e = ap (λ (p : ℕ). Some p) (omega arith)
 last place size bytes (f ∷ fs) e =
-    step_none (holds_of f) place (place + (size_of f + sizes fs)) (first_wrong (place + size_of f) (fs ++ block size bytes true ∷ [])) (first_wrong (place + size_of f) (fs ++ block size bytes false ∷ []))
+    step_none (holds_of f) place (place + (size_of f + sizes fs)) (first_invalid (place + size_of f) (fs ++ block size bytes true ∷ [])) (first_invalid (place + size_of f) (fs ++ block size bytes false ∷ []))
     (λ none. last (place + size_of f) size bytes fs none ∙ ap (λ (p : ℕ). Some p) (omega arith)) e
 
 numbers_size : (at : ℕ) (n : Numbers68) → sizes (number_fields at n) ≡ 178
@@ -62,21 +62,21 @@ module _ (cart : List ℕ) (at : ℕ) (bytes : List ℕ) (n : Numbers68) (fits :
   keeps = kept (chip_fields cart at) bytes n fits (stands at (asks_more cart (state_from n)))
 
   -- a rule fails
-  pub breaks : (place : ℕ) → first_wrong 0 (fields_by at true n) ≡ Some place → GoesWrongAt cart at bytes place
+  pub breaks : (place : ℕ) → first_invalid 0 (fields_by at true n) ≡ Some place → InvalidAt cart at bytes place
   breaks place e = inr (record { saved = n; keeps = keeps; first = early 0 place 0x1_0000 n.ram (asks_more cart (state_from n)) (number_fields at n) e })
 
   -- that of work RAM fails, and no other
-  pub breaks_ram : first_wrong 0 (fields_by at true n) ≡ None → asks_more cart (state_from n) ≡ false → GoesWrongAt cart at bytes 178
+  pub breaks_ram : first_invalid 0 (fields_by at true n) ≡ None → asks_more cart (state_from n) ≡ false → InvalidAt cart at bytes 178
   breaks_ram e asks =
       inr (record {
         saved = n;
         keeps = keeps;
-        first = subst (λ (b : Bool). first_wrong 0 (fields_by at b n) ≡ Some 178) (sym asks)
+        first = subst (λ (b : Bool). first_invalid 0 (fields_by at b n) ≡ Some 178) (sym asks)
             (last 0 0x1_0000 n.ram (number_fields at n) e ∙ ap (λ (p : ℕ). Some (0 + p)) (numbers_size at n));
       })
 
-  pub right : first_wrong 0 (fields_by at true n) ≡ None → asks_more cart (state_from n) ≡ true → IsRight (chip_fields cart at) n
-  right e asks = subst (λ (b : Bool). first_wrong 0 (fields_by at b n) ≡ None) (sym asks) e
+  pub right : first_invalid 0 (fields_by at true n) ≡ None → asks_more cart (state_from n) ≡ true → IsRight (chip_fields cart at) n
+  right e asks = subst (λ (b : Bool). first_invalid 0 (fields_by at b n) ≡ None) (sym asks) e
 
 -- ---- what bytes keep
 
@@ -103,11 +103,11 @@ no_other cart at bytes state other p q =
     ∙ ap state_from (same (chip_fields cart at) bytes (only_one cart at bytes) (numbers_of state) (numbers_of other) p.keeps q.keeps)
     ∙ state_again other q.regs
 
-pub right_not_refused : (cart : List ℕ) (at : ℕ) (bytes : List ℕ) (state : State68) (place : ℕ) → Spells cart at bytes state → GoesWrongAt cart at bytes place → ⊥
-right_not_refused cart at bytes state place p wrong =
-    not_both (chip_fields cart at) bytes (only_one cart at bytes) chip_size (numbers_of state) place p.keeps p.right (fields_size at (asks_more cart (state_from (numbers_of state))) (numbers_of state)) wrong
+pub right_not_refused : (cart : List ℕ) (at : ℕ) (bytes : List ℕ) (state : State68) (place : ℕ) → Spells cart at bytes state → InvalidAt cart at bytes place → ⊥
+right_not_refused cart at bytes state place p invalid =
+    not_both (chip_fields cart at) bytes (only_one cart at bytes) chip_size (numbers_of state) place p.keeps p.right (fields_size at (asks_more cart (state_from (numbers_of state))) (numbers_of state)) invalid
 
-pub only_place : (cart : List ℕ) (at : ℕ) (bytes : List ℕ) (p q : ℕ) → GoesWrongAt cart at bytes p → GoesWrongAt cart at bytes q → p ≡ q
+pub only_place : (cart : List ℕ) (at : ℕ) (bytes : List ℕ) (p q : ℕ) → InvalidAt cart at bytes p → InvalidAt cart at bytes q → p ≡ q
 only_place cart at bytes p q a b =
     one_place (chip_fields cart at) bytes (only_one cart at bytes) chip_size (λ n. fields_size at (asks_more cart (state_from n)) n) p q a b
 
@@ -120,6 +120,6 @@ pub spelled_valid : (cart : List ℕ) (at : ℕ) (bytes : List ℕ) (state : Sta
 spelled_valid cart at bytes state image p =
     let n : Numbers68 = numbers_of state in
     let asks : asks_more cart (state_from n) ≡ true = (rules_of at (asks_more cart (state_from n)) n p.right).ram in
-    let rules : Rules at true n = rules_of at true n (subst (λ (b : Bool). first_wrong 0 (fields_by at b n) ≡ None) asks p.right) in
+    let rules : Rules at true n = rules_of at true n (subst (λ (b : Bool). first_invalid 0 (fields_by at b n) ≡ None) asks p.right) in
     subst (λ (s : State68). IsChip68 (of cart s)) (state_again state p.regs)
     (valid cart at n image (ram_long cart at bytes n p.keeps) (answers_long cart at bytes n p.keeps) rules asks)

@@ -1,7 +1,7 @@
 pub mod Cases
 pub mod Events
 pub mod Held
-pub mod Laps
+pub mod Iterations
 pub mod Numbers
 pub mod Resuming
 pub mod Rules

@@ -3,7 +3,7 @@ use Rattle.std.specs.Prelude.{◌≡◌, ℕ, false, true, List, take, drop, Opt
 use Rattle.md_fields.specs.Fields.{spelling}
 use Rattle.md_fields.specs.Items.{IsRefused, IsRight, Keeps}
 use Rattle.md_word.specs.declared.main_bus.Request68.{Request68}
-use Rattle.m68k_exec.specs.declared.sample.step.Foreseen.{Foreseen}
+use Rattle.m68k_exec.specs.declared.sample.step.Predicted.{Predicted}
 use Rattle.m68k_chip.specs.Held.{WaitsFor}
 use Rattle.m68k_chip.specs.Numbers.{IsRegs, numbers_of}
 use Rattle.m68k_chip.specs.Saved.{chip_fields, fields_by}
@@ -25,15 +25,15 @@ pub record Spells (cart : List ℕ) (at : ℕ) (bytes : List ℕ) (state : State
 
 -- bytes of a state at a cycle that keep no 68000 are refused at this place: by their length, or by the
 -- first rule that fails
-abbrev pub GoesWrongAt : List ℕ → ℕ → List ℕ → ℕ → Type 0
-GoesWrongAt cart at bytes place = IsRefused chip_size (chip_fields cart at) bytes place
+abbrev pub InvalidAt : List ℕ → ℕ → List ℕ → ℕ → Type 0
+InvalidAt cart at bytes place = IsRefused chip_size (chip_fields cart at) bytes place
 
 -- work RAM as it is in the bytes
 abbrev pub ram_in : List ℕ → List ℕ
 ram_in bytes = take 0x1_0000 (drop 178 bytes)
 
 -- the bytes keep the 68000, and at an access this request waits; nothing is predicted
-pub record IsKept (cart : List ℕ) (at : ℕ) (bytes : List ℕ) (state : State68) (request : Option Request68) (foreseen : Foreseen) : Type 0 where
+pub record IsKept (cart : List ℕ) (at : ℕ) (bytes : List ℕ) (state : State68) (request : Option Request68) (predicted : Predicted) : Type 0 where
   pub spelled : Spells cart at bytes state
   pub waits : WaitsFor state.stage cart state request
-  pub unknown : foreseen.known ≡ false
+  pub unknown : predicted.known ≡ false

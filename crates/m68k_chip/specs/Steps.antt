@@ -6,8 +6,8 @@ use Rattle.m68k_exec.specs.Sample.Samples.{Ended}
 use Rattle.m68k_exec.specs.declared.access.stop.Stop.{Stop}
 use Rattle.m68k_exec.specs.declared.access.stop.Stop.TheVariants.{Ask, Odd}
 use Rattle.m68k_exec.specs.declared.sample.step.Finish.{Finish}
-use Rattle.m68k_exec.specs.declared.sample.step.Foreseen.{Foreseen}
-use Rattle.m68k_chip.specs.Held.{Foretells}
+use Rattle.m68k_exec.specs.declared.sample.step.Predicted.{Predicted}
+use Rattle.m68k_chip.specs.Held.{PredictsEnd}
 use Rattle.m68k_chip.specs.States.{State68}
 
 -- what a finish reports, with the registers and the bytes written then
@@ -23,13 +23,13 @@ ended_by finish regs writes = record {
 }
 
 -- the request that waits, where one does
-abbrev pub IsTold : Result Ended Stop → Option Request68 → Type 0
-IsTold (Ok ended) request = Unit {0}
-IsTold (Err (Ask asked)) request = request ≡ Some asked
-IsTold (Err (Odd address read used)) request = Unit {0}
+abbrev pub IsReported : Result Ended Stop → Option Request68 → Type 0
+IsReported (Ok ended) request = Unit {0}
+IsReported (Err (Ask asked)) request = request ≡ Some asked
+IsReported (Err (Odd address read used)) request = Unit {0}
 
 -- what is predicted, where a request waits
-abbrev pub IsForetold : Result Ended Stop → Foreseen → List ℕ → State68 → ℕ → List ℕ → Type 0
-IsForetold (Ok ended) foreseen cart state cause answers = Unit {0}
-IsForetold (Err (Ask asked)) foreseen cart state cause answers = Foretells foreseen cart state cause answers
-IsForetold (Err (Odd address read used)) foreseen cart state cause answers = Unit {0}
+abbrev pub IsPredictedEnd : Result Ended Stop → Predicted → List ℕ → State68 → ℕ → List ℕ → Type 0
+IsPredictedEnd (Ok ended) predicted cart state cause answers = Unit {0}
+IsPredictedEnd (Err (Ask asked)) predicted cart state cause answers = PredictsEnd predicted cart state cause answers
+IsPredictedEnd (Err (Odd address read used)) predicted cart state cause answers = Unit {0}

@@ -5,7 +5,7 @@ ghost use Rattle.m68k_exec.specs.Access.Memory.{word_at};
 ghost use Rattle.m68k_exec.specs.Sample.Caches.{IsCacheOf};
 ghost use Rattle.m68k_chip.specs.Events as events;
 ghost use Rattle.m68k_chip.specs.Events.{answered, answered_at, request_at};
-ghost use Rattle.m68k_chip.specs.Held.{IsForeseen, WaitsFor};
+ghost use Rattle.m68k_chip.specs.Held.{IsPredicted, WaitsFor};
 ghost use Rattle.m68k_chip.specs.States.{next_of, none_left, state_of};
 ghost use Rattle.m68k_chip.specs.declared.stage.Stage.TheVariants.{Access};
 
@@ -41,7 +41,7 @@ impl Sequencer {
     fn start_transfer(&mut self, transfer: Option<Transfer>)
         ensures state { (ram : List ℕ) → state_of self.new ram ≡ events.with_started (state_of self.old ram) transfer }
         ensures answers { self.new.answers.items ≡ self.old.answers.items }
-        ensures foreseen { self.new.foreseen ≡ self.old.foreseen }
+        ensures predicted { self.new.predicted ≡ self.old.predicted }
     {
         if let Some(transfer) = transfer {
             self.transfer = transfer;
@@ -59,17 +59,17 @@ impl Sequencer {
     )
         requires start { self.old.start < 2 ^ 50 }
         requires few { array_vec_len self.old.answers < 32 }
-        requires foreseen { IsForeseen Access cart.now (state_of self.old ram.old) self.old.foreseen }
+        requires predicted { IsPredicted Access cart.now (state_of self.old ram.old) self.old.predicted }
         requires cache { IsCacheOf cart.now cache.old }
         ensures cache { IsCacheOf cart.now cache.new }
         ensures state { state_of self.new ram.new ≡ answered_at Access cart.now (state_of self.old ram.old) answer.now }
         ensures quiet { progress.new.writes.items ≡ [] → ram.new ≡ ram.old }
         ensures waiting { WaitsFor self.new.stage cart.now (state_of self.new ram.new) self.new.request }
-        ensures foreseen { IsForeseen self.new.stage cart.now (state_of self.new ram.new) self.new.foreseen }
+        ensures predicted { IsPredicted self.new.stage cart.now (state_of self.new ram.new) self.new.predicted }
     {
         self.start_transfer(answer.transfer);
-        if self.foreseen.known {
-            self.end_foreseen();
+        if self.predicted.known {
+            self.end_predicted();
         } else {
             self.answers.push(answer.value);
             let cause = self.cause;
@@ -109,13 +109,13 @@ impl Sequencer {
         requires next { self.old.next < 2 ^ 50 }
         requires source { self.old.transfer.source < 2 ^ 24 }
         requires few { array_vec_len self.old.answers < 32 }
-        requires foreseen { IsForeseen self.old.stage cart.now (state_of self.old ram.old) self.old.foreseen }
+        requires predicted { IsPredicted self.old.stage cart.now (state_of self.old ram.old) self.old.predicted }
         requires cache { IsCacheOf cart.now cache.old }
         ensures cache { IsCacheOf cart.now cache.new }
         ensures state { state_of self.new ram.new ≡ answered cart.now (state_of self.old ram.old) answer.now }
         ensures quiet { progress.new.writes.items ≡ [] → ram.new ≡ ram.old }
         ensures waiting { WaitsFor self.new.stage cart.now (state_of self.new ram.new) self.new.request }
-        ensures foreseen { IsForeseen self.new.stage cart.now (state_of self.new ram.new) self.new.foreseen }
+        ensures predicted { IsPredicted self.new.stage cart.now (state_of self.new ram.new) self.new.predicted }
     {
         match self.stage {
             Stage::Sample => {}

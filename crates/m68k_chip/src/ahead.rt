@@ -2,7 +2,7 @@
 ghost use Rattle.std.specs.Prelude.{◌≡◌, ◌^◌, ◌<◌, ◌≤◌, ◌↔◌, true, IsTrue};
 
 use crate::chip::Chip68;
-use crate::lap::Place;
+use crate::iteration::Place;
 use crate::stage::Stage;
 use crate::watched::Watched;
 use md_word::Pins68;
@@ -10,7 +10,7 @@ use md_word::Pins68;
 impl Chip68 {
     ghost use Rattle.m68k_chip.specs.Cases.{case_of, is_rest};
     ghost use Rattle.m68k_chip.specs.Events.{WentAhead};
-    ghost use Rattle.m68k_chip.specs.Laps.{HasWatched};
+    ghost use Rattle.m68k_chip.specs.Iterations.{HasWatched};
     ghost use Rattle.m68k_chip.specs.Validity.{IsChip68};
     ghost use Rattle.m68k_chip.specs.States.{next_of};
 
@@ -24,14 +24,17 @@ impl Chip68 {
         ensures all { (next_of self.new.state).sample ≡ true → end ≤ self.new.state.next }
         ensures cart { self.new.cart ≡ self.old.cart }
     {
-        if self.lap.leads_back(pins.level, self.sequencer.start, end) {
-            self.lap.place = Place::AtRead;
-            let start = self.sequencer.start + u64::from(self.lap.rest);
-            self.sequencer.read_again(&self.lap.from, start);
-            self.lap.samples
+        if self
+            .iteration
+            .leads_back(pins.level, self.sequencer.start, end)
+        {
+            self.iteration.place = Place::AtRead;
+            let start = self.sequencer.start + u64::from(self.iteration.rest);
+            self.sequencer.read_again(&self.iteration.from, start);
+            self.iteration.samples
         } else if self.sequencer.rests(pins.level) {
             self.rest_ahead(pins, end)
-        } else if matches!(self.lap.place, Place::Away) {
+        } else if matches!(self.iteration.place, Place::Away) {
             self.sample_each(pins, end)
         } else {
             self.sample_round(pins, end)
@@ -48,7 +51,7 @@ impl Chip68 {
         ensures all { (next_of self.new.state).sample ≡ true → end ≤ self.new.state.next }
         ensures cart { self.new.cart ≡ self.old.cart }
     {
-        self.lap.place = Place::Away;
+        self.iteration.place = Place::Away;
         self.sequencer.rest_ahead(end)
     }
 
@@ -79,11 +82,11 @@ impl Chip68 {
         ensures all { (next_of self.new.state).sample ≡ true → end ≤ self.new.state.next }
         ensures cart { self.new.cart ≡ self.old.cart }
     {
-        let mut lap = self.lap;
+        let mut iteration = self.iteration;
         let begun = self.sequencer.start;
         let watched = self.sample_watched(pins, end);
-        lap.go_on(&self.sequencer, &watched, begun, pins.level);
-        self.lap = lap;
+        iteration.go_on(&self.sequencer, &watched, begun, pins.level);
+        self.iteration = iteration;
         watched.samples
     }
 

@@ -1,7 +1,7 @@
 ghost use Rattle.std.specs.Prelude.{◌≡◌, ◌^◌, ◌<◌, true, false, replicate, IfOk, IsTrue};
 
 use crate::case::Case;
-use crate::lap::{Lap, Place};
+use crate::iteration::{Iteration, Place};
 use crate::sequencer::Sequencer;
 use crate::stage::Stage;
 use m68k_exec::{DecodeCache, Progress};
@@ -23,9 +23,9 @@ pub struct Chip68 {
     pub(crate) progress: Progress,
     pub(crate) cache: DecodeCache,
     /// The iteration on which it may be, so that a loop that waits is not carried out again each time.
-    pub(crate) lap: Lap,
+    pub(crate) iteration: Iteration,
     /// A second one, with another answer to the same read.
-    pub(crate) other: Lap,
+    pub(crate) other: Iteration,
 }
 
 impl Model for Chip68 {
@@ -33,15 +33,15 @@ impl Model for Chip68 {
     ghost use Rattle.m68k_chip.specs.Validity.{Chip68Value};
     ghost use Rattle.m68k_chip.specs.States.{state_of};
     ghost use Rattle.m68k_chip.specs.Held.{IsHeld};
-    ghost use Rattle.m68k_chip.specs.Laps.{IsAside, IsOn};
+    ghost use Rattle.m68k_chip.specs.Iterations.{IsAside, IsOn};
     ghost use Rattle.m68k_exec.specs.Sample.Caches.{IsCacheOf};
 
     ghost Value = { Chip68Value };
 
     ghost view = { λ chip. record { cart = arc_value chip.cart; state = state_of chip.sequencer chip.ram.value } };
 
-    ghost invariant = { λ chip. IsHeld (record { cart = arc_value chip.cart; state = state_of chip.sequencer chip.ram.value }) chip.sequencer.request chip.sequencer.foreseen × IsCacheOf (arc_value chip.cart) chip.cache
-        × IsOn chip.lap.place chip.lap (arc_value chip.cart) (state_of chip.sequencer chip.ram.value) chip.sequencer.request chip.sequencer.foreseen
+    ghost invariant = { λ chip. IsHeld (record { cart = arc_value chip.cart; state = state_of chip.sequencer chip.ram.value }) chip.sequencer.request chip.sequencer.predicted × IsCacheOf (arc_value chip.cart) chip.cache
+        × IsOn chip.iteration.place chip.iteration (arc_value chip.cart) (state_of chip.sequencer chip.ram.value) chip.sequencer.request chip.sequencer.predicted
         × IsAside chip.other (arc_value chip.cart) chip.ram.value };
 }
 
@@ -60,7 +60,7 @@ impl Chip68 {
     {
         let cache = DecodeCache::empty(alloc)?;
         let ram = zeroed(alloc)?;
-        let none = Lap::none();
+        let none = Iteration::none();
         let sequencer = Sequencer::power_on(cart.bytes());
         Ok(Chip68 {
             cart,
@@ -68,7 +68,7 @@ impl Chip68 {
             sequencer,
             progress: Progress::new(),
             cache,
-            lap: none,
+            iteration: none,
             other: none,
         })
     }
@@ -105,10 +105,10 @@ impl Chip68 {
         requires fits { Fits (request_of self.old.cart self.old.state) answer }
         ensures { self.new ≡ record self.old { state = answered self.old.cart self.old.state answer } }
     {
-        if self.lap.is_read_again(&answer) {
-            self.lap.place = Place::PastRead;
-            let cycle = self.sequencer.start + u64::from(self.lap.first);
-            self.sequencer.stand_behind(&self.lap.after, cycle);
+        if self.iteration.is_read_again(&answer) {
+            self.iteration.place = Place::PastRead;
+            let cycle = self.sequencer.start + u64::from(self.iteration.first);
+            self.sequencer.stand_after(&self.iteration.after, cycle);
         } else {
             self.answer_otherwise(&answer);
         }
@@ -122,23 +122,25 @@ impl Chip68 {
         ensures { self.new ≡ record self.old { state = answered self.old.cart self.old.state answer.now } }
     {
         if self.other.is_begun(&self.sequencer, answer) {
-            self.lap.exchange(&mut self.other);
-            self.lap.place = Place::PastRead;
-            let cycle = self.sequencer.start + u64::from(self.lap.first);
-            self.sequencer.stand_behind(&self.lap.after, cycle);
+            self.iteration.exchange(&mut self.other);
+            self.iteration.place = Place::PastRead;
+            let cycle = self.sequencer.start + u64::from(self.iteration.first);
+            self.sequencer.stand_after(&self.iteration.after, cycle);
         } else {
-            self.answer_anew(answer);
+            self.answer_again(answer);
         }
     }
 
     /// `answer`, where no iteration says what comes.
-    fn answer_anew(&mut self, answer: &Answer68)
+    fn answer_again(&mut self, answer: &Answer68)
         requires asking { (next_of self.old.state).sample ≡ false }
         requires far { self.old.state.next < 2 ^ 50 }
         requires fits { Fits (request_of self.old.cart self.old.state) answer.now }
         ensures { self.new ≡ record self.old { state = answered self.old.cart self.old.state answer.now } }
     {
-        let begins = self.lap.begins(&self.sequencer, answer, &mut self.other);
+        let begins = self
+            .iteration
+            .begins(&self.sequencer, answer, &mut self.other);
         self.sequencer.answer(
             answer,
             &self.cart,
@@ -148,7 +150,7 @@ impl Chip68 {
         );
         let quiet = self.progress.writes.is_empty();
         self.other.keep(quiet);
-        self.lap.take(&self.sequencer, begins, quiet);
+        self.iteration.take(&self.sequencer, begins, quiet);
     }
 
     /// Takes the sample that is the next event, and continues to the event after it. A sample takes a pending
@@ -169,7 +171,7 @@ impl Chip68 {
         ensures chip { self.new ≡ record self.old { state = begun self.old.cart self.old.state pins.level } }
         ensures quiet { IsTrue result → self.new.state.ram ≡ self.old.state.ram }
     {
-        self.lap.place = Place::Away;
+        self.iteration.place = Place::Away;
         self.sequencer.begin(
             pins.level,
             &self.cart,

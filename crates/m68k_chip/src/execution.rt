@@ -5,12 +5,12 @@ ghost use Rattle.m68k_exec.specs.Access.Memory.{ram_after};
 ghost use Rattle.m68k_exec.specs.Sample.Caches.{IsCacheOf};
 ghost use Rattle.m68k_chip.specs.Events as events;
 ghost use Rattle.m68k_chip.specs.Events.{carried_out, end_of, went_on};
-ghost use Rattle.m68k_chip.specs.Steps.{IsForetold, IsTold, ended_by};
+ghost use Rattle.m68k_chip.specs.Steps.{IsPredictedEnd, IsReported, ended_by};
 ghost use Rattle.m68k_chip.specs.States.{state_of};
 
 use crate::sequencer::{STEP, Sequencer};
 use crate::stage::Stage;
-use m68k_exec::{DecodeCache, Finish, Progress, Step, foresee_cached};
+use m68k_exec::{DecodeCache, Finish, Progress, Step, predict_cached};
 use m68k_time::clocks;
 use md_word::Request68;
 use md_word::clock::MAIN_CLOCK;
@@ -32,7 +32,7 @@ impl Sequencer {
         requires answers { length self.old.answers.items < 32 }
         ensures state { (ram : List ℕ) → state_of self.new ram ≡ events.asking (state_of self.old ram) cause self.old.answers.items }
         ensures request { self.new.request ≡ Some request }
-        ensures foreseen { self.new.foreseen ≡ self.old.foreseen }
+        ensures predicted { self.new.predicted ≡ self.old.predicted }
     {
         self.next = self.start + STEP * (self.answers.len() as u64 + 1);
         self.stage = Stage::Access;
@@ -77,11 +77,11 @@ impl Sequencer {
         ensures cache { IsCacheOf cart.now cache.new }
         ensures state { state_of self.new ram.new ≡ went_on cart.now (state_of self.old ram.old) cause self.old.answers.items }
         ensures quiet { progress.new.writes.items ≡ [] → ram.new ≡ ram.old }
-        ensures told { IsTold (carried_out cart.now (state_of self.old ram.old) cause self.old.answers.items) self.new.request }
-        ensures foretold { IsForetold (carried_out cart.now (state_of self.old ram.old) cause self.old.answers.items) self.new.foreseen cart.now (state_of self.old ram.old) cause self.old.answers.items }
+        ensures reported { IsReported (carried_out cart.now (state_of self.old ram.old) cause self.old.answers.items) self.new.request }
+        ensures predicted_end { IsPredictedEnd (carried_out cart.now (state_of self.old ram.old) cause self.old.answers.items) self.new.predicted cart.now (state_of self.old ram.old) cause self.old.answers.items }
     {
         let mut step = Step::Need(Request68::Ack(0));
-        foresee_cached(
+        predict_cached(
             &mut self.regs,
             cart,
             ram,
@@ -90,7 +90,7 @@ impl Sequencer {
             cache,
             progress,
             &mut step,
-            &mut self.foreseen,
+            &mut self.predicted,
         );
         match &step {
             Step::Need(request) => self.ask(cause, *request),
@@ -102,13 +102,13 @@ impl Sequencer {
     }
 
     /// Ends what was carried out as it is predicted.
-    pub fn end_foreseen(&mut self)
+    pub fn end_predicted(&mut self)
         requires { self.old.start < 2 ^ 50 }
         ensures { (ram : List ℕ) → state_of self.new ram
-            ≡ events.finished (state_of self.old ram) (ended_by self.old.foreseen.finish self.old.foreseen.regs []) }
+            ≡ events.finished (state_of self.old ram) (ended_by self.old.predicted.finish self.old.predicted.regs []) }
     {
-        self.regs = self.foreseen.regs;
-        let finish = self.foreseen.finish;
+        self.regs = self.predicted.regs;
+        let finish = self.predicted.finish;
         self.finish(&finish);
     }
 }

@@ -1,5 +1,5 @@
 ghost use Rattle.std.specs.Prelude.{◌≡◌, ◌^◌, ◌<◌, ℕ, List, false, None, IsTrue};
-ghost use Rattle.m68k_chip.specs.Laps.{reading, sampling};
+ghost use Rattle.m68k_chip.specs.Iterations.{reading, sampling};
 ghost use Rattle.m68k_chip.specs.States.{none_left, state_of};
 
 use crate::sequencer::{NONE_LEFT, STEP, Sequencer};
@@ -50,11 +50,11 @@ impl Sequencer {
 
     /// Goes from the first access of an instruction, whose answer leaves these registers, to the sample after it.
     #[inline(always)]
-    pub fn stand_behind(&mut self, regs: &Regs, cycle: u64)
+    pub fn stand_after(&mut self, regs: &Regs, cycle: u64)
         requires { (ram : List ℕ) → state_of self.old ram ≡ reading ram self.old.regs self.old.start }
         ensures state { (ram : List ℕ) → state_of self.new ram ≡ sampling ram regs.now cycle }
         ensures request { self.new.request ≡ self.old.request }
-        ensures foreseen { self.new.foreseen ≡ self.old.foreseen }
+        ensures predicted { self.new.predicted ≡ self.old.predicted }
     {
         self.regs = *regs;
         self.next = cycle;
@@ -69,7 +69,7 @@ impl Sequencer {
         requires start { start < 2 ^ 60 }
         ensures state { (ram : List ℕ) → state_of self.new ram ≡ reading ram regs.now start }
         ensures request { self.new.request ≡ self.old.request }
-        ensures foreseen { self.new.foreseen ≡ self.old.foreseen }
+        ensures predicted { self.new.predicted ≡ self.old.predicted }
     {
         self.regs = *regs;
         self.start = start;

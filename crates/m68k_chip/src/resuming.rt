@@ -90,7 +90,7 @@ impl Sequencer {
     fn finds_request(&mut self, cart: &Cart, ram: &[u8; 65536]) -> bool
         ensures value { result ≡ rules.is_waiting cart.now (state_of self.old ram.now) }
         ensures state { (held : List ℕ) → state_of self.new held ≡ state_of self.old held }
-        ensures foreseen { self.new.foreseen ≡ self.old.foreseen }
+        ensures predicted { self.new.predicted ≡ self.old.predicted }
         ensures waiting { IsTrue result → IsSomeAnd self.new.request (λ asked. Asks cart.now (state_of self.new ram.now) self.new.cause self.new.answers.items asked) }
     {
         match self.asked_after(self.answers.len(), cart, ram) {
@@ -107,7 +107,7 @@ impl Sequencer {
     pub fn resumes(&mut self, cart: &Cart, ram: &[u8; 65536]) -> bool
         ensures value { result ≡ rules.asks_more cart.now (state_of self.old ram.now) }
         ensures state { (held : List ℕ) → state_of self.new held ≡ state_of self.old held }
-        ensures foreseen { self.new.foreseen ≡ self.old.foreseen }
+        ensures predicted { self.new.predicted ≡ self.old.predicted }
         ensures waiting { IsTrue result → WaitsFor self.new.stage cart.now (state_of self.new ram.now) self.new.request }
     {
         match self.stage {

@@ -4,7 +4,7 @@ ghost use Rattle.m68k_exec.specs.Sample.Caches.{IsCacheOf};
 ghost use Rattle.m68k_chip.specs.Cases as cases;
 ghost use Rattle.m68k_chip.specs.Events as events;
 ghost use Rattle.m68k_chip.specs.Events.{begun};
-ghost use Rattle.m68k_chip.specs.Held.{IsForeseen, WaitsFor};
+ghost use Rattle.m68k_chip.specs.Held.{IsPredicted, WaitsFor};
 ghost use Rattle.m68k_chip.specs.States.{state_of};
 
 use crate::case::Case;
@@ -71,7 +71,7 @@ impl Sequencer {
         ensures state { state_of self.new ram.new ≡ begun cart.now (state_of self.old ram.old) level }
         ensures quiet { progress.new.writes.items ≡ [] → ram.new ≡ ram.old }
         ensures waiting { WaitsFor self.new.stage cart.now (state_of self.new ram.new) self.new.request }
-        ensures foreseen { IsForeseen self.new.stage cart.now (state_of self.new ram.new) self.new.foreseen }
+        ensures predicted { IsPredicted self.new.stage cart.now (state_of self.new ram.new) self.new.predicted }
     {
         match self.case_at(level).cause() {
             Some(cause) => self.go_on(cause, cart, ram, cache, progress),

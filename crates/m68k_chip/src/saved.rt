@@ -2,15 +2,15 @@ ghost use Rattle.std.specs.Prelude.{◌≡◌, ◌≤◌, ℕ, Bool, false, leng
 ghost use Rattle.md_fields.specs.Places.{Stand};
 ghost use Rattle.m68k_chip.specs.Numbers.{numbers_of, state_from};
 ghost use Rattle.m68k_chip.specs.Saved.{fields_by};
-ghost use Rattle.m68k_chip.specs.Spelling.{GoesWrongAt, IsKept, chip_size, ram_in};
+ghost use Rattle.m68k_chip.specs.Spelling.{InvalidAt, IsKept, chip_size, ram_in};
 ghost use Rattle.m68k_chip.specs.States.{state_of};
 
 use crate::known::known_regs;
 use crate::numbers::{padded, stage_number, stage_of};
 use crate::resuming::first_answers;
 use crate::sequencer::Sequencer;
-use m68k_exec::Foreseen;
-use md_fields::{first_wrong, u8_at, u16_at, u32_at, u64_at, words_at};
+use m68k_exec::Predicted;
+use md_fields::{first_invalid, u8_at, u16_at, u32_at, u64_at, words_at};
 use md_word::{Regs, Transfer};
 use rom_header::Cart;
 use std::marker::Model;
@@ -168,7 +168,7 @@ impl<'a> Saved68<'a> {
     fn sequencer(&self) -> Sequencer
         requires { self.now.count ≤ 31 }
         ensures state { state_of result self.now.ram ≡ state_from self.now }
-        ensures unknown { result.foreseen.known ≡ false }
+        ensures unknown { result.predicted.known ≡ false }
     {
         Sequencer {
             regs: self.regs,
@@ -182,7 +182,7 @@ impl<'a> Saved68<'a> {
             answers: first_answers(&self.answers, usize::from(self.count)),
             transfer: self.transfer,
             request: None,
-            foreseen: Foreseen::nothing(),
+            predicted: Predicted::nothing(),
         }
     }
 
@@ -199,14 +199,14 @@ impl<'a> Saved68<'a> {
     /// The 68000 that the bytes keep, with the request that it waits for, where all rules hold. Else the offset
     /// of the first field whose rule fails, or the lesser of the two lengths where the length is wrong.
     pub fn checked(bytes: &'a [u8], at: u64, cart: &Cart) -> Result<Sequencer, usize>
-        ensures found { IfOk result (λ s. IsKept cart.now at bytes.now (state_of s (ram_in bytes.now)) s.request s.foreseen) }
-        ensures refused { IfErr result (λ place. GoesWrongAt cart.now at bytes.now place) }
+        ensures found { IfOk result (λ s. IsKept cart.now at bytes.now (state_of s (ram_in bytes.now)) s.request s.predicted) }
+        ensures refused { IfErr result (λ place. InvalidAt cart.now at bytes.now place) }
     {
         if bytes.len() != LENGTH {
             return Err(bytes.len().min(LENGTH));
         }
         let saved = Saved68::read(bytes);
-        if let Some(place) = first_wrong(&saved.fields(at, true)) {
+        if let Some(place) = first_invalid(&saved.fields(at, true)) {
             return Err(place);
         }
         let mut sequencer = saved.sequencer();

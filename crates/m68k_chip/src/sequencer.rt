@@ -5,7 +5,7 @@ ghost use Rattle.m68k_chip.specs.States.{long_in, power_on, state_of};
 
 use crate::stage::Stage;
 use arrayvec::ArrayVec;
-use m68k_exec::Foreseen;
+use m68k_exec::Predicted;
 use md_word::{Regs, Request68, Transfer};
 
 /// The master cycles from a sample to the first access of what it carries out, from one access to
@@ -47,7 +47,7 @@ pub struct Sequencer {
     /// The request that waits for its answer at an access; at other events it may be any that did.
     pub request: Option<Request68>,
     /// What follows the answer, where that is known.
-    pub foreseen: Foreseen,
+    pub predicted: Predicted,
 }
 
 /// The long at an offset of a cartridge, its high byte first.
@@ -87,7 +87,7 @@ impl Sequencer {
             answers: ArrayVec::new(),
             transfer: NONE_LEFT,
             request: None,
-            foreseen: Foreseen::nothing(),
+            predicted: Predicted::nothing(),
         }
     }
 

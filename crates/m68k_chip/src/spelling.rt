@@ -1,11 +1,11 @@
 ghost use Rattle.std.specs.Prelude.{◌≡◌, ◌≢◌, ◌+◌, ◌≤◌, ◌++◌, ◌↔◌, ℕ, length, vec_len, vec_capacity, IfOk, IsErrOf, Ok, Err};
 ghost use Rattle.m68k_chip.specs.Rules.{HasRules};
-ghost use Rattle.m68k_chip.specs.Spelling.{GoesWrongAt, Spells, chip_bytes, chip_size, ram_in};
+ghost use Rattle.m68k_chip.specs.Spelling.{InvalidAt, Spells, chip_bytes, chip_size, ram_in};
 ghost use Rattle.m68k_chip.specs.States.{State68};
 
 use crate::chip::Chip68;
+use crate::iteration::Iteration;
 use crate::known::{known_next, known_regs};
-use crate::lap::Lap;
 use crate::saved::{LENGTH, RAM, Saved68};
 use m68k_exec::{DecodeCache, Progress};
 use md_fields::put;
@@ -53,21 +53,21 @@ impl Chip68 {
         ensures recent { IfOk result (λ chip. HasRules at chip.state) }
         ensures only { (state : State68) → Spells (arc_value cart) at bytes.now state → result ≢ Err Unspell.NoMemory
             → result ≡ Ok (record { cart = arc_value cart; state = state }) }
-        ensures rule { (place : ℕ) → IsErrOf result (Unspell.Rule place) ↔ GoesWrongAt (arc_value cart) at bytes.now place }
+        ensures rule { (place : ℕ) → IsErrOf result (Unspell.Rule place) ↔ InvalidAt (arc_value cart) at bytes.now place }
     {
         cart.bytes();
         match Saved68::checked(bytes, at, &cart) {
             Ok(sequencer) => {
                 let cache = DecodeCache::empty(alloc)?;
                 let ram = copied(alloc, bytes)?;
-                let none = Lap::none();
+                let none = Iteration::none();
                 Ok(Chip68 {
                     cart,
                     ram,
                     sequencer,
                     progress: Progress::new(),
                     cache,
-                    lap: none,
+                    iteration: none,
                     other: none,
                 })
             }

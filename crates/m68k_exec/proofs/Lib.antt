@@ -1,7 +1,7 @@
 pub mod Bounds
 pub mod Caches
 pub mod Compares
-pub mod Foresight
+pub mod Prediction
 pub mod Later
 pub mod Pushes
 pub mod Stack

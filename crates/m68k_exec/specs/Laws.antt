@@ -61,7 +61,7 @@ pub record SamplesIgnoreLaterAnswers : Type 0 where
 pub record SamplesAreBounded : Type 0 where
   pub spends : (cause : ℕ) (regs : Regs) (memory : Memory) (ended : Ended) → sampled cause regs memory ≡ Ok ended → IsSpent ended.op ended.spent
   pub waits : (cause : ℕ) (regs : Regs) (memory : Memory) (request : Request68) → sampled cause regs memory ≡ Err (Ask request) → length memory.answers < 32
-  pub comes_to : (cause : ℕ) (regs : Regs) (memory : Memory) (address : ℕ) (read : Bool) (used : ℕ) → sampled cause regs memory ≡ Err (Odd address read used) → ⊥
+  pub reaches : (cause : ℕ) (regs : Regs) (memory : Memory) (address : ℕ) (read : Bool) (used : ℕ) → sampled cause regs memory ≡ Err (Odd address read used) → ⊥
 
 -- from a status register with no other bits, a sample leaves one, and asks only for the acknowledge of
 -- its level or for a read or write at a shared address

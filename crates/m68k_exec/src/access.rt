@@ -15,19 +15,19 @@ pub mod vector;
 pub mod view;
 
 use crate::access::memory::{bus_address, byte_seen, put_byte, put_word, word_seen};
-use crate::{Around, Progress, Stop};
+use crate::{Context, Progress, Stop};
 use md_word::{Request68, Size, is_shared};
 
 /// A shared access: takes the next answer, or stops with the request that waits for it.
 #[tactic(auto, unfolding(crate::specs::Access::Actions::asked))]
-pub fn ask(request: Request68, around: &Around, progress: &mut Progress) -> Result<u16, Stop>
+pub fn ask(request: Request68, context: &Context, progress: &mut Progress) -> Result<u16, Stop>
     ensures value { Meets result (done_of progress.new)
-        (actions.asked request (memory_of around.now) (done_of progress.old)) }
+        (actions.asked request (memory_of context.now) (done_of progress.old)) }
     ensures spent { SpendsAtMost progress.old progress.new 1 0 }
     ensures never_odd { NotOdd result }
 {
-    if progress.used < around.answers.len() {
-        let answer = around.answers[progress.used];
+    if progress.used < context.answers.len() {
+        let answer = context.answers[progress.used];
         progress.used += 1;
         Ok(answer)
     } else {
@@ -37,55 +37,55 @@ pub fn ask(request: Request68, around: &Around, progress: &mut Progress) -> Resu
 
 /// A shared read of a byte, whose answer has one byte.
 #[tactic(auto, unfolding(crate::specs::Access::Actions::asked_byte))]
-fn ask_byte(at: u32, around: &Around, progress: &mut Progress) -> Result<u8, Stop>
+fn ask_byte(at: u32, context: &Context, progress: &mut Progress) -> Result<u8, Stop>
     ensures value { Meets result (done_of progress.new)
-        (actions.asked_byte at (memory_of around.now) (done_of progress.old)) }
+        (actions.asked_byte at (memory_of context.now) (done_of progress.old)) }
     ensures written { array_vec_len progress.new.writes ≤ array_vec_len progress.old.writes }
 {
-    let answer = ask(Request68::Read8(at), around, progress)?;
+    let answer = ask(Request68::Read8(at), context, progress)?;
     Ok((answer % 0x100) as u8)
 }
 
 /// A shared write, whose answer carries nothing.
-#[tactic(auto, unfolding(crate::specs::Access::Actions::told))]
-fn tell(request: Request68, around: &Around, progress: &mut Progress) -> Result<(), Stop>
+#[tactic(auto, unfolding(crate::specs::Access::Actions::reported))]
+fn tell(request: Request68, context: &Context, progress: &mut Progress) -> Result<(), Stop>
     ensures value { Meets result (done_of progress.new)
-        (actions.told request (memory_of around.now) (done_of progress.old)) }
+        (actions.reported request (memory_of context.now) (done_of progress.old)) }
     ensures spent { SpendsAtMost progress.old progress.new 1 0 }
     ensures never_odd { NotOdd result }
 {
-    ask(request, around, progress)?;
+    ask(request, context, progress)?;
     Ok(())
 }
 
 /// Reads the byte at an address. Stops where an access waits for its answer.
 #[tactic(auto, unfolding(crate::specs::Access::Actions::read_byte))]
-pub fn read_byte(address: u32, around: &Around, progress: &mut Progress) -> Result<u8, Stop>
+pub fn read_byte(address: u32, context: &Context, progress: &mut Progress) -> Result<u8, Stop>
     ensures value { Meets result (done_of progress.new)
-        (actions.read_byte address (memory_of around.now) (done_of progress.old)) }
+        (actions.read_byte address (memory_of context.now) (done_of progress.old)) }
     ensures written { array_vec_len progress.new.writes ≤ array_vec_len progress.old.writes }
 {
     let at = bus_address(address);
     if is_shared(at) {
-        ask_byte(at, around, progress)
+        ask_byte(at, context, progress)
     } else {
-        Ok(byte_seen(at, around, progress))
+        Ok(byte_seen(at, context, progress))
     }
 }
 
 /// Reads the word at an even address on the bus.
 #[inline(always)]
 #[tactic(auto, unfolding(crate::specs::Access::Actions::read_aligned))]
-fn read_aligned(at: u32, around: &Around, progress: &mut Progress) -> Result<u16, Stop>
+fn read_aligned(at: u32, context: &Context, progress: &mut Progress) -> Result<u16, Stop>
     requires { at < 0x100_0000 }
     ensures value { Meets result (done_of progress.new)
-        (actions.read_aligned at (memory_of around.now) (done_of progress.old)) }
+        (actions.read_aligned at (memory_of context.now) (done_of progress.old)) }
     ensures written { array_vec_len progress.new.writes ≤ array_vec_len progress.old.writes }
 {
     if is_shared(at) {
-        ask(Request68::Read16(at), around, progress)
+        ask(Request68::Read16(at), context, progress)
     } else {
-        Ok(word_seen(at, around, progress))
+        Ok(word_seen(at, context, progress))
     }
 }
 
@@ -93,9 +93,9 @@ fn read_aligned(at: u32, around: &Around, progress: &mut Progress) -> Result<u16
 /// Stops there, and where an access waits for its answer.
 #[inline(always)]
 #[tactic(auto, unfolding(crate::specs::Access::Actions::read_word))]
-pub fn read_word(address: u32, around: &Around, progress: &mut Progress) -> Result<u16, Stop>
+pub fn read_word(address: u32, context: &Context, progress: &mut Progress) -> Result<u16, Stop>
     ensures value { Meets result (done_of progress.new)
-        (actions.read_word address (memory_of around.now) (done_of progress.old)) }
+        (actions.read_word address (memory_of context.now) (done_of progress.old)) }
     ensures written { array_vec_len progress.new.writes ≤ array_vec_len progress.old.writes }
 {
     if address % 2 == 1 {
@@ -105,19 +105,19 @@ pub fn read_word(address: u32, around: &Around, progress: &mut Progress) -> Resu
             used: progress.used,
         });
     }
-    read_aligned(bus_address(address), around, progress)
+    read_aligned(bus_address(address), context, progress)
 }
 
 /// Reads the long at an address, the word at the lower address first; an odd address is an address
 /// error before any access. Stops there, and where an access waits for its answer.
 #[tactic(auto, unfolding(crate::specs::Access::Actions::read_long))]
-pub fn read_long(address: u32, around: &Around, progress: &mut Progress) -> Result<u32, Stop>
+pub fn read_long(address: u32, context: &Context, progress: &mut Progress) -> Result<u32, Stop>
     ensures value { Meets result (done_of progress.new)
-        (actions.read_long address (memory_of around.now) (done_of progress.old)) }
+        (actions.read_long address (memory_of context.now) (done_of progress.old)) }
     ensures written { array_vec_len progress.new.writes ≤ array_vec_len progress.old.writes }
 {
-    let high = read_word(address, around, progress)?;
-    let low = read_word(address.wrapping_add(2), around, progress)?;
+    let high = read_word(address, context, progress)?;
+    let low = read_word(address.wrapping_add(2), context, progress)?;
     Ok(u32::from(high) * 0x1_0000 + u32::from(low))
 }
 
@@ -125,16 +125,21 @@ pub fn read_long(address: u32, around: &Around, progress: &mut Progress) -> Resu
 /// Stops where an access waits for its answer, or a word or long has an odd address.
 #[inline(always)]
 #[tactic(auto, unfolding(crate::specs::Access::Actions::read))]
-pub fn read(size: Size, address: u32, around: &Around, progress: &mut Progress) -> Result<u32, Stop>
+pub fn read(
+    size: Size,
+    address: u32,
+    context: &Context,
+    progress: &mut Progress,
+) -> Result<u32, Stop>
     ensures value { Meets result (done_of progress.new)
-        (actions.read size address (memory_of around.now) (done_of progress.old)) }
+        (actions.read size address (memory_of context.now) (done_of progress.old)) }
     ensures below { IfOk result (λ value. value < modulus_of size) }
     ensures written { array_vec_len progress.new.writes ≤ array_vec_len progress.old.writes }
 {
     match size {
-        Size::Byte => Ok(u32::from(read_byte(address, around, progress)?)),
-        Size::Word => Ok(u32::from(read_word(address, around, progress)?)),
-        Size::Long => read_long(address, around, progress),
+        Size::Byte => Ok(u32::from(read_byte(address, context, progress)?)),
+        Size::Word => Ok(u32::from(read_word(address, context, progress)?)),
+        Size::Long => read_long(address, context, progress),
     }
 }
 
@@ -143,17 +148,17 @@ pub fn read(size: Size, address: u32, around: &Around, progress: &mut Progress) 
 pub fn write_byte(
     address: u32,
     value: u8,
-    around: &Around,
+    context: &Context,
     progress: &mut Progress,
 ) -> Result<(), Stop>
     requires { array_vec_len progress.old.writes + 1 ≤ 80 }
     ensures value { Meets result (done_of progress.new)
-        (actions.write_byte address value (memory_of around.now) (done_of progress.old)) }
+        (actions.write_byte address value (memory_of context.now) (done_of progress.old)) }
     ensures written { array_vec_len progress.new.writes ≤ array_vec_len progress.old.writes + 1 }
 {
     let at = bus_address(address);
     if is_shared(at) {
-        return tell(Request68::Write8(at, value), around, progress);
+        return tell(Request68::Write8(at, value), context, progress);
     }
     put_byte(at, value, progress);
     Ok(())
@@ -162,16 +167,21 @@ pub fn write_byte(
 /// Writes the word at an even address on the bus.
 #[inline(always)]
 #[tactic(auto, unfolding(crate::specs::Access::Actions::write_aligned))]
-fn write_aligned(at: u32, value: u16, around: &Around, progress: &mut Progress) -> Result<(), Stop>
+fn write_aligned(
+    at: u32,
+    value: u16,
+    context: &Context,
+    progress: &mut Progress,
+) -> Result<(), Stop>
     requires at { at < 0x100_0000 }
     requires room { array_vec_len progress.old.writes + 2 ≤ 80 }
     ensures value { Meets result (done_of progress.new)
-        (actions.write_aligned at value (memory_of around.now) (done_of progress.old)) }
+        (actions.write_aligned at value (memory_of context.now) (done_of progress.old)) }
     ensures spent { SpendsAtMost progress.old progress.new 1 2 }
     ensures never_odd { NotOdd result }
 {
     if is_shared(at) {
-        return tell(Request68::Write16(at, value), around, progress);
+        return tell(Request68::Write16(at, value), context, progress);
     }
     put_word(at, value, progress);
     Ok(())
@@ -184,12 +194,12 @@ fn write_aligned(at: u32, value: u16, around: &Around, progress: &mut Progress) 
 pub fn write_word(
     address: u32,
     value: u16,
-    around: &Around,
+    context: &Context,
     progress: &mut Progress,
 ) -> Result<(), Stop>
     requires { array_vec_len progress.old.writes + 2 ≤ 80 }
     ensures value { Meets result (done_of progress.new)
-        (actions.write_word address value (memory_of around.now) (done_of progress.old)) }
+        (actions.write_word address value (memory_of context.now) (done_of progress.old)) }
     ensures spent { SpendsAtMost progress.old progress.new 1 2 }
     ensures even { address % 2 ≡ 0 → NotOdd result }
 {
@@ -200,7 +210,7 @@ pub fn write_word(
             used: progress.used,
         });
     }
-    write_aligned(bus_address(address), value, around, progress)
+    write_aligned(bus_address(address), value, context, progress)
 }
 
 /// Writes the long at an address, the word at the lower address first; an odd address is an address
@@ -209,19 +219,19 @@ pub fn write_word(
 pub fn write_long(
     address: u32,
     value: u32,
-    around: &Around,
+    context: &Context,
     progress: &mut Progress,
 ) -> Result<(), Stop>
     requires { array_vec_len progress.old.writes + 4 ≤ 80 }
     ensures value { Meets result (done_of progress.new)
-        (actions.write_long address value (memory_of around.now) (done_of progress.old)) }
+        (actions.write_long address value (memory_of context.now) (done_of progress.old)) }
     ensures written { array_vec_len progress.new.writes ≤ array_vec_len progress.old.writes + 4 }
 {
-    write_word(address, (value / 0x1_0000) as u16, around, progress)?;
+    write_word(address, (value / 0x1_0000) as u16, context, progress)?;
     write_word(
         address.wrapping_add(2),
         (value % 0x1_0000) as u16,
-        around,
+        context,
         progress,
     )
 }
@@ -234,18 +244,18 @@ pub fn write(
     size: Size,
     address: u32,
     value: u32,
-    around: &Around,
+    context: &Context,
     progress: &mut Progress,
 ) -> Result<(), Stop>
     requires value { value < modulus_of size }
     requires room { array_vec_len progress.old.writes + bytes_of size ≤ 80 }
     ensures value { Meets result (done_of progress.new)
-        (actions.write size address value (memory_of around.now) (done_of progress.old)) }
+        (actions.write size address value (memory_of context.now) (done_of progress.old)) }
     ensures written { array_vec_len progress.new.writes ≤ array_vec_len progress.old.writes + bytes_of size }
 {
     match size {
-        Size::Byte => write_byte(address, value as u8, around, progress),
-        Size::Word => write_word(address, value as u16, around, progress),
-        Size::Long => write_long(address, value, around, progress),
+        Size::Byte => write_byte(address, value as u8, context, progress),
+        Size::Word => write_word(address, value as u16, context, progress),
+        Size::Long => write_long(address, value, context, progress),
     }
 }

@@ -3,8 +3,8 @@ ghost use Rattle.arrayvec.specs.ArrayVec.{array_vec_len};
 ghost use Rattle.m68k_decode.specs.Ops.{IsOp, IsInstruction};
 ghost use Rattle.m68k_exec.specs.Access.Clauses.{done_of, memory_of};
 ghost use Rattle.m68k_exec.specs.Sample.Caches.{IsCacheOf};
-ghost use Rattle.m68k_exec.specs.Sample.Foresight.{EndsForeseen};
-ghost use Rattle.m68k_exec.specs.Sample.Samples.{named, Keeps, NamesInstruction, SpendsRightly, WaitsBelow, nothing, told_by};
+ghost use Rattle.m68k_exec.specs.Sample.Prediction.{EndsPredicted};
+ghost use Rattle.m68k_exec.specs.Sample.Samples.{named, Keeps, NamesInstruction, SpendsRightly, WaitsBelow, nothing, reported_by};
 ghost use Rattle.m68k_exec.specs.Sample.Samples as samples;
 
 pub mod cache;
@@ -16,7 +16,7 @@ mod execution;
 pub mod step;
 
 use crate::access::memory::instruction_words;
-use crate::{Around, Foreseen, Progress, Step};
+use crate::{Context, Predicted, Progress, Step};
 use arrayvec::ArrayVec;
 use cache::DecodeCache;
 use causes::{instruction, interrupt, trace};
@@ -30,24 +30,24 @@ fn sample(
     cause: u8,
     decoded: &Decoded,
     first: u16,
-    around: &Around,
+    context: &Context,
     regs: &mut Regs,
     progress: &mut Progress,
     step: &mut Step,
-    foreseen: &mut Foreseen,
+    predicted: &mut Predicted,
 )
     requires decoded { IsInstruction decoded.now }
     requires fresh { done_of progress.old ≡ nothing }
-    requires few { length around.now.answers.now ≤ 32 }
-    requires nothing { foreseen.old.known ≡ false }
-    ensures foreseen { EndsForeseen step.new foreseen.new (samples.sample_of cause decoded.now first regs.old) (memory_of around.now) }
-    ensures value { told_by step.new regs.new (done_of progress.new) ≡ samples.sample_of cause decoded.now first regs.old (memory_of around.now) }
+    requires few { length context.now.answers.now ≤ 32 }
+    requires nothing { predicted.old.known ≡ false }
+    ensures predicted { EndsPredicted step.new predicted.new (samples.sample_of cause decoded.now first regs.old) (memory_of context.now) }
+    ensures value { reported_by step.new regs.new (done_of progress.new) ≡ samples.sample_of cause decoded.now first regs.old (memory_of context.now) }
     ensures kept { Keeps step.new regs.old regs.new }
 {
     match cause {
-        0 => instruction(decoded, first, around, regs, progress, step, foreseen),
-        1..=7 => interrupt(cause, &decoded.op, around, regs, progress, step),
-        _ => trace(&decoded.op, around, regs, progress, step),
+        0 => instruction(decoded, first, context, regs, progress, step, predicted),
+        1..=7 => interrupt(cause, &decoded.op, context, regs, progress, step),
+        _ => trace(&decoded.op, context, regs, progress, step),
     }
 }
 
@@ -62,28 +62,28 @@ fn run(
     cause: u8,
     progress: &mut Progress,
     step: &mut Step,
-    foreseen: &mut Foreseen,
+    predicted: &mut Predicted,
 )
-    ensures value { told_by step.new regs.new (done_of progress.new) ≡ samples.sampled cause regs.old (record { rom = cart.now; ram = ram.now; answers = answers.now.items }) }
+    ensures value { reported_by step.new regs.new (done_of progress.new) ≡ samples.sampled cause regs.old (record { rom = cart.now; ram = ram.now; answers = answers.now.items }) }
     ensures kept { Keeps step.new regs.old regs.new }
-    ensures foreseen { EndsForeseen step.new foreseen.new (samples.sampled cause regs.old) (record { rom = cart.now; ram = ram.now; answers = answers.now.items }) }
+    ensures predicted { EndsPredicted step.new predicted.new (samples.sampled cause regs.old) (record { rom = cart.now; ram = ram.now; answers = answers.now.items }) }
     ensures instruction { IsOp (named regs.old (record { rom = cart.now; ram = ram.now; answers = answers.now.items })) }
 {
     progress.restart(0);
-    foreseen.known = false;
-    let around = Around {
+    predicted.known = false;
+    let context = Context {
         rom: cart.bytes(),
         ram,
         answers: answers.as_slice(),
     };
-    let words = instruction_words(regs.pc, &around);
+    let words = instruction_words(regs.pc, &context);
     let mut decoded = Decoded {
         op: Op::Nop,
         length: 2,
     };
     decode_into(&words, &mut decoded);
     sample(
-        cause, &decoded, words[0], &around, regs, progress, step, foreseen,
+        cause, &decoded, words[0], &context, regs, progress, step, predicted,
     )
 }
 
@@ -94,11 +94,11 @@ fn run(
 /// and more for a pending trace. `ram` is work RAM before it. Where it waits for an answer the
 /// registers stay as they were. `progress` is cleared first; its writes count where the step is
 /// done: the bytes written into work RAM, the oldest first. `step` is its outcome, whatever it
-/// was. Where it waits for the answer to a write, `foreseen` has its outcome then, if that is known:
+/// was. Where it waits for the answer to a write, `predicted` has its outcome then, if that is known:
 /// of a MOVE whose last access waits, and whose other accesses were answered.
 ///
 /// Source: M68000 Programmer's Reference Manual, sections 4 and 6; M68000 User's Manual, section 6.
-pub fn foresee(
+pub fn predict(
     regs: &mut Regs,
     cart: &Cart,
     ram: &[u8; 65536],
@@ -106,16 +106,16 @@ pub fn foresee(
     cause: u8,
     progress: &mut Progress,
     step: &mut Step,
-    foreseen: &mut Foreseen,
+    predicted: &mut Predicted,
 )
-    ensures foreseen { EndsForeseen step.new foreseen.new (samples.sampled cause regs.old) (record { rom = cart.now; ram = ram.now; answers = answers.now.items }) }
-    ensures value { told_by step.new regs.new (done_of progress.new) ≡ samples.sampled cause regs.old (record { rom = cart.now; ram = ram.now; answers = answers.now.items }) }
+    ensures predicted { EndsPredicted step.new predicted.new (samples.sampled cause regs.old) (record { rom = cart.now; ram = ram.now; answers = answers.now.items }) }
+    ensures value { reported_by step.new regs.new (done_of progress.new) ≡ samples.sampled cause regs.old (record { rom = cart.now; ram = ram.now; answers = answers.now.items }) }
     ensures kept { Keeps step.new regs.old regs.new }
     ensures waits { WaitsBelow step.new (array_vec_len answers.now) 32 }
     ensures spent { SpendsRightly step.new }
     ensures instruction { NamesInstruction step.new }
 {
-    run(regs, cart, ram, answers, cause, progress, step, foreseen)
+    run(regs, cart, ram, answers, cause, progress, step, predicted)
 }
 
 /// The same where nothing is to be predicted.
@@ -128,14 +128,14 @@ pub fn go(
     progress: &mut Progress,
     step: &mut Step,
 )
-    ensures value { told_by step.new regs.new (done_of progress.new) ≡ samples.sampled cause regs.old (record { rom = cart.now; ram = ram.now; answers = answers.now.items }) }
+    ensures value { reported_by step.new regs.new (done_of progress.new) ≡ samples.sampled cause regs.old (record { rom = cart.now; ram = ram.now; answers = answers.now.items }) }
     ensures kept { Keeps step.new regs.old regs.new }
     ensures waits { WaitsBelow step.new (array_vec_len answers.now) 32 }
     ensures spent { SpendsRightly step.new }
     ensures instruction { NamesInstruction step.new }
 {
-    let mut foreseen = Foreseen::nothing();
-    foresee(
+    let mut predicted = Predicted::nothing();
+    predict(
         regs,
         cart,
         ram,
@@ -143,7 +143,7 @@ pub fn go(
         cause,
         progress,
         step,
-        &mut foreseen,
+        &mut predicted,
     )
 }
 
@@ -158,39 +158,39 @@ fn run_cached(
     cache: &mut DecodeCache,
     progress: &mut Progress,
     step: &mut Step,
-    foreseen: &mut Foreseen,
+    predicted: &mut Predicted,
 )
     requires cache { IsCacheOf cart.now cache.old }
     ensures cache { IsCacheOf cart.now cache.new }
-    ensures value { told_by step.new regs.new (done_of progress.new) ≡ samples.sampled cause regs.old (record { rom = cart.now; ram = ram.now; answers = answers.now.items }) }
+    ensures value { reported_by step.new regs.new (done_of progress.new) ≡ samples.sampled cause regs.old (record { rom = cart.now; ram = ram.now; answers = answers.now.items }) }
     ensures kept { Keeps step.new regs.old regs.new }
-    ensures foreseen { EndsForeseen step.new foreseen.new (samples.sampled cause regs.old) (record { rom = cart.now; ram = ram.now; answers = answers.now.items }) }
+    ensures predicted { EndsPredicted step.new predicted.new (samples.sampled cause regs.old) (record { rom = cart.now; ram = ram.now; answers = answers.now.items }) }
     ensures instruction { IsOp (named regs.old (record { rom = cart.now; ram = ram.now; answers = answers.now.items })) }
 {
     progress.restart(0);
-    foreseen.known = false;
-    let around = Around {
+    predicted.known = false;
+    let context = Context {
         rom: cart.bytes(),
         ram,
         answers: answers.as_slice(),
     };
     let address = regs.pc;
-    cache.refresh(address, &around);
-    let found = cache.entry(address, &around);
+    cache.refresh(address, &context);
+    let found = cache.entry(address, &context);
     sample(
         cause,
         &found.decoded,
         found.first,
-        &around,
+        &context,
         regs,
         progress,
         step,
-        foreseen,
+        predicted,
     )
 }
 
-/// The same as `foresee`, with a cache of the cartridge's instructions.
-pub fn foresee_cached(
+/// The same as `predict`, with a cache of the cartridge's instructions.
+pub fn predict_cached(
     regs: &mut Regs,
     cart: &Cart,
     ram: &[u8; 65536],
@@ -199,18 +199,18 @@ pub fn foresee_cached(
     cache: &mut DecodeCache,
     progress: &mut Progress,
     step: &mut Step,
-    foreseen: &mut Foreseen,
+    predicted: &mut Predicted,
 )
     requires cache { IsCacheOf cart.now cache.old }
     ensures cache { IsCacheOf cart.now cache.new }
-    ensures foreseen { EndsForeseen step.new foreseen.new (samples.sampled cause regs.old) (record { rom = cart.now; ram = ram.now; answers = answers.now.items }) }
-    ensures value { told_by step.new regs.new (done_of progress.new) ≡ samples.sampled cause regs.old (record { rom = cart.now; ram = ram.now; answers = answers.now.items }) }
+    ensures predicted { EndsPredicted step.new predicted.new (samples.sampled cause regs.old) (record { rom = cart.now; ram = ram.now; answers = answers.now.items }) }
+    ensures value { reported_by step.new regs.new (done_of progress.new) ≡ samples.sampled cause regs.old (record { rom = cart.now; ram = ram.now; answers = answers.now.items }) }
     ensures kept { Keeps step.new regs.old regs.new }
     ensures waits { WaitsBelow step.new (array_vec_len answers.now) 32 }
     ensures spent { SpendsRightly step.new }
     ensures instruction { NamesInstruction step.new }
 {
     run_cached(
-        regs, cart, ram, answers, cause, cache, progress, step, foreseen,
+        regs, cart, ram, answers, cause, cache, progress, step, predicted,
     )
 }

@@ -28,18 +28,18 @@ use Rattle.m68k_laws.specs.Laws.{IsComplete, WaitsAt}
 use Rattle.m68k_laws.specs.Samples.{ExceptionsFollowFrames}
 
 -- the outcome of a sample, with so many answers taken before these words
-abbrev pub ComesTo : List Access → ℕ → ℕ → Result Ended Stop → Type 0
-ComesTo list count start (Ok ended) = EndsAlong list count start ended.spent.accesses
-ComesTo list count start (Err (Ask request)) = AsksAlong list count start request
-ComesTo list count start (Err (Odd address read after)) = FaultsAlong list count start after address read
+abbrev pub Reaches : List Access → ℕ → ℕ → Result Ended Stop → Type 0
+Reaches list count start (Ok ended) = EndsAlong list count start ended.spent.accesses
+Reaches list count start (Err (Ask request)) = AsksAlong list count start request
+Reaches list count start (Err (Odd address read after)) = FaultsAlong list count start after address read
 
-begun : (op : Op) (number : ℕ) (trace : Bool) (found : Regs) (list : List Access) (count start : ℕ) (result : Result (Option Regs × Done) Stop) → GoesAlong list count start result → ComesTo list count start (begun_by op number trace found result)
+begun : (op : Op) (number : ℕ) (trace : Bool) (found : Regs) (list : List Access) (count start : ℕ) (result : Result (Option Regs × Done) Stop) → GoesAlong list count start result → Reaches list count start (begun_by op number trace found result)
 begun op number trace found list count start (Ok (Some regs, done)) h = h
 begun op number trace found list count start (Ok (None, done)) h = h
 begun op number trace found list count start (Err (Ask request)) h = h
 begun op number trace found list count start (Err (Odd address read after)) h = h
 
-pub exception : (op : Op) (kind : Exception) (trace : Bool) (found regs : Regs) (memory : Memory) (before : Done) → before.used ≤ length memory.answers → ComesTo (words (frame (number_of kind) regs memory)) (length memory.answers) before.used (samples.take_exception op kind trace found regs memory before)
+pub exception : (op : Op) (kind : Exception) (trace : Bool) (found regs : Regs) (memory : Memory) (before : Done) → before.used ≤ length memory.answers → Reaches (words (frame (number_of kind) regs memory)) (length memory.answers) before.used (samples.take_exception op kind trace found regs memory before)
 unfolding samples.take_exception
 exception op kind trace found regs memory before within =
     begun op (number_of kind) trace found _ _ _ (entries.enter kind regs memory before) (entered kind regs memory before within)
@@ -73,25 +73,25 @@ unfolding samples.take_exception
 exception_other op kind trace found regs memory before some = begun_other op (number_of kind) trace found (entries.enter kind regs memory before) some
 
 -- nothing was taken before
-waits_first : (list : List Access) (count : ℕ) (sample : Result Ended Stop) (request : Request68) → ComesTo list count 0 sample → sample ≡ Err (Ask request) → WaitsAt list count request
+waits_first : (list : List Access) (count : ℕ) (sample : Result Ended Stop) (request : Request68) → Reaches list count 0 sample → sample ≡ Err (Ask request) → WaitsAt list count request
 waits_first list count sample request h e =
-    let asks : AsksAlong list count 0 request = subst (λ sample. ComesTo list count 0 sample) e h in waited list count request asks
+    let asks : AsksAlong list count 0 request = subst (λ sample. Reaches list count 0 sample) e h in waited list count request asks
 
-completes_first : (list : List Access) (count : ℕ) (sample : Result Ended Stop) (ended : Ended) → ComesTo list count 0 sample → sample ≡ Ok ended → IsComplete list ended.spent.accesses
+completes_first : (list : List Access) (count : ℕ) (sample : Result Ended Stop) (ended : Ended) → Reaches list count 0 sample → sample ≡ Ok ended → IsComplete list ended.spent.accesses
 completes_first list count sample ended h e =
-    let ends : EndsAlong list count 0 ended.spent.accesses = subst (λ sample. ComesTo list count 0 sample) e h in completed list count ended.spent.accesses ends
+    let ends : EndsAlong list count 0 ended.spent.accesses = subst (λ sample. Reaches list count 0 sample) e h in completed list count ended.spent.accesses ends
 
-traced : (cause : ℕ) (regs : Regs) (memory : Memory) → (cause == 0) ≡ false → nat_lt cause 8 ≡ false → ComesTo (words (frame 9 regs memory)) (length memory.answers) 0 (samples.sampled cause regs memory)
+traced : (cause : ℕ) (regs : Regs) (memory : Memory) → (cause == 0) ≡ false → nat_lt cause 8 ≡ false → Reaches (words (frame 9 regs memory)) (length memory.answers) 0 (samples.sampled cause regs memory)
 unfolding samples.sampled samples.trace
 traced cause regs memory some high = rw (some, high) (exception (named regs memory) (Numbered 9) false regs regs memory nothing (omega arith))
 
-trace : (cause : ℕ) (regs : Regs) (memory : Memory) → 8 ≤ cause → ComesTo (words (frame 9 regs memory)) (length memory.answers) 0 (samples.sampled cause regs memory)
+trace : (cause : ℕ) (regs : Regs) (memory : Memory) → 8 ≤ cause → Reaches (words (frame 9 regs memory)) (length memory.answers) 0 (samples.sampled cause regs memory)
 trace cause regs memory h = traced cause regs memory (grind (arith, nat_tests)) (grind (arith, nat_tests))
 
 odd_start : (at : ℕ) → at % 2 ≡ 1 → actions.is_odd at ≡ true
 odd_start at h = rw h refl
 
-misplaced : (regs : Regs) (memory : Memory) → actions.is_odd regs.pc ≡ true → ComesTo (words (frame 3 regs memory)) (length memory.answers) 0 (samples.sampled 0 regs memory)
+misplaced : (regs : Regs) (memory : Memory) → actions.is_odd regs.pc ≡ true → Reaches (words (frame 3 regs memory)) (length memory.answers) 0 (samples.sampled 0 regs memory)
 unfolding samples.sampled samples.instruction
 misplaced regs memory odd =
     rw odd (exception (named regs memory) (AddressError (opcode (instruction_words regs.pc memory)) regs.pc true) false regs regs memory nothing (omega arith))
@@ -107,21 +107,21 @@ interrupt level regs memory some low = interrupt_is level regs memory (grind (ar
 unheard : (level : ℕ) (regs : Regs) (memory : Memory) → length memory.answers ≡ 0 → samples.acknowledged level (named regs memory) regs memory (actions.asked (Ack level) memory nothing) ≡ Err (Ask (Ack level))
 unheard level regs memory none = rw (unanswered (Ack level) memory nothing (grind (arith, nat_tests))) refl
 
-heard : (level : ℕ) (regs : Regs) (memory : Memory) → 0 < length memory.answers → ComesTo (words (frame (24 + level) regs memory)) (length memory.answers) 1 (samples.acknowledged level (named regs memory) regs memory (actions.asked (Ack level) memory nothing))
+heard : (level : ℕ) (regs : Regs) (memory : Memory) → 0 < length memory.answers → Reaches (words (frame (24 + level) regs memory)) (length memory.answers) 1 (samples.acknowledged level (named regs memory) regs memory (actions.asked (Ack level) memory nothing))
 heard level regs memory some =
     rw (answered (Ack level) memory nothing (grind (arith, nat_tests))) (exception (named regs memory) (Interrupt level) false regs regs memory (record nothing { used = 1 }) (omega (arith, some)))
 
 interrupt_waits : (level : ℕ) (regs : Regs) (memory : Memory) (pushed : ℕ) (request : Request68) → 0 < level → level < 8 → length memory.answers ≡ 1 + pushed → samples.sampled level regs memory ≡ Err (Ask request) → WaitsAt (words (frame (24 + level) regs memory)) pushed request
 interrupt_waits level regs memory pushed request some low count e =
     let list = words (frame (24 + level) regs memory) in
-    let asks : AsksAlong list (length memory.answers) 1 request = subst (λ sample. ComesTo list (length memory.answers) 1 sample) (sym (interrupt level regs memory some low) ∙ e) (heard level regs memory (omega (arith, count))) in
+    let asks : AsksAlong list (length memory.answers) 1 request = subst (λ sample. Reaches list (length memory.answers) 1 sample) (sym (interrupt level regs memory some low) ∙ e) (heard level regs memory (omega (arith, count))) in
     let same : asks.taken ≡ pushed = omega (arith, asks.used, count) in
     subst (λ taken. WaitsAt list taken request) same asks.waits
 
 interrupt_ends : (level : ℕ) (regs : Regs) (memory : Memory) (ended : Ended) (test : Bool) → nat_lt 0 (length memory.answers) ≡ test → 0 < level → level < 8 → samples.sampled level regs memory ≡ Ok ended → (pushed : ℕ) × (ended.spent.accesses ≡ 1 + pushed) × IsComplete (words (frame (24 + level) regs memory)) pushed
 interrupt_ends level regs memory ended true is some low e =
     let list = words (frame (24 + level) regs memory) in
-    let ends : EndsAlong list (length memory.answers) 1 ended.spent.accesses = subst (λ sample. ComesTo list (length memory.answers) 1 sample) (sym (interrupt level regs memory some low) ∙ e) (heard level regs memory (grind (arith, nat_tests))) in
+    let ends : EndsAlong list (length memory.answers) 1 ended.spent.accesses = subst (λ sample. Reaches list (length memory.answers) 1 sample) (sym (interrupt level regs memory some low) ∙ e) (heard level regs memory (grind (arith, nat_tests))) in
     (ends.taken, ends.used, ends.completes)
 interrupt_ends level regs memory ended false is some low e =
     let waits = unheard level regs memory (grind (arith, nat_tests)) in

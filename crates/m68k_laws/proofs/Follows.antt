@@ -47,8 +47,8 @@ shared_joined u v = ap length (filter-append _ u v) ∙ length-append (shared u)
 leads_first : (u v : List Access) (count : ℕ) (access : Access) → LeadsTo u count access → LeadsTo (u ++ v) count access
 leads_first u v count access h = record {
   before = h.before;
-  behind = h.behind ++ v;
-  split = ap (λ list. list ++ v) h.split ∙ append_assoc h.before (access ∷ h.behind) v;
+  following = h.following ++ v;
+  split = ap (λ list. list ++ v) h.split ∙ append_assoc h.before (access ∷ h.following) v;
   even = h.even;
   counted = h.counted;
 }
@@ -56,8 +56,8 @@ leads_first u v count access h = record {
 leads_later : (u v : List Access) (first count : ℕ) (access : Access) → IsComplete u first → LeadsTo v count access → LeadsTo (u ++ v) (first + count) access
 leads_later u v first count access made h = record {
   before = u ++ h.before;
-  behind = h.behind;
-  split = ap (λ list. u ++ list) h.split ∙ sym (append_assoc u h.before (access ∷ h.behind));
+  following = h.following;
+  split = ap (λ list. u ++ list) h.split ∙ sym (append_assoc u h.before (access ∷ h.following));
   even = All-append IsEven u h.before made.even h.even;
   counted = omega (arith, made.counted, h.counted, shared_joined u h.before);
 }
@@ -67,16 +67,16 @@ after_front : {X : Type 0} (front : List X) (x : X) (back : List X) → slice_ge
 after_front [] x back = refl
 after_front (first ∷ more) x back = after_front more x back
 
-shared_next : (access : Access) (behind : List Access) → IsTrue (is_shared (bus_address access.address)) → shared (access ∷ behind) ≡ access ∷ shared behind
-shared_next access behind h = rw h refl
+shared_next : (access : Access) (following : List Access) → IsTrue (is_shared (bus_address access.address)) → shared (access ∷ following) ≡ access ∷ shared following
+shared_next access following h = rw h refl
 
-shared_split : (list before : List Access) (access : Access) (behind : List Access) → list ≡ before ++ access ∷ behind → IsTrue (is_shared (bus_address access.address)) → shared list ≡ shared before ++ access ∷ shared behind
-shared_split list before access behind e h =
-    ap shared e ∙ (filter-append _ before (access ∷ behind) ∙ ap (λ rest. shared before ++ rest) (shared_next access behind h))
+shared_split : (list before : List Access) (access : Access) (following : List Access) → list ≡ before ++ access ∷ following → IsTrue (is_shared (bus_address access.address)) → shared list ≡ shared before ++ access ∷ shared following
+shared_split list before access following e h =
+    ap shared e ∙ (filter-append _ before (access ∷ following) ∙ ap (λ rest. shared before ++ rest) (shared_next access following h))
 
 pub numbered : (list : List Access) (count : ℕ) (access : Access) → LeadsTo list count access → IsTrue (is_shared (bus_address access.address)) → slice_get (shared list) count ≡ Some access
 numbered list count access leads h =
-    rw (leads.counted, shared_split list leads.before access leads.behind leads.split h) (after_front (shared leads.before) access (shared leads.behind))
+    rw (leads.counted, shared_split list leads.before access leads.following leads.split h) (after_front (shared leads.before) access (shared leads.following))
 
 -- what stopped in the first part
 stopped : (A B : Type 0) (u v : List Access) (count used : ℕ) (stop : Stop) → GoesAlong {A = A} u count used (Err stop) → GoesAlong {A = B} (u ++ v) count used (Err stop)

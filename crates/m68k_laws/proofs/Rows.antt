@@ -67,11 +67,11 @@ unfolding bits.bit_by_number
 bit_by_number operation number mode start regs = bit operation number mode _ regs
 
 -- immediates
-immediate : (operation : Task) (size : Size) (number : ℕ) (mode : Mode) (start : ℕ) (regs : Regs) → Follows (changes size mode (immediates.behind_number size start) regs) (immediates.immediate operation size number mode start regs)
+immediate : (operation : Task) (size : Size) (number : ℕ) (mode : Mode) (start : ℕ) (regs : Regs) → Follows (changes size mode (immediates.after_number size start) regs) (immediates.immediate operation size number mode start regs)
 unfolding immediates.immediate
 immediate operation size number mode start regs = change_operand operation size number mode _ regs
 
-compare_immediate : (size : Size) (number : ℕ) (mode : Mode) (start : ℕ) (regs : Regs) → Follows (reads size mode (immediates.behind_number size start) regs) (immediates.compare_immediate size number mode start regs)
+compare_immediate : (size : Size) (number : ℕ) (mode : Mode) (start : ℕ) (regs : Regs) → Follows (reads size mode (immediates.after_number size start) regs) (immediates.compare_immediate size number mode start regs)
 unfolding immediates.compare_immediate
 compare_immediate size number mode start regs = test_operand tasks.Cmp size number mode _ regs
 

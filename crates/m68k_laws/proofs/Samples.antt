@@ -21,7 +21,7 @@ use Rattle.m68k_exec.specs.declared.sample.exception.Exception.TheVariants.{Addr
 use Rattle.m68k_laws.proofs.Causes as causes
 use Rattle.m68k_laws.proofs.Causes.{LeavesAt}
 use Rattle.m68k_laws.proofs.Decoding.{words_known}
-use Rattle.m68k_laws.proofs.Exceptions.{Caused, ComesTo, Other, exception, exception_caused, exception_other}
+use Rattle.m68k_laws.proofs.Exceptions.{Caused, Reaches, Other, exception, exception_caused, exception_other}
 use Rattle.m68k_laws.proofs.Follows.{AsksAlong, EndsAlong, GoesAlong}
 use Rattle.m68k_laws.proofs.Instructions.{row_along, completed, faulted, waited}
 use Rattle.m68k_laws.specs.Accesses.{Access, IsEven, is_odd, shared, words}
@@ -55,13 +55,13 @@ result_known regs memory fits = record {
 }
 
 -- none of a list is odd
-middle_even : (before : List Access) (access : Access) (behind : List Access) → All IsEven (before ++ access ∷ behind) → IsEven access
-middle_even [] access behind h = All-head IsEven access behind h
-middle_even (first ∷ more) access behind h = middle_even more access behind (All-tail IsEven first (more ++ access ∷ behind) h)
+middle_even : (before : List Access) (access : Access) (following : List Access) → All IsEven (before ++ access ∷ following) → IsEven access
+middle_even [] access following h = All-head IsEven access following h
+middle_even (first ∷ more) access following h = middle_even more access following (All-tail IsEven first (more ++ access ∷ following) h)
 
 no_fault : (list : List Access) (taken address : ℕ) (read : Bool) → All IsEven list → FaultsAt list taken address read → ⊥
 no_fault list taken address read even h =
-    let aligned : IsEven h.access = middle_even h.leads.before h.access h.leads.behind (subst (λ list. All IsEven list) h.leads.split even) in
+    let aligned : IsEven h.access = middle_even h.leads.before h.access h.leads.following (subst (λ list. All IsEven list) h.leads.split even) in
     let odd : IsTrue (is_odd h.access) = h.odd in
     cc
 
@@ -97,14 +97,14 @@ asks_all regs memory outcome done request true h is e = absurd (let wrong = rw i
 asks_all regs memory outcome done request false h is e =
     let some : outcome.vector ≢ 0 = grind (arith, nat_tests) in
     let list = words (frame outcome.vector outcome.regs memory) in
-    let asks : AsksAlong list (length memory.answers) done.used request = subst (λ sample. ComesTo list (length memory.answers) done.used sample) (rw is at e) (exception (named regs memory) (Numbered outcome.vector) (samples.leaves_trace regs outcome.vector) regs outcome.regs memory done h.along.enough) in (
+    let asks : AsksAlong list (length memory.answers) done.used request = subst (λ sample. Reaches list (length memory.answers) done.used sample) (rw is at e) (exception (named regs memory) (Numbered outcome.vector) (samples.leaves_trace regs outcome.vector) regs outcome.regs memory done h.along.enough) in (
       outcome.vector,
       record {
         taken = done.used;
         pushed = asks.taken;
         list = list;
         counted = asks.used;
-        comes = inr (known_after_all regs memory outcome done h some);
+        reaches = inr (known_after_all regs memory outcome done h some);
         holds = asks.waits;
       },
     )
@@ -115,7 +115,7 @@ asks_by regs memory (Err (Ask asked)) request h e =
     let is : asked ≡ request = cc in inl (subst (λ asked. WaitsAt (words_at regs memory) (length memory.answers) asked) is (waited _ _ asked h.along))
 asks_by regs memory (Err (Odd address read used)) request h e =
     let list = words (frame 3 regs memory) in
-    let asks : AsksAlong list (length memory.answers) used request = subst (λ sample. ComesTo list (length memory.answers) used sample) e (exception (named regs memory) (AddressError (opcode (instruction_words regs.pc memory)) address read) false regs regs memory (record { used = used; writes = [] }) h.along.enough) in
+    let asks : AsksAlong list (length memory.answers) used request = subst (λ sample. Reaches list (length memory.answers) used sample) e (exception (named regs memory) (AddressError (opcode (instruction_words regs.pc memory)) address read) false regs regs memory (record { used = used; writes = [] }) h.along.enough) in
     inr (
       3,
       record {
@@ -123,7 +123,7 @@ asks_by regs memory (Err (Odd address read used)) request h e =
         pushed = asks.taken;
         list = list;
         counted = asks.used;
-        comes = inl (known_after_fault regs memory address read used h);
+        reaches = inl (known_after_fault regs memory address read used h);
         holds = asks.waits;
       },
     )
@@ -161,14 +161,14 @@ ends_all regs memory outcome done ended false h is e other_ =
     let some : outcome.vector ≢ 0 = grind (arith, nat_tests) in
     let list = words (frame outcome.vector outcome.regs memory) in
     let trace = samples.leaves_trace regs outcome.vector in
-    let ends : EndsAlong list (length memory.answers) done.used ended.spent.accesses = subst (λ sample. ComesTo list (length memory.answers) done.used sample) (rw is at e) (exception (named regs memory) (Numbered outcome.vector) trace regs outcome.regs memory done h.along.enough) in (
+    let ends : EndsAlong list (length memory.answers) done.used ended.spent.accesses = subst (λ sample. Reaches list (length memory.answers) done.used sample) (rw is at e) (exception (named regs memory) (Numbered outcome.vector) trace regs outcome.regs memory done h.along.enough) in (
       outcome.vector,
       record {
         taken = done.used;
         pushed = ends.taken;
         list = list;
         counted = ends.used;
-        comes = inr (known_after_all regs memory outcome done h some);
+        reaches = inr (known_after_all regs memory outcome done h some);
         holds = ends.completes;
       },
       subst (Caused outcome.vector) (rw is at e) (exception_caused (named regs memory) (Numbered outcome.vector) trace regs outcome.regs memory done),
@@ -181,14 +181,14 @@ ends_by regs memory (Err (Odd address read used)) ended h e some =
     let list = words (frame 3 regs memory) in
     let kind = AddressError (opcode (instruction_words regs.pc memory)) address read in
     let before : Done = record { used = used; writes = [] } in
-    let ends : EndsAlong list (length memory.answers) used ended.spent.accesses = subst (λ sample. ComesTo list (length memory.answers) used sample) e (exception (named regs memory) kind false regs regs memory before h.along.enough) in (
+    let ends : EndsAlong list (length memory.answers) used ended.spent.accesses = subst (λ sample. Reaches list (length memory.answers) used sample) e (exception (named regs memory) kind false regs regs memory before h.along.enough) in (
       3,
       record {
         taken = used;
         pushed = ends.taken;
         list = list;
         counted = ends.used;
-        comes = inl (known_after_fault regs memory address read used h);
+        reaches = inl (known_after_fault regs memory address read used h);
         holds = ends.completes;
       },
       subst (Caused 3) e (exception_caused (named regs memory) kind false regs regs memory before),

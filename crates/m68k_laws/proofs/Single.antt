@@ -23,7 +23,7 @@ split list false one other h k = k refl
 
 -- one word of a list that has no other
 alone : (access : Access) → LeadsTo (access ∷ []) 0 access
-alone access = record { before = []; behind = []; split = refl; even = All-nil IsEven; counted = refl }
+alone access = record { before = []; following = []; split = refl; even = All-nil IsEven; counted = refl }
 
 alone_even : (access : Access) → IsEven access → All IsEven (access ∷ [])
 alone_even access h = All-cons IsEven access [] h (All-nil IsEven)
@@ -85,7 +85,7 @@ odd_first list first rest is odd = record {
         enough = within;
         faults = record {
           access = first;
-          leads = record { before = []; behind = rest; split = refl; even = All-nil IsEven; counted = refl };
+          leads = record { before = []; following = rest; split = refl; even = All-nil IsEven; counted = refl };
           odd = odd;
           address = refl;
           read = refl;
@@ -137,22 +137,22 @@ read Word address = read_word address
 read Long address = read_long address
 
 -- writes
-told : (access : Access) (request : Request68) → words (access ∷ []) ≡ access ∷ [] → IsEven access → IsTrue (is_shared (bus_address access.address)) → Requests access.kind access.size access.address request → Follows (access ∷ []) (actions.told request)
-unfolding actions.told
-told access request whole even h r = last _ _ _ (asked access request whole even h r) (λ answer. give _)
+reported : (access : Access) (request : Request68) → words (access ∷ []) ≡ access ∷ [] → IsEven access → IsTrue (is_shared (bus_address access.address)) → Requests access.kind access.size access.address request → Follows (access ∷ []) (actions.reported request)
+unfolding actions.reported
+reported access request whole even h r = last _ _ _ (asked access request whole even h r) (λ answer. give _)
 
 pub write_byte : (address value : ℕ) → Follows (one Write Byte address) (actions.write_byte address value)
 unfolding actions.write_byte
 write_byte address value =
     split _ (is_shared (bus_address address)) _ _
-    (λ h. told (access_of Write Byte address) (Write8 (bus_address address) value) refl refl h (value, refl))
+    (λ h. reported (access_of Write Byte address) (Write8 (bus_address address) value) refl refl h (value, refl))
     (λ h. private (access_of Write Byte address) (λ memory done. tt) (actions.with_byte (bus_address address) value) (with_byte-used (bus_address address) value) refl refl h)
 
 write_aligned : (address value : ℕ) → actions.is_odd address ≡ false → Follows (one Write Word address) (actions.write_aligned (bus_address address) value)
 unfolding actions.write_aligned
 write_aligned address value even =
     split _ (is_shared (bus_address address)) _ _
-    (λ h. told (access_of Write Word address) (Write16 (bus_address address) value) refl even h (value, refl))
+    (λ h. reported (access_of Write Word address) (Write16 (bus_address address) value) refl even h (value, refl))
     (λ h. private (access_of Write Word address) (λ memory done. tt) (actions.with_word (bus_address address) value) (with_word-used (bus_address address) value) refl even h)
 
 pub write_word : (address value : ℕ) → Follows (one Write Word address) (actions.write_word address value)

@@ -28,8 +28,8 @@ Requests kind Long address request = ⊥
 -- it is one of these accesses, with so many shared ones before it, none of which is an address error
 pub record LeadsTo (list : List Access) (count : ℕ) (access : Access) : Type 0 where
   pub before : List Access
-  pub behind : List Access
-  pub split : list ≡ before ++ access ∷ behind
+  pub following : List Access
+  pub split : list ≡ before ++ access ∷ following
   pub even : All IsEven before
   pub counted : count ≡ length (shared before)
 

@@ -45,7 +45,7 @@ pub record ReachesFrame (regs : Regs) (memory : Memory) (count number : ℕ) (Ho
   pub pushed : ℕ
   pub list : List Access
   pub counted : count ≡ taken + pushed
-  pub comes : AfterFault regs memory taken number list ⊎ AfterAll regs memory taken number list
+  pub reaches : AfterFault regs memory taken number list ⊎ AfterAll regs memory taken number list
   pub holds : Holds list pushed
 
 -- A sample of the instruction at an even program counter, of any registers and answers, where memory

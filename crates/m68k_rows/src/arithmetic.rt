@@ -63,7 +63,7 @@ fn codes(text: &str) -> Result<Flags, RowError> {
     })
 }
 
-fn codes_told(alloc: Global, flags: Flags) -> Result<String, AllocError> {
+fn codes_reported(alloc: Global, flags: Flags) -> Result<String, AllocError> {
     let [x, n, z, v, c] = [flags.x, flags.n, flags.z, flags.v, flags.c].map(u8::from);
     format!(in alloc; "{x}{n}{z}{v}{c}")
 }
@@ -80,7 +80,7 @@ pub fn computed(alloc: Global, name: &str, size: Size, rest: &str) -> Result<Str
         return Err(RowError::NoSuchLine);
     }
     let out = compute(task, size, source, target, codes(before)?);
-    let after = codes_told(alloc, out.flags)?;
+    let after = codes_reported(alloc, out.flags)?;
     Ok(format!(in alloc; "{:08X} {after}", out.value)?)
 }
 
@@ -102,5 +102,5 @@ pub fn flags_of(alloc: Global, rest: &str) -> Result<String, RowError> {
         "overflow" => Quotient::Overflow,
         _ => Quotient::Value(long(gave)?),
     };
-    Ok(codes_told(alloc, quotient.flags(codes(before)?))?)
+    Ok(codes_reported(alloc, quotient.flags(codes(before)?))?)
 }

@@ -94,7 +94,7 @@ impl Board {
     pub fn access(&mut self, alloc: Global, rest: &str) -> Result<String, RowError> {
         let value = if rest.is_empty() { 0 } else { word(rest)? };
         match take(self.chip()?, value) {
-            Some((cycle, request)) => access_told(alloc, cycle, request, value),
+            Some((cycle, request)) => access_reported(alloc, cycle, request, value),
             None => Ok(String::from_str(alloc, "no access")?),
         }
     }
@@ -189,7 +189,7 @@ impl Board {
     }
 }
 
-fn access_told(
+fn access_reported(
     alloc: Global,
     cycle: u64,
     request: Request68,

@@ -155,11 +155,11 @@ fn frame_of(alloc: Global, regs: &Regs, rest: &str) -> Result<String, RowError> 
     );
     match found {
         Frame::Halted => Ok(String::from_str(alloc, "halted")?),
-        Frame::Words(words) => Ok(words_told(alloc, words.as_slice())?),
+        Frame::Words(words) => Ok(words_reported(alloc, words.as_slice())?),
     }
 }
 
-fn words_told(alloc: Global, words: &[u16]) -> Result<String, AllocError> {
+fn words_reported(alloc: Global, words: &[u16]) -> Result<String, AllocError> {
     let mut text = String::new(alloc);
     put_words(&mut text, words)?;
     String::from_str(alloc, text.as_str().trim_start())

@@ -28,7 +28,7 @@ use Rattle.psg_sound.specs.Synth.{Synth}
 use Rattle.psg_sound.specs.declared.write.PsgWrite.{PsgWrite}
 use Rattle.psg_sound.proofs.Histories.{IsNextBatch-is, level_at-before}
 use Rattle.bus_shared.proofs.Touches.{left_by_line}
-use Rattle.bus_shared.specs.Accesses.{line_board, main_told, psg_board}
+use Rattle.bus_shared.specs.Accesses.{line_board, main_reported, psg_board}
 use Rattle.bus_shared.specs.Fm.{fm_board}
 use Rattle.bus_shared.specs.Board.{Board}
 use Rattle.md_machine.specs.Console as consoles
@@ -39,46 +39,46 @@ use Rattle.md_machine.specs.Owners.{HasOneOwner}
 use Rattle.md_machine.specs.Starts.{IsStart, Start, batches_below, first_batch}
 use Rattle.md_machine.proofs.Moves.{five-each}
 use Rattle.machine_laws.specs.Heard.{HearsLevels, HearsSides}
-use Rattle.journal_sound.specs.Heard.{after, heard_of, told, has_after, request_after}
+use Rattle.journal_sound.specs.Heard.{after, heard_of, reported, has_after, request_after}
 use Rattle.journal_sound.specs.declared.hearing.Hearing.{Hearing}
 use Rattle.journal_sound.specs.declared.sound_access.SoundAccess.TheVariants.{Nothing}
 use Rattle.machine_laws.specs.Paces.{ArePaced}
-use Rattle.machine_laws.proofs.Effects.{Tells, held_all, hearing, main-has_after, main-tells, sub_access-tells}
-use Rattle.machine_laws.proofs.Ports.{IsTold, PortHolds, PortOf, fm_port, holds-ran, main-for, none, one, sub-for, psg_port, room-for}
-use Rattle.machine_laws.proofs.Sounds.{Batch, Known, SoundMove, SoundOf, hears, known-levels, known-made, known-order, makes, tells}
+use Rattle.machine_laws.proofs.Effects.{Reports, held_all, hearing, main-has_after, main-reports, sub_access-reports}
+use Rattle.machine_laws.proofs.Ports.{IsReported, PortHolds, PortOf, fm_port, holds-ran, main-for, none, one, sub-for, psg_port, room-for}
+use Rattle.machine_laws.proofs.Sounds.{Batch, Known, SoundMove, SoundOf, hears, known-levels, known-made, known-order, makes, reports}
 
 -- ---- moves as a port hears them
 
 -- what is after an access that its entry reports
-hearing-told : (key : Key) (e : Entry) (old new : Board) → Tells key e old new → is_some new.store ≡ has_after e (is_some old.store) → hearing new ≡ after e (hearing old)
-hearing-told key e old new is has =
+hearing-reported : (key : Key) (e : Entry) (old new : Board) → Reports key e old new → is_some new.store ≡ has_after e (is_some old.store) → hearing new ≡ after e (hearing old)
+hearing-reported key e old new is has =
     λ i. record { request = is.request i; has = has i; first = is.takes.first i; second = is.takes.second i }
 
-held-by : {A : Type 0} (p : PortOf A) (ws what : List A) (key : Key) → length ws ≤ 936 → IsTold p.key p.right key what → held_all ws what ≡ ws ++ (what ++ [])
+held-by : {A : Type 0} (p : PortOf A) (ws what : List A) (key : Key) → length ws ≤ 936 → IsReported p.key p.right key what → held_all ws what ≡ ws ++ (what ++ [])
 held-by p ws what key few (none is) = ap (held_all ws) is ∙ sym (append-nil ws) ∙ ap (λ l. ws ++ (l ++ [])) (sym is)
 held-by p ws what key few (one w is at right) = ap (held_all ws) is ∙ room-for ws w few ∙ ap (λ l. ws ++ (l ++ [])) (sym is)
 
 -- what a port holds after it
-held-told : {A : Type 0} (p : PortOf A) (key : Key) (e : Entry) (old new : Board) → Tells key e old new → length (p.held old) ≤ 936
-    → IsTold p.key p.right key (p.of key (told (hearing old) e) (hearing old)) → p.held new ≡ p.held old ++ (p.of e.key (told (hearing old) e) (hearing old) ++ [])
-held-told {A = A} p key e old new is few what =
-    p.takes key (told (hearing old) e) old new is.takes ∙ held-by p (p.held old) _ key few what
-    ∙ ap (λ (k : Key). p.held old ++ (p.of k (told (hearing old) e) (hearing old) ++ [])) (sym is.at)
+held-reported : {A : Type 0} (p : PortOf A) (key : Key) (e : Entry) (old new : Board) → Reports key e old new → length (p.held old) ≤ 936
+    → IsReported p.key p.right key (p.of key (reported (hearing old) e) (hearing old)) → p.held new ≡ p.held old ++ (p.of e.key (reported (hearing old) e) (hearing old) ++ [])
+held-reported {A = A} p key e old new is few what =
+    p.takes key (reported (hearing old) e) old new is.takes ∙ held-by p (p.held old) _ key few what
+    ∙ ap (λ (k : Key). p.held old ++ (p.of k (reported (hearing old) e) (hearing old) ++ [])) (sym is.at)
 
 -- what is reported on the way from one machine to another reaches a port
-record Tell {A : Type 0} (p : PortOf A) (z : Console) (told : List Entry) (w : Console) : Type 0 where
-  hears_is : hearing w.shared ≡ hears (hearing z.shared) told
-  held : p.held w.shared ≡ p.held z.shared ++ heard_of p.of (hearing z.shared) told
+record Tell {A : Type 0} (p : PortOf A) (z : Console) (reported : List Entry) (w : Console) : Type 0 where
+  hears_is : hearing w.shared ≡ hears (hearing z.shared) reported
+  held : p.held w.shared ≡ p.held z.shared ++ heard_of p.of (hearing z.shared) reported
 
 module _ {A : Type 0} (p : PortOf A) (z : Console) where
   tell-none : (w : Console) → hearing w.shared ≡ hearing z.shared → p.held w.shared ≡ p.held z.shared → Tell p z [] w
   unfolding hears heard_of
   tell-none w same held = record { hears_is = same; held = held ∙ sym (append-nil (p.held z.shared)) }
 
-  tell-one : (key : Key) (e : Entry) (w : Console) → length (p.held z.shared) ≤ 936 → Tells key e z.shared w.shared → is_some w.shared.store ≡ has_after e (is_some z.shared.store)
-      → IsTold p.key p.right key (p.of key (told (hearing z.shared) e) (hearing z.shared)) → Tell p z (e ∷ []) w
+  tell-one : (key : Key) (e : Entry) (w : Console) → length (p.held z.shared) ≤ 936 → Reports key e z.shared w.shared → is_some w.shared.store ≡ has_after e (is_some z.shared.store)
+      → IsReported p.key p.right key (p.of key (reported (hearing z.shared) e) (hearing z.shared)) → Tell p z (e ∷ []) w
   unfolding hears heard_of
-  tell-one key e w few is has what = record { hears_is = hearing-told key e z.shared w.shared is has; held = held-told p key e z.shared w.shared is few what }
+  tell-one key e w few is has what = record { hears_is = hearing-reported key e z.shared w.shared is has; held = held-reported p key e z.shared w.shared is few what }
 
   tell-by : (b : Bool) (x y : Console) (e : Entry) → Tell p z [] x → (HasOneOwner y → Tell p z (e ∷ []) y) → HasOneOwner (cond b x y) → Tell p z (cond b [] (e ∷ [])) (cond b x y)
   tell-by true x y e first second one_owner = first
@@ -91,25 +91,25 @@ module _ {A : Type 0} (p : PortOf A) (z : Console) where
   not-same false false is = refl
 
   -- the 68000 leaves who has the Z80's RAM
-  main-tell : length (p.held z.shared) ≤ 936 → HasOneOwner z → HasOneOwner (main_moved z) → Tell p z (consoles.told z 0) (main_moved z)
-  unfolding main_moved consoles.told main_told next_of
+  main-tell : length (p.held z.shared) ≤ 936 → HasOneOwner z → HasOneOwner (main_moved z) → Tell p z (consoles.reported z 0) (main_moved z)
+  unfolding main_moved consoles.reported main_reported next_of
   main-tell few owner owner' =
       let key : Key = main_key z.main.next in
       let request = request_of z.cart z.main in
       tell-by (next_of z.main).sample _ _ _ (tell-none _ refl refl)
-      (λ after_owner. tell-one key _ _ few (main-tells z.shared key request _ _)
+      (λ after_owner. tell-one key _ _ few (main-reports z.shared key request _ _)
       (not-same _ _ (sym after_owner ∙ owner) ∙ sym (main-has_after key request _ _ (is_some z.shared.store)))
-      (p.told key _ (hearing z.shared) (main-for z.main.next _)))
+      (p.reported key _ (hearing z.shared) (main-for z.main.next _)))
       owner'
 
-  sub-tell : length (p.held z.shared) ≤ 936 → HasOneOwner (sub_moved z) → Tell p z (consoles.told z 1) (sub_moved z)
-  unfolding sub_moved consoles.told sub_next_of
+  sub-tell : length (p.held z.shared) ≤ 936 → HasOneOwner (sub_moved z) → Tell p z (consoles.reported z 1) (sub_moved z)
+  unfolding sub_moved consoles.reported sub_next_of
   sub-tell few owner' =
       let key : Key = sub_key z.sub.state.next in
       let request = asked_of z.sub.cart z.sub.state in
-      let is = sub_access-tells z.shared key request in
+      let is = sub_access-reports z.shared key request in
       tell-by (sub_next_of z.sub.state).sample _ _ _ (tell-none _ refl refl)
-      (λ after_owner. tell-one key _ _ few is.tells is.has (p.told key _ (hearing z.shared) (sub-for z.shared key request))) owner'
+      (λ after_owner. tell-one key _ _ few is.reports is.has (p.reported key _ (hearing z.shared) (sub-for z.shared key request))) owner'
 
 -- the entries of lines and batches tell nothing
 line-hearing : (board : Board) (cycle : ℕ) (note : SpriteNote) → hearing (line_board board cycle note) ≡ hearing board
@@ -118,23 +118,23 @@ line-hearing board cycle note =
     λ i. record { request = leaves.request i; has = is_some (leaves.store i); first = (leaves.fm i).first; second = (leaves.fm i).second }
 
 -- where nothing is reported a port gets nothing
-told-nothing : {A : Type 0} (p : PortOf A) (key : Key) (h : Hearing) → [] ≡ p.of key Nothing h ++ []
-told-nothing p key h = sym (append-nil (p.of key Nothing h) ∙ p.silent key h)
+reported-nothing : {A : Type 0} (p : PortOf A) (key : Key) (h : Hearing) → [] ≡ p.of key Nothing h ++ []
+reported-nothing p key h = sym (append-nil (p.of key Nothing h) ∙ p.silent key h)
 
-line-tell : {A : Type 0} (p : PortOf A) (z : Console) → Tell p z (consoles.told z 2) (line_moved z)
-unfolding line_moved consoles.told hears heard_of told request_after has_after
+line-tell : {A : Type 0} (p : PortOf A) (z : Console) → Tell p z (consoles.reported z 2) (line_moved z)
+unfolding line_moved consoles.reported hears heard_of reported request_after has_after
 line-tell p z = record {
   hears_is = line-hearing z.shared z.line z.note;
-  held = p.line z.shared z.line z.note ∙ sym (append-nil (p.held z.shared)) ∙ ap (λ l. p.held z.shared ++ l) (told-nothing p (record { cycle = z.line; chip = 2 }) (hearing z.shared));
+  held = p.line z.shared z.line z.note ∙ sym (append-nil (p.held z.shared)) ∙ ap (λ l. p.held z.shared ++ l) (reported-nothing p (record { cycle = z.line; chip = 2 }) (hearing z.shared));
 }
 
 -- a batch of the other chip, which leaves the port, and one of its own
-psg-batch-tell : (z : Console) → Tell fm_port z (consoles.told z 4) (psg_moved z)
-unfolding psg_moved psg_board fm_port consoles.told hears heard_of told request_after has_after
+psg-batch-tell : (z : Console) → Tell fm_port z (consoles.reported z 4) (psg_moved z)
+unfolding psg_moved psg_board fm_port consoles.reported hears heard_of reported request_after has_after
 psg-batch-tell z = record { hears_is = refl; held = sym (append-nil z.shared.fm.writes) }
 
-fm-batch-tell : (z : Console) → Tell psg_port z (consoles.told z 3) (fm_moved z)
-unfolding fm_moved fm_board psg_port consoles.told hears heard_of told request_after has_after
+fm-batch-tell : (z : Console) → Tell psg_port z (consoles.reported z 3) (fm_moved z)
+unfolding fm_moved fm_board psg_port consoles.reported hears heard_of reported request_after has_after
 fm-batch-tell z = record { hears_is = refl; held = sym (append-nil z.shared.psg) }
 
 -- ---- the sound generator
@@ -174,17 +174,17 @@ psg-batch-made z history past span at =
     record { made = next.out; chip = next.chip }
 
 psg-own : (z : Console) → SoundMove generator z 4
-unfolding generator moved rendered psg_port psg_moved psg_board consoles.told hears heard_of told request_after has_after
+unfolding generator moved rendered psg_port psg_moved psg_board consoles.reported hears heard_of reported request_after has_after
 psg-own z = makes refl refl refl refl (psg-batch-made z)
 
 psg-moves : (z : Console) → length z.shared.psg ≤ 936 → HasOneOwner z → (i : ℕ) → i < 5 → HasOneOwner (moved z i) → SoundMove generator z i
 unfolding generator moved rendered psg_port line_moved fm_moved
 psg-moves z few owner =
     five-each (λ i. HasOneOwner (moved z i) → SoundMove generator z i)
-    (λ owner'. let is = main-tell psg_port z few owner owner' in tells is.hears_is is.held (psg-main z).0 (psg-main z).1 refl)
-    (λ owner'. let is = sub-tell psg_port z few owner' in tells is.hears_is is.held (psg-sub z).0 (psg-sub z).1 refl)
-    (λ owner'. let is = line-tell psg_port z in tells is.hears_is is.held refl refl refl)
-    (λ owner'. let is = fm-batch-tell z in tells is.hears_is is.held refl refl refl)
+    (λ owner'. let is = main-tell psg_port z few owner owner' in reports is.hears_is is.held (psg-main z).0 (psg-main z).1 refl)
+    (λ owner'. let is = sub-tell psg_port z few owner' in reports is.hears_is is.held (psg-sub z).0 (psg-sub z).1 refl)
+    (λ owner'. let is = line-tell psg_port z in reports is.hears_is is.held refl refl refl)
+    (λ owner'. let is = fm-batch-tell z in reports is.hears_is is.held refl refl refl)
     (λ owner'. psg-own z)
 
 -- at power-on
@@ -289,18 +289,18 @@ fm-batch-made z history past span at =
     record { made = next.out; chip = next.chip }
 
 fm-own : (z : Console) → SoundMove fm_sides z 3
-unfolding fm_sides moved rendered fm_port fm_moved fm_board consoles.told hears heard_of told request_after has_after
+unfolding fm_sides moved rendered fm_port fm_moved fm_board consoles.reported hears heard_of reported request_after has_after
 fm-own z = makes refl refl refl refl (fm-batch-made z)
 
 fm-moves : (z : Console) → length z.shared.fm.writes ≤ 936 → HasOneOwner z → (i : ℕ) → i < 5 → HasOneOwner (moved z i) → SoundMove fm_sides z i
 unfolding fm_sides moved rendered fm_port line_moved psg_moved
 fm-moves z few owner =
     five-each (λ i. HasOneOwner (moved z i) → SoundMove fm_sides z i)
-    (λ owner'. let is = main-tell fm_port z few owner owner' in tells is.hears_is is.held (fm-main z).0 (fm-main z).1 refl)
-    (λ owner'. let is = sub-tell fm_port z few owner' in tells is.hears_is is.held (fm-sub z).0 (fm-sub z).1 refl)
-    (λ owner'. let is = line-tell fm_port z in tells is.hears_is is.held refl refl refl)
+    (λ owner'. let is = main-tell fm_port z few owner owner' in reports is.hears_is is.held (fm-main z).0 (fm-main z).1 refl)
+    (λ owner'. let is = sub-tell fm_port z few owner' in reports is.hears_is is.held (fm-sub z).0 (fm-sub z).1 refl)
+    (λ owner'. let is = line-tell fm_port z in reports is.hears_is is.held refl refl refl)
     (λ owner'. fm-own z)
-    (λ owner'. let is = psg-batch-tell z in tells is.hears_is is.held refl refl refl)
+    (λ owner'. let is = psg-batch-tell z in reports is.hears_is is.held refl refl refl)
 
 fm-first : (cart : List ℕ) (recording : Recorded) (pal : Bool) → Known fm_sides (power_on cart recording pal) [] no_media
 unfolding fm_sides fm_port hears heard_of fm.chip_before

@@ -25,18 +25,18 @@ use Rattle.bus_shared.specs.Fm.{fm_board, is_fm}
 use Rattle.md_machine.specs.Console.{AllBelow, Console, fm_moved, key_in, line_moved, main_moved, moved, mover, psg_moved, ran, sub_moved}
 use Rattle.md_machine.specs.Movers.{mover-lt}
 use Rattle.md_machine.proofs.Moves.{five-each}
-use Rattle.journal_sound.specs.Heard.{fm_of, psg_of, told}
+use Rattle.journal_sound.specs.Heard.{fm_of, psg_of, reported}
 use Rattle.journal_sound.specs.declared.hearing.Hearing.{Hearing}
 use Rattle.journal_sound.specs.declared.sound_access.SoundAccess.{SoundAccess}
 use Rattle.journal_sound.specs.declared.sound_access.SoundAccess.TheVariants.{Psg, Fm, Reset, Nothing}
 use Rattle.machine_laws.specs.Paces.{ArePaced, IsPaced}
-use Rattle.machine_laws.proofs.Effects.{Takes, held_all, hearing, main-tells, sub_access-tells}
+use Rattle.machine_laws.proofs.Effects.{Takes, held_all, hearing, main-reports, sub_access-reports}
 use Rattle.machine_laws.proofs.Held.{AreHeld, few-held, held-later, held-left, held-main, held-sub, main_key, sub_key}
 
 -- what an access reports to a port: nothing, or a write of its key
-pub data IsTold {A : Type 0} (key : A → Key) (right : A → Bool) (at : Key) (ws : List A) : Type 0 where
-  none : ws ≡ [] → IsTold key right at ws
-  one : (w : A) → ws ≡ w ∷ [] → key w ≡ at → right w ≡ true → IsTold key right at ws
+pub data IsReported {A : Type 0} (key : A → Key) (right : A → Bool) (at : Key) (ws : List A) : Type 0 where
+  none : ws ≡ [] → IsReported key right at ws
+  one : (w : A) → ws ≡ w ∷ [] → key w ≡ at → right w ≡ true → IsReported key right at ws
 
 -- a reset is the 68000's
 abbrev pub IsFor : Key → SoundAccess → Type 0
@@ -52,34 +52,34 @@ pub record PortOf (A : Type 0) : Type 0 where
   pub held : Board → List A
   pub of : Key → SoundAccess → Hearing → List A
   pub right : A → Bool
-  pub told : (k : Key) (t : SoundAccess) (h : Hearing) → IsFor k t → IsTold key right k (of k t h)
+  pub reported : (k : Key) (t : SoundAccess) (h : Hearing) → IsFor k t → IsReported key right k (of k t h)
   pub silent : (k : Key) (h : Hearing) → of k Nothing h ≡ []
   pub takes : (k : Key) (t : SoundAccess) (old new : Board) → Takes k t old new → held new ≡ held_all (held old) (of k t (hearing old))
   pub line : (board : Board) (cycle : ℕ) (note : SpriteNote) → held (line_board board cycle note) ≡ held board
   pub fm_batch : (board : Board) (cycle : ℕ) → held (fm_board board cycle) ≡ cond fm (left_from (λ w. (key w).cycle) cycle (held board)) (held board)
   pub psg_batch : (board : Board) (cycle : ℕ) → held (psg_board board cycle) ≡ cond fm (held board) (left_from (λ w. (key w).cycle) cycle (held board))
 
-pub psg_told : (k : Key) (t : SoundAccess) → IsTold (λ (w : PsgWrite). w.key) (λ w. true) k (psg_of k t)
-psg_told k (Psg value) = one (record { key = k; value = value }) refl refl refl
-psg_told k (Fm address value) = none refl
-psg_told k Reset = none refl
-psg_told k Nothing = none refl
+pub psg_reported : (k : Key) (t : SoundAccess) → IsReported (λ (w : PsgWrite). w.key) (λ w. true) k (psg_of k t)
+psg_reported k (Psg value) = one (record { key = k; value = value }) refl refl refl
+psg_reported k (Fm address value) = none refl
+psg_reported k Reset = none refl
+psg_reported k Nothing = none refl
 
-fm_told-by : (a b c : Bool) (k : Key) (first second : FmWrite) → first.key ≡ k → second.key ≡ k → is_write (saved_write_of first) ≡ true → is_write (saved_write_of second) ≡ true
-    → IsTold (λ (w : FmWrite). w.key) (λ w. is_write (saved_write_of w)) k (cond a [] (cond b [] (cond c (first ∷ []) (second ∷ []))))
-fm_told-by true b c k first second is is' right right' = none refl
-fm_told-by false true c k first second is is' right right' = none refl
-fm_told-by false false true k first second is is' right right' = one first refl is right
-fm_told-by false false false k first second is is' right right' = one second refl is' right'
+fm_reported-by : (a b c : Bool) (k : Key) (first second : FmWrite) → first.key ≡ k → second.key ≡ k → is_write (saved_write_of first) ≡ true → is_write (saved_write_of second) ≡ true
+    → IsReported (λ (w : FmWrite). w.key) (λ w. is_write (saved_write_of w)) k (cond a [] (cond b [] (cond c (first ∷ []) (second ∷ []))))
+fm_reported-by true b c k first second is is' right right' = none refl
+fm_reported-by false true c k first second is is' right right' = none refl
+fm_reported-by false false true k first second is is' right right' = one first refl is right
+fm_reported-by false false false k first second is is' right right' = one second refl is' right'
 
 reset-right : (n : ℕ) → n ≡ 0 → ((n == 0) && true) ≡ true
 reset-right n is = grind (arith, is)
 
-pub fm_told : (k : Key) (t : SoundAccess) (h : Hearing) → IsFor k t → IsTold (λ (w : FmWrite). w.key) (λ w. is_write (saved_write_of w)) k (fm_of k t h)
-fm_told k (Psg value) h is = none refl
-fm_told k (Fm address value) h is = fm_told-by (address == 0) (address == 2) (address == 1) k _ _ refl refl refl refl
-fm_told k Reset h is = one _ refl refl (reset-right k.chip is)
-fm_told k Nothing h is = none refl
+pub fm_reported : (k : Key) (t : SoundAccess) (h : Hearing) → IsFor k t → IsReported (λ (w : FmWrite). w.key) (λ w. is_write (saved_write_of w)) k (fm_of k t h)
+fm_reported k (Psg value) h is = none refl
+fm_reported k (Fm address value) h is = fm_reported-by (address == 0) (address == 2) (address == 1) k _ _ refl refl refl refl
+fm_reported k Reset h is = one _ refl refl (reset-right k.chip is)
+fm_reported k Nothing h is = none refl
 
 pub psg-line : (board : Board) (cycle : ℕ) (note : SpriteNote) → (line_board board cycle note).psg ≡ board.psg
 psg-line board cycle note = let leaves = left_by_line board cycle note in leaves.psg
@@ -95,7 +95,7 @@ psg_port = record {
   held = λ board. board.psg;
   of = λ k t h. psg_of k t;
   right = λ w. true;
-  told = λ k t h is. psg_told k t;
+  reported = λ k t h is. psg_reported k t;
   silent = λ k h. refl;
   takes = λ k t old new is. is.psg;
   line = psg-line;
@@ -111,7 +111,7 @@ fm_port = record {
   held = λ board. board.fm.writes;
   of = fm_of;
   right = λ w. is_write (saved_write_of w);
-  told = fm_told;
+  reported = fm_reported;
   silent = λ k h. refl;
   takes = λ k t old new is. is.fm;
   line = fm-line;
@@ -152,19 +152,19 @@ space-for true c k at value = tt
 space-for false true k at value = tt
 space-for false false k at value = tt
 
-yielded-for : (b : Bool) (h : Hearing) (board : Board) (key k : Key) (store : Store) → IsFor k (told h (yielded b board key store).entry)
-unfolding told
+yielded-for : (b : Bool) (h : Hearing) (board : Board) (key k : Key) (store : Store) → IsFor k (reported h (yielded b board key store).entry)
+unfolding reported
 yielded-for true h board key k store = tt
 yielded-for false h board key k store = tt
 
-taken-for : (b : Bool) (store : Option Store) (h : Hearing) (board : Board) (key k : Key) → IsFor k (told h (taken_back b store board key).entry)
-unfolding told
+taken-for : (b : Bool) (store : Option Store) (h : Hearing) (board : Board) (key k : Key) → IsFor k (reported h (taken_back b store board key).entry)
+unfolding reported
 taken-for true store h board key k = tt
 taken-for false None h board key k = tt
 taken-for false (Some store) h board key k = tt
 
-pub sub-for : (board : Board) (key : Key) (request : RequestValue80) → IsFor key (told (hearing board) (sub_access board key request).entry)
-unfolding sub_access told
+pub sub-for : (board : Board) (key : Key) (request : RequestValue80) → IsFor key (reported (hearing board) (sub_access board key request).entry)
+unfolding sub_access reported
 sub-for board key (ReadByte at) = tt
 sub-for board key (WriteByte at value) = space-for (is_psg80 at) (is_fm at) key at value
 sub-for board key (HandOver store) = yielded-for board.request (hearing board) board key key store
@@ -172,25 +172,25 @@ sub-for board key TakeBack = taken-for board.request board.store (hearing board)
 
 module _ {A : Type 0} (p : PortOf A) (end : ℕ) where
   -- a write of the 68000 at its next event, and of the Z80, where there is one
-  main-told : (from main sub main' : ℕ) (ws new told : List A) → IsTold p.key p.right (main_key main) told → new ≡ held_all ws told
+  main-reported : (from main sub main' : ℕ) (ws new reported : List A) → IsReported p.key p.right (main_key main) reported → new ≡ held_all ws reported
       → main < end → main ≤ from + 16128 → main ≤ sub → main + 28 ≤ main' → AreHeld p.key from end main sub ws → AreHeld p.key from end main' sub new
-  main-told from main sub main' ws new told (none is) new_is high batch before next held =
+  main-reported from main sub main' ws new reported (none is) new_is high batch before next held =
       subst (AreHeld p.key from end main' sub) (sym (new_is ∙ ap (held_all ws) is)) (held-later p.key from end main sub main' sub ws (omega (arith, next)) (omega arith) held)
-  main-told from main sub main' ws new told (one w is at right) new_is high batch before next held =
+  main-reported from main sub main' ws new reported (one w is at right) new_is high batch before next held =
       subst (AreHeld p.key from end main' sub) (sym (new_is ∙ ap (held_all ws) is ∙ room-for ws w (few-held p.key from end main sub ws held)))
       (held-main p.key from end main sub main' ws w at high batch before next held)
 
-  sub-told : (from main sub sub' : ℕ) (ws new told : List A) → IsTold p.key p.right (sub_key sub) told → new ≡ held_all ws told
+  sub-reported : (from main sub sub' : ℕ) (ws new reported : List A) → IsReported p.key p.right (sub_key sub) reported → new ≡ held_all ws reported
       → sub < end → sub ≤ from + 16128 → sub < main → sub + 45 ≤ sub' → AreHeld p.key from end main sub ws → AreHeld p.key from end main sub' new
-  sub-told from main sub sub' ws new told (none is) new_is high batch before next held =
+  sub-reported from main sub sub' ws new reported (none is) new_is high batch before next held =
       subst (AreHeld p.key from end main sub') (sym (new_is ∙ ap (held_all ws) is)) (held-later p.key from end main sub main sub' ws (omega arith) (omega (arith, next)) held)
-  sub-told from main sub sub' ws new told (one w is at right) new_is high batch before next held =
+  sub-reported from main sub sub' ws new reported (one w is at right) new_is high batch before next held =
       subst (AreHeld p.key from end main sub') (sym (new_is ∙ ap (held_all ws) is ∙ room-for ws w (few-held p.key from end main sub ws held)))
       (held-sub p.key from end main sub sub' ws w at high batch before next held)
 
-  right-told : (at : Key) (ws new told : List A) → IsTold p.key p.right at told → new ≡ held_all ws told → All (λ w. p.right w ≡ true) ws → All (λ w. p.right w ≡ true) new
-  right-told at ws new told (none is) new_is all = subst (All (λ w. p.right w ≡ true)) (sym (new_is ∙ ap (held_all ws) is)) all
-  right-told at ws new told (one w is same right) new_is all =
+  right-reported : (at : Key) (ws new reported : List A) → IsReported p.key p.right at reported → new ≡ held_all ws reported → All (λ w. p.right w ≡ true) ws → All (λ w. p.right w ≡ true) new
+  right-reported at ws new reported (none is) new_is all = subst (All (λ w. p.right w ≡ true)) (sym (new_is ∙ ap (held_all ws) is)) all
+  right-reported at ws new reported (one w is same right) new_is all =
       subst (All (λ v. p.right v ≡ true)) (sym (new_is ∙ ap (held_all ws) is)) (All-held_with (λ v. p.right v ≡ true) ws w all right)
 
   main_by : (b : Bool) (x y : Console) (m : ℕ) → (m ≤ x.main.next → PortHolds p end x) → (m ≤ y.main.next → PortHolds p end y)
@@ -219,9 +219,9 @@ module _ {A : Type 0} (p : PortOf A) (end : ℕ) where
       (λ late. record {
         from = holds.from;
         next = holds.next;
-        held = main-told holds.from z.main.next z.sub.state.next _ (p.held z.shared) _ _ (p.told next _ (hearing z.shared) (main-for z.main.next _))
-            (p.takes next _ z.shared _ (main-tells z.shared next (request_of z.cart z.main) 0 0).takes) below soon sub_late late holds.held;
-        right = right-told next (p.held z.shared) _ _ (p.told next _ (hearing z.shared) (main-for z.main.next _)) (p.takes next _ z.shared _ (main-tells z.shared next (request_of z.cart z.main) 0 0).takes) holds.right;
+        held = main-reported holds.from z.main.next z.sub.state.next _ (p.held z.shared) _ _ (p.reported next _ (hearing z.shared) (main-for z.main.next _))
+            (p.takes next _ z.shared _ (main-reports z.shared next (request_of z.cart z.main) 0 0).takes) below soon sub_late late holds.held;
+        right = right-reported next (p.held z.shared) _ _ (p.reported next _ (hearing z.shared) (main-for z.main.next _)) (p.takes next _ z.shared _ (main-reports z.shared next (request_of z.cart z.main) 0 0).takes) holds.right;
       })
       paced.later
 
@@ -237,10 +237,10 @@ module _ {A : Type 0} (p : PortOf A) (end : ℕ) where
       (λ late. record {
         from = holds.from;
         next = holds.next;
-        held = sub-told holds.from z.main.next z.sub.state.next _ (p.held z.shared) _ _ (p.told next _ (hearing z.shared) (sub-for z.shared next (asked_of z.sub.cart z.sub.state)))
-            (p.takes next _ z.shared _ (sub_access-tells z.shared next (asked_of z.sub.cart z.sub.state)).tells.takes) below soon main_late late holds.held;
-        right = right-told next (p.held z.shared) _ _ (p.told next _ (hearing z.shared) (sub-for z.shared next (asked_of z.sub.cart z.sub.state)))
-            (p.takes next _ z.shared _ (sub_access-tells z.shared next (asked_of z.sub.cart z.sub.state)).tells.takes) holds.right;
+        held = sub-reported holds.from z.main.next z.sub.state.next _ (p.held z.shared) _ _ (p.reported next _ (hearing z.shared) (sub-for z.shared next (asked_of z.sub.cart z.sub.state)))
+            (p.takes next _ z.shared _ (sub_access-reports z.shared next (asked_of z.sub.cart z.sub.state)).reports.takes) below soon main_late late holds.held;
+        right = right-reported next (p.held z.shared) _ _ (p.reported next _ (hearing z.shared) (sub-for z.shared next (asked_of z.sub.cart z.sub.state)))
+            (p.takes next _ z.shared _ (sub_access-reports z.shared next (asked_of z.sub.cart z.sub.state)).reports.takes) holds.right;
       })
       paced.later
 

@@ -54,7 +54,7 @@ use Rattle.bus_shared.specs.declared.port.VideoPort.TheVariants.{Data, Control, 
 use Rattle.bus_shared.specs.declared.register.Register.{Register}
 use Rattle.bus_shared.specs.declared.register.Register.TheVariants.{Version, Data1, Data2, DataExpansion, Control1, Control2, Unused}
 use Rattle.md_machine.specs.Console.{AllBelow, Console, IsRunTo, fm_moved, key_in, line_moved, main_moved, moved, mover, power_on, psg_moved, ran, sub_accessed, sub_moved}
-use Rattle.md_machine.specs.Laws.{answer-fits, handed-board, main-low, sub-low, told-fits}
+use Rattle.md_machine.specs.Laws.{answer-fits, handed-board, main-low, sub-low, reported-fits}
 use Rattle.md_machine.specs.Media.{Media}
 use Rattle.md_machine.specs.Owners.{HasOneOwner}
 use Rattle.md_machine.specs.Movers.{mover-lt}
@@ -184,11 +184,11 @@ begun_sees cart state pins few =
     let here = seen_sees state pins few in
     omega (arith, same, here)
 
-answered_same : (stage : Stage) (cart : List ℕ) (state : State80) (told : AnswerValue80) → (events80.answered_at stage cart state told).resets ≡ state.resets
-answered_same Sample cart state told = refl
-answered_same Access cart state told = went_same cart _ state.cause
-answered_same Yield cart state told = refl
-answered_same Take cart state told = refl
+answered_same : (stage : Stage) (cart : List ℕ) (state : State80) (reported : AnswerValue80) → (events80.answered_at stage cart state reported).resets ≡ state.resets
+answered_same Sample cart state reported = refl
+answered_same Access cart state reported = went_same cart _ state.cause
+answered_same Yield cart state reported = refl
+answered_same Take cart state reported = refl
 
 -- ---- the moves, chip by chip
 
@@ -212,9 +212,9 @@ handed_kind : (state : State80) → (sub_next_of state).sample ≡ false → (su
 unfolding sub_next_of handed
 handed_kind state kind = kind
 
-answered_sees : (cart : List ℕ) (state : State80) (told : AnswerValue80) → (events80.answered cart (handed state) told).resets ≡ state.resets
+answered_sees : (cart : List ℕ) (state : State80) (reported : AnswerValue80) → (events80.answered cart (handed state) reported).resets ≡ state.resets
 unfolding events80.answered handed
-answered_sees cart state told = answered_same state.stage cart (record state { store = events80.kept_at state.stage state.store }) told
+answered_sees cart state reported = answered_same state.stage cart (record state { store = events80.kept_at state.stage state.store }) reported
 
 fm_resets : (board : Board) (cycle : ℕ) → (fm_board board cycle).resets ≡ board.resets
 unfolding fm_board
@@ -272,7 +272,7 @@ sub_rest at z below rest =
       one_cart = rest.one_cart;
       resets = begun_sees z.sub.cart z.sub.state (sub_pins z.shared) rest.resets;
     })
-    (λ kind. (let fits = told-fits (record { chip = z.sub; answer = None }) z.shared valid.sub valid.shared in
+    (λ kind. (let fits = reported-fits (record { chip = z.sub; answer = None }) z.shared valid.sub valid.shared in
     record {
       valid = record {
         main = valid.main;

@@ -13,7 +13,7 @@ use Rattle.z80_parcel.specs.Parcels.{Store}
 use Rattle.z80_parcel.specs.Requests.{RequestValue80, ReadByte, WriteByte, HandOver, TakeBack}
 use Rattle.vdp_ports.specs.Vdp.{Vdp}
 use Rattle.bus_shared.proofs.Touches.{left_by_line}
-use Rattle.bus_shared.specs.Accesses.{SubOutcome, line_board, main_answer, main_board, main_cost, main_told, main_transfer, main_value, pads_board, psg_board, sub_access, taken_back, video_started, yielded}
+use Rattle.bus_shared.specs.Accesses.{SubOutcome, line_board, main_answer, main_board, main_cost, main_reported, main_transfer, main_value, pads_board, psg_board, sub_access, taken_back, video_started, yielded}
 use Rattle.bus_shared.specs.Areas.{byte_at, byte_in, byte_written_at, byte_written_in, read_at, read_in, transfer_at, transfer_in, word_at, word_in, word_written_at, word_written_in}
 use Rattle.bus_shared.specs.Board.{Board}
 use Rattle.bus_shared.specs.Entries.{main_entry}
@@ -108,9 +108,9 @@ unfolding main_answer
 answer-is s b key request =
     λ i. record { value = value-is s b key request i; transfer = started-is s b key request i; cost = cost-is s b key request i }
 
-pub told-is : (s : List Frame) (b : Board) (key : Key) (request : Request68) → main_told (board_with s b) key request ≡ main_told b key request
-unfolding main_told
-told-is s b key request = ap (λ (value : ℕ). main_entry key request value b.vdp.a) (value-is s b key request)
+pub reported-is : (s : List Frame) (b : Board) (key : Key) (request : Request68) → main_reported (board_with s b) key request ≡ main_reported b key request
+unfolding main_reported
+reported-is s b key request = ap (λ (value : ℕ). main_entry key request value b.vdp.a) (value-is s b key request)
 
 -- ---- the 68000: what it leaves
 

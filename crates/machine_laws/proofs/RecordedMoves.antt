@@ -9,17 +9,17 @@ use Rattle.m68k_chip.specs.States.{next_of}
 use Rattle.z80_chip.specs.Events as events80
 use Rattle.z80_chip.specs.Events.{asked_of, handed}
 use Rattle.z80_chip.specs.States.{next_of as sub_next_of}
-use Rattle.vdp_chip.specs.Drawing.{Drawing}
+use Rattle.vdp_chip.specs.RendererState.{RendererState}
 use Rattle.vdp_planes.specs.View.{view_of}
 use Rattle.vdp_ports.specs.Control.{level}
 use Rattle.vdp_ports.specs.Vdp.{Vdp}
 use Rattle.bus_shared.specs.Board.{Board}
 use Rattle.bus_shared.specs.Entries.{line_entry}
-use Rattle.md_machine.specs.Console.{Console, drawing_in, fm_moved, key_in, line_done, line_moved, main_moved, moved, psg_moved, rendered, sub_accessed, sub_moved, told}
+use Rattle.md_machine.specs.Console.{Console, renderer_state_in, fm_moved, key_in, line_done, line_moved, main_moved, moved, psg_moved, rendered, sub_accessed, sub_moved, reported}
 use Rattle.md_machine.specs.Lines.{drawn_from, frames_of}
 use Rattle.md_machine.proofs.Moves.{five-each}
 use Rattle.machine_laws.specs.Recorded.{AreAlikeBelow, board_with, frame_at, with_frames}
-use Rattle.machine_laws.proofs.RecordedBoard.{IsSame, answer-is, fm-with, line-region, line-vdp, line-with, line_pal, main-with, psg-with, sub-is, told-is}
+use Rattle.machine_laws.proofs.RecordedBoard.{IsSame, answer-is, fm-with, line-region, line-vdp, line-with, line_pal, main-with, psg-with, sub-is, reported-is}
 
 -- ---- the moves
 
@@ -48,7 +48,7 @@ sub-moved s m =
 
 line-done : (s : List Frame) (m : Console) → line_done (with_frames s m) ≡ line_done m
 line-done s m =
-    ap (λ (v : Vdp). drawn_from (view_of m.pal v) (drawing_in m)) (line-vdp m.line (board_with s m.shared) m.note ∙ sym (line-vdp m.line m.shared m.note))
+    ap (λ (v : Vdp). drawn_from (view_of m.pal v) (renderer_state_in m)) (line-vdp m.line (board_with s m.shared) m.note ∙ sym (line-vdp m.line m.shared m.note))
 
 -- the frame of a line that takes the pads' words
 frame-of : (pal : Bool) (c end : ℕ) → c < end → c % frame_cycles pal ≡ finished_at pal → frame_cycles pal * (c / frame_cycles pal) + finished_at pal < end
@@ -65,7 +65,7 @@ unfolding line_moved
 line-moved s end m alike below =
     let same : AreAlikeBelow (line_pal m.line m.note m.shared) end m.shared.recording.frames s =
     subst (λ (pal : Bool). AreAlikeBelow pal end m.shared.recording.frames s) (sym (line-region m.line m.shared m.note)) alike in
-    ap₂ (λ (d : Drawing) (b : Board). record m { note = d.note; picture = d.picture; line = m.line + 3420; shared = b })
+    ap₂ (λ (d : RendererState) (b : Board). record m { note = d.note; picture = d.picture; line = m.line + 3420; shared = b })
     (sym (line-done s m)) (line-with s m.line m.shared m.note (taken s end (line_pal m.line m.note m.shared) m.line m.shared.recording.frames same below))
 
 fm-moved : (s : List Frame) (m : Console) → with_frames s (fm_moved m) ≡ fm_moved (with_frames s m)
@@ -84,11 +84,11 @@ moved-with s end m alike =
 
 -- ---- what they tell and render
 
-pub told-with : (s : List Frame) (m : Console) (i : ℕ) → i < 5 → told (with_frames s m) i ≡ told m i
-unfolding told
-told-with s m =
-    five-each (λ i. told (with_frames s m) i ≡ told m i)
-    (ap (λ (t : Entry). cond (next_of m.main).sample [] (t ∷ [])) (told-is s m.shared (next_of m.main).key (request_of m.cart m.main)))
+pub reported-with : (s : List Frame) (m : Console) (i : ℕ) → i < 5 → reported (with_frames s m) i ≡ reported m i
+unfolding reported
+reported-with s m =
+    five-each (λ i. reported (with_frames s m) i ≡ reported m i)
+    (ap (λ (t : Entry). cond (next_of m.main).sample [] (t ∷ [])) (reported-is s m.shared (next_of m.main).key (request_of m.cart m.main)))
     (ap (λ (t : Entry). cond (sub_next_of m.sub.state).sample [] (t ∷ [])) (sub-is s m.shared (sub_next_of m.sub.state).key (asked_of m.sub.cart m.sub.state)).entry)
     (ap (λ (v : Vdp). line_entry v.pal (record { cycle = m.line; chip = 2 }) (level v) ∷ []) (line-vdp m.line (board_with s m.shared) m.note ∙ sym (line-vdp m.line m.shared m.note)))
     refl
@@ -100,6 +100,6 @@ rendered-with s m =
     five-each (λ i. rendered (with_frames s m) i ≡ rendered m i)
     refl
     refl
-    (ap (λ (d : Drawing). record { frames = frames_of d.frame; sides = []; levels = [] }) (line-done s m))
+    (ap (λ (d : RendererState). record { frames = frames_of d.frame; sides = []; levels = [] }) (line-done s m))
     refl
     refl

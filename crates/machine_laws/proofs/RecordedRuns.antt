@@ -3,12 +3,12 @@ use Rattle.std.proofs.Common.{◌≡◌, ◌∙◌, refl, sym, ap, ap₂, subst,
 use Rattle.md_word.specs.declared.event.Entry.{Entry}
 use Rattle.md_word.specs.declared.key.Key.{Key}
 use Rattle.md_pads.specs.Recording.{Frame}
-use Rattle.md_machine.specs.Console.{AllBelow, Console, IsRunTo, journal, key_in, media_after, moved, mover, ran, rendered, told}
+use Rattle.md_machine.specs.Console.{AllBelow, Console, IsRunTo, journal, key_in, media_after, moved, mover, ran, rendered, reported}
 use Rattle.md_machine.specs.Media.{Media, joined}
 use Rattle.md_machine.specs.Movers.{mover-lt}
 use Rattle.md_machine.proofs.Regions.{ran_stays}
 use Rattle.machine_laws.specs.Recorded.{AreAlikeBelow, with_frames}
-use Rattle.machine_laws.proofs.RecordedMoves.{moved-with, rendered-with, told-with}
+use Rattle.machine_laws.proofs.RecordedMoves.{moved-with, rendered-with, reported-with}
 
 -- the recording is no part of the keys
 key-with : (s : List Frame) (m : Console) (i : ℕ) → key_in (with_frames s m) i ≡ key_in m i
@@ -28,8 +28,8 @@ move-both : (s : List Frame) (end : ℕ) (m : Console) → AreAlikeBelow m.share
 move-both s end m alike below =
     moved-with s end m alike (mover m) (mover-lt m) below ∙ ap (moved (with_frames s m)) (sym (mover-with s m))
 
-told-both : (s : List Frame) (m : Console) → told m (mover m) ≡ told (with_frames s m) (mover (with_frames s m))
-told-both s m = sym (told-with s m (mover m) (mover-lt m)) ∙ ap (told (with_frames s m)) (sym (mover-with s m))
+reported-both : (s : List Frame) (m : Console) → reported m (mover m) ≡ reported (with_frames s m) (mover (with_frames s m))
+reported-both s m = sym (reported-with s m (mover m) (mover-lt m)) ∙ ap (reported (with_frames s m)) (sym (mover-with s m))
 
 rendered-both : (s : List Frame) (m : Console) → rendered m (mover m) ≡ rendered (with_frames s m) (mover (with_frames s m))
 rendered-both s m = sym (rendered-with s m (mover m) (mover-lt m)) ∙ ap (rendered (with_frames s m)) (sym (mover-with s m))
@@ -65,7 +65,7 @@ alike_after r s end m same (suc n) below =
     record {
       has = own ∙ ap (λ (x : Console). moved x (mover x)) before.has;
       console = other ∙ ap (λ (x : Console). moved x (mover x)) before.console;
-      entered = ap₂ (λ (x y : List Entry). x ++ y) before.entered (told-both s a ∙ ap (λ (x : Console). told x (mover x)) before.console);
+      entered = ap₂ (λ (x y : List Entry). x ++ y) before.entered (reported-both s a ∙ ap (λ (x : Console). reported x (mover x)) before.console);
       shown = ap₂ joined before.shown (rendered-both s a ∙ ap (λ (x : Console). rendered x (mover x)) before.console);
     }
 

@@ -24,7 +24,7 @@ use Rattle.vdp_ports.specs.Vdp.{Vdp}
 use Rattle.z80_parcel.specs.Parcels.{Store, is_ram, ram_place}
 use Rattle.z80_parcel.specs.Requests.{RequestValue80, ReadByte, WriteByte, HandOver, TakeBack, Byte}
 use Rattle.bus_shared.proofs.Unseen.{same-if, unseen}
-use Rattle.bus_shared.specs.Accesses.{SubOutcome, level_of, line_board, main_answer, main_board, main_told, main_transfer, main_value, main_cost, pads_board, psg_board, sub_access, sub_pins, taken_back, video_started, yielded}
+use Rattle.bus_shared.specs.Accesses.{SubOutcome, level_of, line_board, main_answer, main_board, main_reported, main_transfer, main_value, main_cost, pads_board, psg_board, sub_access, sub_pins, taken_back, video_started, yielded}
 use Rattle.bus_shared.specs.Areas.{byte_at, byte_in, byte_written_at, byte_written_in, read_at, read_in, transfer_at, transfer_in, word_at, word_in, word_written_at, word_written_in}
 use Rattle.bus_shared.specs.Board.{Board}
 use Rattle.bus_shared.specs.Entries.{main_entry, sub_entry}
@@ -222,9 +222,9 @@ unfolding main_answer
 answer-same e b key request order =
     λ i. record { value = value-same e b key request order i; transfer = started-same e b key request order i; cost = cost-same e b key request order i }
 
-pub told-same : (e : ℕ) (b : Board) (key : Key) (request : Request68) → e ≤ key.cycle → main_told (settled_board e b) key request ≡ main_told b key request
-unfolding main_told
-told-same e b key request order = ap₂ (λ (value a : ℕ). main_entry key request value a) (value-same e b key request order) (address-stays e b.vdp)
+pub reported-same : (e : ℕ) (b : Board) (key : Key) (request : Request68) → e ≤ key.cycle → main_reported (settled_board e b) key request ≡ main_reported b key request
+unfolding main_reported
+reported-same e b key request order = ap₂ (λ (value a : ℕ). main_entry key request value a) (value-same e b key request order) (address-stays e b.vdp)
 
 -- ---- the 68000: what it leaves
 

@@ -6,17 +6,17 @@ use Rattle.m68k_chip.specs.States.{next_of}
 use Rattle.z80_chip.specs.Events as events80
 use Rattle.z80_chip.specs.Events.{asked_of, handed}
 use Rattle.z80_chip.specs.States.{next_of as sub_next_of}
-use Rattle.vdp_chip.specs.Drawing.{Drawing}
+use Rattle.vdp_chip.specs.RendererState.{RendererState}
 use Rattle.vdp_planes.specs.View.{view_of}
 use Rattle.vdp_ports.specs.Vdp.{Vdp}
 use Rattle.vdp_ports.specs.Control.{level}
 use Rattle.bus_shared.specs.Board.{Board}
 use Rattle.bus_shared.specs.Entries.{line_entry}
-use Rattle.md_machine.specs.Console.{Console, drawing_in, fm_moved, key_in, line_done, line_moved, main_moved, moved, psg_moved, rendered, sub_accessed, sub_moved, told}
+use Rattle.md_machine.specs.Console.{Console, renderer_state_in, fm_moved, key_in, line_done, line_moved, main_moved, moved, psg_moved, rendered, sub_accessed, sub_moved, reported}
 use Rattle.md_machine.specs.Lines.{drawn_from, frames_of}
 use Rattle.md_machine.proofs.Moves.{five-each}
 use Rattle.save_state.specs.States.{settled_console}
-use Rattle.machine_laws.proofs.SettledBoard.{IsSame, again, answer-same, fm-batch-same, level-same, line-same, line-vdp-same, main-same, psg-batch-same, sub-pins-same, sub-same, told-same}
+use Rattle.machine_laws.proofs.SettledBoard.{IsSame, again, answer-same, fm-batch-same, level-same, line-same, line-vdp-same, main-same, psg-batch-same, sub-pins-same, sub-same, reported-same}
 
 -- ---- the moves
 
@@ -53,12 +53,12 @@ sub-moved e m order =
     })
 
 line-done-same : (e : ℕ) (m : Console) → e ≤ m.line → line_done (settled_console e m) ≡ line_done m
-line-done-same e m order = ap (λ (v : Vdp). drawn_from (view_of m.pal v) (drawing_in m)) (line-vdp-same e m.line m.shared m.note order)
+line-done-same e m order = ap (λ (v : Vdp). drawn_from (view_of m.pal v) (renderer_state_in m)) (line-vdp-same e m.line m.shared m.note order)
 
 line-moved : (e : ℕ) (m : Console) → e ≤ m.line → settled_console e (line_moved (settled_console e m)) ≡ settled_console e (line_moved m)
 unfolding line_moved
 line-moved e m order =
-    ap₂ (λ (d : Drawing) (b : Board). record m { note = d.note; picture = d.picture; line = m.line + 3420; shared = b })
+    ap₂ (λ (d : RendererState) (b : Board). record m { note = d.note; picture = d.picture; line = m.line + 3420; shared = b })
     (line-done-same e m order) (line-same e m.line m.shared m.note order)
 
 fm-moved : (e : ℕ) (m : Console) → settled_console e (fm_moved (settled_console e m)) ≡ settled_console e (fm_moved m)
@@ -77,11 +77,11 @@ moved-same m e i =
 
 -- ---- what they tell and render
 
-pub told-alike : (m : Console) (e i : ℕ) → i < 5 → e ≤ (key_in m i).cycle → told (settled_console e m) i ≡ told m i
-unfolding told key_in
-told-alike m e i =
-    five-each (λ i. e ≤ (key_in m i).cycle → told (settled_console e m) i ≡ told m i)
-    (λ order. ap (λ (t : Entry). cond (next_of m.main).sample [] (t ∷ [])) (told-same e m.shared (next_of m.main).key (request_of m.cart m.main) order))
+pub reported-alike : (m : Console) (e i : ℕ) → i < 5 → e ≤ (key_in m i).cycle → reported (settled_console e m) i ≡ reported m i
+unfolding reported key_in
+reported-alike m e i =
+    five-each (λ i. e ≤ (key_in m i).cycle → reported (settled_console e m) i ≡ reported m i)
+    (λ order. ap (λ (t : Entry). cond (next_of m.main).sample [] (t ∷ [])) (reported-same e m.shared (next_of m.main).key (request_of m.cart m.main) order))
     (λ order. ap (λ (t : Entry). cond (sub_next_of m.sub.state).sample [] (t ∷ []))
     (sub-same e m.shared (sub_next_of m.sub.state).key (asked_of m.sub.cart m.sub.state) order).entry)
     (λ order. ap (λ (v : Vdp). line_entry v.pal (record { cycle = m.line; chip = 2 }) (level v) ∷ []) (line-vdp-same e m.line m.shared m.note order))
@@ -95,7 +95,7 @@ rendered-alike m e i =
     five-each (λ i. e ≤ (key_in m i).cycle → rendered (settled_console e m) i ≡ rendered m i)
     (λ order. refl)
     (λ order. refl)
-    (λ order. ap (λ (d : Drawing). record { frames = frames_of d.frame; sides = []; levels = [] }) (line-done-same e m order))
+    (λ order. ap (λ (d : RendererState). record { frames = frames_of d.frame; sides = []; levels = [] }) (line-done-same e m order))
     (λ order. refl)
     (λ order. refl)
     i

@@ -3,13 +3,13 @@ use Rattle.std.proofs.Common.{◌≡◌, ◌∙◌, refl, sym, ap, ap₂, subst,
 use Rattle.md_word.specs.declared.event.Entry.{Entry}
 use Rattle.md_word.specs.declared.key.Key.{Key}
 use Rattle.bus_shared.specs.Board.{Board}
-use Rattle.md_machine.specs.Console.{Console, IsRunTo, journal, key_in, media_after, moved, mover, ran, rendered, told}
+use Rattle.md_machine.specs.Console.{Console, IsRunTo, journal, key_in, media_after, moved, mover, ran, rendered, reported}
 use Rattle.md_machine.specs.Media.{Media, joined}
 use Rattle.md_machine.specs.Movers.{mover-lt}
 use Rattle.save_state.specs.States.{settled_console}
 use Rattle.machine_laws.specs.Settling.{AllFrom, GoesOn}
 use Rattle.machine_laws.proofs.SettledBoard.{settled-later}
-use Rattle.machine_laws.proofs.SettledMoves.{moved-same, rendered-alike, told-alike}
+use Rattle.machine_laws.proofs.SettledMoves.{moved-same, rendered-alike, reported-alike}
 
 -- two machines that differ only in what was settled have the same keys, and so the same mover
 key-alike : (e : ℕ) (m w : Console) → settled_console e m ≡ settled_console e w → (i : ℕ) → key_in m i ≡ key_in w i
@@ -47,12 +47,12 @@ module _ (e : ℕ) (a b : Console) (same : settled_console e a ≡ settled_conso
       ∙ moved-same b e (mover a) (mover-lt a) own
       ∙ ap (λ (i : ℕ). settled_console e (moved b i)) (mover-alike e a b same)
 
-  told-both : told a (mover a) ≡ told b (mover b)
-  told-both =
-      sym (told-alike a e (mover a) (mover-lt a) order)
-      ∙ ap (λ (x : Console). told x (mover a)) same
-      ∙ told-alike b e (mover a) (mover-lt a) own
-      ∙ ap (told b) (mover-alike e a b same)
+  reported-both : reported a (mover a) ≡ reported b (mover b)
+  reported-both =
+      sym (reported-alike a e (mover a) (mover-lt a) order)
+      ∙ ap (λ (x : Console). reported x (mover a)) same
+      ∙ reported-alike b e (mover a) (mover-lt a) own
+      ∙ ap (reported b) (mover-alike e a b same)
 
   rendered-both : rendered a (mover a) ≡ rendered b (mover b)
   rendered-both =
@@ -69,7 +69,7 @@ runs_alike e m w same (suc n) from =
     let order : e ≤ (key_in (ran m n) (mover (ran m n))).cycle = from n (omega arith) in
     record {
       console = moved-alike e (ran m n) (ran w n) before.console order;
-      entered = ap₂ (λ (x y : List Entry). x ++ y) before.entered (told-both e (ran m n) (ran w n) before.console order);
+      entered = ap₂ (λ (x y : List Entry). x ++ y) before.entered (reported-both e (ran m n) (ran w n) before.console order);
       shown = ap₂ joined before.shown (rendered-both e (ran m n) (ran w n) before.console order);
     }
 

@@ -9,13 +9,13 @@ use Rattle.std.proofs.lemmas.List.Sums.{AllPass-from_list_all}
 use Rattle.md_word.specs.declared.event.Entry.{Entry}
 use Rattle.md_word.specs.declared.key.Key.{Key}
 use Rattle.sound_writes.specs.Held.{left_from, taken_below}
-use Rattle.sound_writes.specs.Keys.{are_spaced, is_behind}
+use Rattle.sound_writes.specs.Keys.{are_spaced, is_following}
 use Rattle.sound_writes.specs.Order.{IsInOrder}
 use Rattle.sound_writes.proofs.Orders.{IsInOrder-append, IsInOrder-high, IsInOrder-low, IsInOrder-taken_below}
 use Rattle.md_machine.specs.Console as consoles
 use Rattle.md_machine.specs.Console.{AllBelow, Console, first_of, moved, rendered}
 use Rattle.md_machine.specs.Media.{Media, joined, no_media}
-use Rattle.journal_sound.specs.Heard.{after, at_power_on, heard_of, told}
+use Rattle.journal_sound.specs.Heard.{after, at_power_on, heard_of, reported}
 use Rattle.journal_sound.specs.declared.hearing.Hearing.{Hearing}
 use Rattle.journal_sound.specs.declared.sound_access.SoundAccess.{SoundAccess}
 use Rattle.machine_laws.proofs.Effects.{hearing}
@@ -38,8 +38,8 @@ pub heard-append : {A : Type 0} (of : Key → SoundAccess → Hearing → List A
 unfolding hears heard_of
 heard-append of h [] ys = refl
 heard-append of h (x ∷ xs) ys =
-    ap (λ l. of x.key (told h x) h ++ l) (heard-append of (after x h) xs ys)
-    ∙ sym (append_assoc (of x.key (told h x) h) (heard_of of (after x h) xs) (heard_of of (hears (after x h) xs) ys))
+    ap (λ l. of x.key (reported h x) h ++ l) (heard-append of (after x h) xs ys)
+    ∙ sym (append_assoc (of x.key (reported h x) h) (heard_of of (after x h) xs) (heard_of of (hears (after x h) xs) ys))
 
 -- ---- numbers one after another
 
@@ -85,7 +85,7 @@ later_by c d false true is = grind (arith, is)
 later_by c d true false is = grind (arith, is)
 later_by c d false false is = grind (arith, is)
 
-later_than : (k l : Key) → is_behind k l ≡ true → k.cycle ≤ l.cycle
+later_than : (k l : Key) → is_following k l ≡ true → k.cycle ≤ l.cycle
 later_than k l is = later_by k.cycle l.cycle (nat_lt k.chip l.chip) _ is
 
 in-order : {A : Type 0} (key : A → Key) (ws : List A) (low high : ℕ) → All (λ w. IsBetween low high (key w)) ws → are_spaced (map key ws) ≡ true → IsInOrder (λ w. (key w).cycle) low high ws
@@ -93,8 +93,8 @@ in-order key [] low high all spaced = tt
 in-order key (w ∷ ws) low high all spaced =
     let here = All-head (λ v. IsBetween low high (key v)) w ws all in
     let rest = All-tail (λ v. IsBetween low high (key v)) w ws all in
-    let behind : All (λ v. is_behind (key w) (key v) ≡ true) ws = all-unmap (λ k. is_behind (key w) k ≡ true) key ws (AllPass-from_list_all (is_behind (key w)) (map key ws) (and_parts _ _ spaced).0) in
-    (here.from, here.below, in-order key ws (key w).cycle high (λ k d lt. record { from = later_than (key w) _ (behind k d lt); below = (rest k d lt).below }) (and_parts _ _ spaced).1)
+    let following : All (λ v. is_following (key w) (key v) ≡ true) ws = all-unmap (λ k. is_following (key w) k ≡ true) key ws (AllPass-from_list_all (is_following (key w)) (map key ws) (and_parts _ _ spaced).0) in
+    (here.from, here.below, in-order key ws (key w).cycle high (λ k d lt. record { from = later_than (key w) _ (following k d lt); below = (rest k d lt).below }) (and_parts _ _ spaced).1)
 
 pub held-in-order : {A : Type 0} (key : A → Key) (from end main sub : ℕ) (ws : List A) → AreHeld key from end main sub ws → IsInOrder (λ w. (key w).cycle) from end ws
 held-in-order key from end main sub ws held =
@@ -143,11 +143,11 @@ pub record Batch {A S Y : Type 0} (s : SoundOf A S Y) (z : Console) (i first : �
   pub chip : s.chip (moved z i) ≡ s.before (history ++ taken) (first + 16)
 
 pub data SoundMove {A S Y : Type 0} (s : SoundOf A S Y) (z : Console) (i : ℕ) : Type 0 where
-  tells : hearing (moved z i).shared ≡ hears (hearing z.shared) (consoles.told z i)
-      → s.port.held (moved z i).shared ≡ s.port.held z.shared ++ heard_of s.port.of (hearing z.shared) (consoles.told z i)
+  reports : hearing (moved z i).shared ≡ hears (hearing z.shared) (consoles.reported z i)
+      → s.port.held (moved z i).shared ≡ s.port.held z.shared ++ heard_of s.port.of (hearing z.shared) (consoles.reported z i)
       → next_batch s.port.fm (moved z i) ≡ next_batch s.port.fm z → s.chip (moved z i) ≡ s.chip z → s.made (rendered z i) ≡ [] → SoundMove s z i
-  makes : hearing (moved z i).shared ≡ hears (hearing z.shared) (consoles.told z i)
-      → heard_of s.port.of (hearing z.shared) (consoles.told z i) ≡ []
+  makes : hearing (moved z i).shared ≡ hears (hearing z.shared) (consoles.reported z i)
+      → heard_of s.port.of (hearing z.shared) (consoles.reported z i) ≡ []
       → s.port.held (moved z i).shared ≡ left_from (λ w. (s.port.key w).cycle) (next_batch s.port.fm z) (s.port.held z.shared)
       → next_batch s.port.fm (moved z i) ≡ next_batch s.port.fm z + 16128
       → ((history : List A) → let first = first_of (next_batch s.port.fm z) in let taken = taken_below (λ w. (s.port.key w).cycle) (next_batch s.port.fm z) (s.port.held z.shared) in
@@ -167,18 +167,18 @@ pub record Known {A S Y : Type 0} (s : SoundOf A S Y) (z : Console) (entries : L
   pub made : s.made output ≡ map (s.at done) (range_with_len 0 (16 * batches))
 
 module _ {A S Y : Type 0} (s : SoundOf A S Y) where
-  known-told : (z w : Console) (es told : List Entry) (output made : Media) (known : Known s z es output)
-      → hearing w.shared ≡ hears (hearing z.shared) told → s.port.held w.shared ≡ s.port.held z.shared ++ heard_of s.port.of (hearing z.shared) told
-      → next_batch s.port.fm w ≡ next_batch s.port.fm z → s.chip w ≡ s.chip z → s.made made ≡ [] → Known s w (es ++ told) (joined output made)
-  known-told z w es told output made known hears_is held next chip silent = record {
+  known-reported : (z w : Console) (es reported : List Entry) (output made : Media) (known : Known s z es output)
+      → hearing w.shared ≡ hears (hearing z.shared) reported → s.port.held w.shared ≡ s.port.held z.shared ++ heard_of s.port.of (hearing z.shared) reported
+      → next_batch s.port.fm w ≡ next_batch s.port.fm z → s.chip w ≡ s.chip z → s.made made ≡ [] → Known s w (es ++ reported) (joined output made)
+  known-reported z w es reported output made known hears_is held next chip silent = record {
     batches = known.batches;
     done = known.done;
-    hearing_is = hears_is ∙ ap (λ (h : Hearing). hears h told) known.hearing_is ∙ sym (hears-append at_power_on es told);
+    hearing_is = hears_is ∙ ap (λ (h : Hearing). hears h reported) known.hearing_is ∙ sym (hears-append at_power_on es reported);
     all =
-        heard-append s.port.of at_power_on es told
-        ∙ ap (λ (h : Hearing). heard_of s.port.of at_power_on es ++ heard_of s.port.of h told) (sym known.hearing_is)
-        ∙ ap (λ (l : List A). l ++ heard_of s.port.of (hearing z.shared) told) known.all
-        ∙ append_assoc known.done (s.port.held z.shared) (heard_of s.port.of (hearing z.shared) told)
+        heard-append s.port.of at_power_on es reported
+        ∙ ap (λ (h : Hearing). heard_of s.port.of at_power_on es ++ heard_of s.port.of h reported) (sym known.hearing_is)
+        ∙ ap (λ (l : List A). l ++ heard_of s.port.of (hearing z.shared) reported) known.all
+        ∙ append_assoc known.done (s.port.held z.shared) (heard_of s.port.of (hearing z.shared) reported)
         ∙ ap (λ (l : List A). known.done ++ l) (sym held);
     next = next ∙ known.next;
     past = known.past;
@@ -187,8 +187,8 @@ module _ {A S Y : Type 0} (s : SoundOf A S Y) where
   }
 
   pub known-made : (end : ℕ) (z : Console) (i : ℕ) (es : List Entry) (output : Media) (known : Known s z es output) (holds : PortHolds s.port end z)
-      → SoundMove s z i → Known s (moved z i) (es ++ consoles.told z i) (joined output (rendered z i))
-  known-made end z i es output known holds (tells hears_is held next chip silent) = known-told z (moved z i) es (consoles.told z i) output (rendered z i) known hears_is held next chip silent
+      → SoundMove s z i → Known s (moved z i) (es ++ consoles.reported z i) (joined output (rendered z i))
+  known-made end z i es output known holds (reports hears_is held next chip silent) = known-reported z (moved z i) es (consoles.reported z i) output (rendered z i) known hears_is held next chip silent
   known-made end z i es output known holds (makes hears_is none left next renders) =
       let stamp : A → ℕ = λ w. (s.port.key w).cycle in
       let cycle : ℕ = next_batch s.port.fm z in
@@ -208,10 +208,10 @@ module _ {A S Y : Type 0} (s : SoundOf A S Y) where
       record {
         batches = known.batches + 1;
         done = known.done ++ taken;
-        hearing_is = hears_is ∙ ap (λ (h : Hearing). hears h (consoles.told z i)) known.hearing_is ∙ sym (hears-append at_power_on es (consoles.told z i));
+        hearing_is = hears_is ∙ ap (λ (h : Hearing). hears h (consoles.reported z i)) known.hearing_is ∙ sym (hears-append at_power_on es (consoles.reported z i));
         all =
-            heard-append s.port.of at_power_on es (consoles.told z i)
-            ∙ ap (λ (h : Hearing). heard_of s.port.of at_power_on es ++ heard_of s.port.of h (consoles.told z i)) (sym known.hearing_is)
+            heard-append s.port.of at_power_on es (consoles.reported z i)
+            ∙ ap (λ (h : Hearing). heard_of s.port.of at_power_on es ++ heard_of s.port.of h (consoles.reported z i)) (sym known.hearing_is)
             ∙ ap (λ (l : List A). heard_of s.port.of at_power_on es ++ l) none
             ∙ append-nil (heard_of s.port.of at_power_on es)
             ∙ known.all

@@ -49,7 +49,7 @@ pub fn reached_may_be_kept()
     ensures { (at : ℕ) (m : Console) → 1 ≤ at → at ≤ last_cycle → IsReached at m → IsReady at m }
 {
     board::board_may_be_kept();
-    video::drawing_may_be_kept();
+    video::renderer_state_may_be_kept();
 }
 
 /// So may each machine that a run from power-on reaches.

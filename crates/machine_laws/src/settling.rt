@@ -3,7 +3,7 @@
 
 ghost use Rattle.std.specs.Prelude.{◌≡◌, ℕ, ◌^◌, ◌<◌, ◌≤◌, List};
 ghost use Rattle.md_word.specs.declared.event.Entry.{Entry};
-ghost use Rattle.md_machine.specs.Console.{Console, IsQuiet, IsRunTo, key_in, moved, rendered, told};
+ghost use Rattle.md_machine.specs.Console.{Console, IsQuiet, IsRunTo, key_in, moved, rendered, reported};
 ghost use Rattle.md_machine.specs.Media.{Media};
 ghost use Rattle.md_machine.specs.ValidParts.{HasValidParts};
 ghost use Rattle.save_state.specs.States.{settled_console};
@@ -15,7 +15,7 @@ use md_machine::laws;
 pub fn moves_see_no_settling()
     ensures moved { (m : Console) (at i : ℕ) → i < 5 → at ≤ (key_in m i).cycle
         → settled_console at (moved (settled_console at m) i) ≡ settled_console at (moved m i) }
-    ensures told { (m : Console) (at i : ℕ) → i < 5 → at ≤ (key_in m i).cycle → told (settled_console at m) i ≡ told m i }
+    ensures reported { (m : Console) (at i : ℕ) → i < 5 → at ≤ (key_in m i).cycle → reported (settled_console at m) i ≡ reported m i }
     ensures rendered { (m : Console) (at i : ℕ) → i < 5 → at ≤ (key_in m i).cycle → rendered (settled_console at m) i ≡ rendered m i }
 {}
 

@@ -4,10 +4,10 @@
 ghost use Rattle.std.specs.Prelude.{ℕ, Bool, ◌^◌, ◌≤◌, List};
 ghost use Rattle.md_pads.specs.Recording.{Recorded};
 ghost use Rattle.md_word.specs.declared.event.Entry.{Entry};
-ghost use Rattle.vdp_chip.specs.Spelling as drawings;
+ghost use Rattle.vdp_chip.specs.Spelling as renderer_states;
 ghost use Rattle.vdp_dma.specs.Settling.{settled};
 ghost use Rattle.vdp_ports.specs.Spelling as vdps;
-ghost use Rattle.md_machine.specs.Console.{Console, IsQuiet, IsRunTo, drawing_in, power_on};
+ghost use Rattle.md_machine.specs.Console.{Console, IsQuiet, IsRunTo, renderer_state_in, power_on};
 ghost use Rattle.md_machine.specs.Media.{Media};
 ghost use Rattle.machine_laws.specs.Video.{HasVideo};
 
@@ -28,14 +28,14 @@ pub fn vdp_may_be_kept()
 {}
 
 /// And so may the renderer, where no next event is below the cycle: its bytes are read again.
-pub fn drawing_may_be_kept()
-    ensures ready { (at : ℕ) (m : Console) → HasVideo at m → IsQuiet at m → drawings.IsReady at (drawing_in m) }
+pub fn renderer_state_may_be_kept()
+    ensures ready { (at : ℕ) (m : Console) → HasVideo at m → IsQuiet at m → renderer_states.IsReady at (renderer_state_in m) }
     ensures spells { (at : ℕ) (m : Console) → at ≤ 2 ^ 50 → HasVideo at m → IsQuiet at m
-        → drawings.Spells at m.pal (drawings.drawing_bytes (drawing_in m)) (drawing_in m) }
+        → renderer_states.Spells at m.pal (renderer_states.renderer_state_bytes (renderer_state_in m)) (renderer_state_in m) }
 {}
 
 /// They hold of each machine whose VDP and VDP renderer the bytes of a state at the cycle keep.
 pub fn video_of_states()
     ensures { (at : ℕ) (pal : Bool) (bytes drawn : List ℕ) (m : Console) → vdps.Spells at pal bytes m.shared.vdp
-        → drawings.Spells at pal drawn (drawing_in m) → HasVideo at m }
+        → renderer_states.Spells at pal drawn (renderer_state_in m) → HasVideo at m }
 {}

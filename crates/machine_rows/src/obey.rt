@@ -1,5 +1,5 @@
 use crate::made::sounding;
-use crate::records::{count, entry, told, words_read};
+use crate::records::{count, entry, reported, words_read};
 use crate::state::State;
 use core_rows::{chip_of, line_of_five, run_by_least_key, run_by_workers};
 use row_lines::{RowError, hexadecimal, place_of, repeated};
@@ -67,7 +67,7 @@ pub(crate) fn answer<R: Threads + Wait + Sync>(
     match verb {
         "entries" => count(alloc, &state.made.entries, rest),
         "entry" => entry(alloc, &state.made.entries, rest),
-        "told" => told(alloc, &state.made.entries, rest),
+        "told" => reported(alloc, &state.made.entries, rest),
         "reads" => reads(alloc, state, wanted),
         "pairs" => pairs(alloc, &state.made.pairs, rest, wanted),
         "sounding" => sounding_text(alloc, &state.made.pairs),

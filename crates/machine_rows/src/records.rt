@@ -104,10 +104,10 @@ pub(crate) fn entry(alloc: Global, records: &[u8], asked: &str) -> Result<String
 }
 
 /// The same without its cycle.
-pub(crate) fn told(alloc: Global, records: &[u8], asked: &str) -> Result<String, RowError> {
+pub(crate) fn reported(alloc: Global, records: &[u8], asked: &str) -> Result<String, RowError> {
     let text = entry(alloc, records, asked)?;
-    let (_, told) = text.as_str().split_once(' ').ok_or(RowError::NoSuchLine)?;
-    Ok(String::from_str(alloc, told)?)
+    let (_, reported) = text.as_str().split_once(' ').ok_or(RowError::NoSuchLine)?;
+    Ok(String::from_str(alloc, reported)?)
 }
 
 /// The values of the words that the 68000 has read from the data port of the VDP.

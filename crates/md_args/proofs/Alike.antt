@@ -12,7 +12,7 @@ use Rattle.md_args.specs.Words.{Run}
 use Rattle.md_args.proofs.Gives.{given_open, given_option, given_value}
 use Rattle.md_args.proofs.Rows.{stands}
 use Rattle.md_args.proofs.Spellings.{left_of, readable_among, run_readable}
-use Rattle.md_args.proofs.Tails.{Alike, Stays, alike_meant, alike_stays, behind, meant, refused_here}
+use Rattle.md_args.proofs.Tails.{Alike, Stays, alike_meant, alike_stays, following, meant, refused_here}
 
 -- ---- an option and its value in two words, and in one
 
@@ -36,7 +36,7 @@ pub written_alike : (before after : List Text) (name value : Text) → list_any 
     → run_of (before ++ (words_of (apart name value) ++ after)) ≡ run_of (before ++ (words_of (joined name value) ++ after))
 written_alike before after name value listed unmarked =
     alike_meant _ _
-    (behind run_options run_flags Alike alike_stays (words_of (apart name value) ++ after) (words_of (joined name value) ++ after) (written_here name value after listed unmarked) before true between)
+    (following run_options run_flags Alike alike_stays (words_of (apart name value) ++ after) (words_of (joined name value) ++ after) (written_here name value after listed unmarked) before true between)
 
 -- ---- another value of one argument
 
@@ -182,7 +182,7 @@ module _ (count other : Text) (fits : IsSome (workers_of (Some count))) (other_f
   workers_here after free (value_of name) = inr (inl refl)
   workers_here after free between = go (given (left_of free) run_options run_flags between after)
     where
-      go : (behind : Option (List Argument)) → Nearly (with_value workers count behind) (with_value workers other behind)
+      go : (following : Option (List Argument)) → Nearly (with_value workers count following) (with_value workers other following)
       go None = inr (inl refl)
       go (Some arguments) = inl (record { before = []; after = arguments; one = refl; two = refl })
 
@@ -190,4 +190,4 @@ module _ (count other : Text) (fits : IsSome (workers_of (Some count))) (other_f
       → option_map but_workers (run_of (before ++ (words_of (joined workers count) ++ after))) ≡ option_map but_workers (run_of (before ++ (words_of (joined workers other) ++ after)))
   but_workers_alike before after =
       nearly_meant _ _
-      (behind run_options run_flags Nearly nearly_stays (words_of (joined workers count) ++ after) (words_of (joined workers other) ++ after) (workers_here after) before true between)
+      (following run_options run_flags Nearly nearly_stays (words_of (joined workers count) ++ after) (words_of (joined workers other) ++ after) (workers_here after) before true between)

@@ -9,11 +9,11 @@ use Rattle.std.proofs.lemmas.Bool.Decides.{nat_tests}
 use Rattle.std.proofs.lemmas.Str.Parse.{IsDigitsTest, IsNumeralModel, numerals_by_value, parse_digits}
 use Rattle.md_args.specs.Commands.{is_digits, number_of}
 
-tells : IsDigitsTest (λ ds. list_all is_ascii_digit ds ≡ true)
-tells = search rules
+reports : IsDigitsTest (λ ds. list_all is_ascii_digit ds ≡ true)
+reports = search rules
 
 model : IsNumeralModel (λ ds. list_all is_ascii_digit ds ≡ true) (digits_value 10)
-model = numerals_by_value _ tells
+model = numerals_by_value _ reports
 
 digits_are : (word : List ℕ) → is_digits word ≡ true → list_all is_ascii_digit word ≡ true
 digits_are word digits = grind arith

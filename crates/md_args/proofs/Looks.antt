@@ -57,6 +57,6 @@ short_word (first ∷ second ∷ rest) text marked no_end no_long = go (second =
         let reads : long_of (first ∷ second ∷ third ∷ more) ≡ Some (name_and_value (third ∷ more)) = rw (marked, is) refl in
         absurd (some≢none _ (sym reads ∙ long))
     go false is more utf ended long =
-        let behind = IsUtf8-past_char (first ∷ second ∷ more) (second ∷ more) 45 utf (ap (λ n. n ∷ second ∷ more) (eqb-true first 45 marked) ∙ ap (λ hyphen. hyphen ++ second ∷ more) (sym hyphen_is)) in
-        let begun = begins_with second more behind in
+        let following = IsUtf8-past_char (first ∷ second ∷ more) (second ∷ more) 45 utf (ap (λ n. n ∷ second ∷ more) (eqb-true first 45 marked) ∙ ap (λ hyphen. hyphen ++ second ∷ more) (sym hyphen_is)) in
+        let begun = begins_with second more following in
         record { first = second; rest = more; letter = begun.0; short = rw (marked, is) refl; begins = begun.1 }

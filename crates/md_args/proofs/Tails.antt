@@ -22,8 +22,8 @@ pub record Stays (Rel : Option (List Argument) → Option (List Argument) → Ty
 module _ (options flags : List Text) (Rel : Option (List Argument) → Option (List Argument) → Type 0) (stays : Stays Rel) (first second : List Text)
     (here : (free : Bool) (place : Place) → Rel (given (left_of free) options flags place first) (given (left_of free) options flags place second)) where
   -- it holds of what two lists of words give, as they stand after these
-  abbrev Behind : List Text → Type 0
-  Behind before =
+  abbrev Following : List Text → Type 0
+  Following before =
       (free : Bool) (place : Place) → Rel (given (left_of free) options flags place (before ++ first)) (given (left_of free) options flags place (before ++ second))
 
   by_test : (b : Bool) (one other one' other' : Option (List Argument)) → Rel one other → Rel one' other' → Rel (cond b one one') (cond b other other')
@@ -37,18 +37,18 @@ module _ (options flags : List Text) (Rel : Option (List Argument) → Option (L
       by_test (list_any (has_name name) options) _ _ _ _ (opens name) (by_test (list_any (has_name name) flags) _ _ _ _ (stays.more name [] one other is) stays.none)
   an_option (Some (name, Some value)) one other waits waits' is opens = by_test (list_any (has_name name) options) _ _ _ _ (stays.more name value one other is) stays.none
 
-  pub behind : (before : List Text) → Behind before
-  behind [] free place = here free place
-  behind (word ∷ before) true ended = stays.more (codes "rom") word _ _ (behind before false ended)
-  behind (word ∷ before) false ended = stays.none
-  behind (word ∷ before) free (value_of name) = by_test (is_marked word) _ _ _ _ stays.none (stays.more name word _ _ (behind before free between))
-  behind (word ∷ before) true between =
-      by_test (bytes_eq word (codes "--")) _ _ _ _ (behind before true ended)
-      (by_test (is_marked word) _ _ _ _ (an_option (long_of word) _ _ _ _ (behind before true between) (λ name. behind before true (value_of name)))
-      (stays.more (codes "rom") word _ _ (behind before false between)))
-  behind (word ∷ before) false between =
-      by_test (bytes_eq word (codes "--")) _ _ _ _ (behind before false ended)
-      (by_test (is_marked word) _ _ _ _ (an_option (long_of word) _ _ _ _ (behind before false between) (λ name. behind before false (value_of name))) stays.none)
+  pub following : (before : List Text) → Following before
+  following [] free place = here free place
+  following (word ∷ before) true ended = stays.more (codes "rom") word _ _ (following before false ended)
+  following (word ∷ before) false ended = stays.none
+  following (word ∷ before) free (value_of name) = by_test (is_marked word) _ _ _ _ stays.none (stays.more name word _ _ (following before free between))
+  following (word ∷ before) true between =
+      by_test (bytes_eq word (codes "--")) _ _ _ _ (following before true ended)
+      (by_test (is_marked word) _ _ _ _ (an_option (long_of word) _ _ _ _ (following before true between) (λ name. following before true (value_of name)))
+      (stays.more (codes "rom") word _ _ (following before false between)))
+  following (word ∷ before) false between =
+      by_test (bytes_eq word (codes "--")) _ _ _ _ (following before false ended)
+      (by_test (is_marked word) _ _ _ _ (an_option (long_of word) _ _ _ _ (following before false between) (λ name. following before false (value_of name))) stays.none)
 
 -- ---- a cartridge whose name is none
 

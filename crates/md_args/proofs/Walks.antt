@@ -217,5 +217,5 @@ module _ (command : Text) (rules : List Rule) (options flags : List Text) (found
   unfolding walk_fault
   both [] texts = (λ position left are rows pending. refl, λ name known position left are rows. settle_open command rules rows name (Some name) None known.required _ known.id)
   both (word ∷ words) texts =
-      let behind = both words texts.1 in
-      (start word words texts.0 behind.0 behind.1, value_word word words texts.0 behind.0)
+      let following = both words texts.1 in
+      (start word words texts.0 following.0 following.1, value_word word words texts.0 following.0)

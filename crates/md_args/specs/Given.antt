@@ -33,17 +33,17 @@ has_name name other = bytes_eq other name
 
 -- an option and its value in one word, an option whose value is the next word, or a flag, whose value is empty
 abbrev pub option_word : List Text → List Text → Option (Text × Option Text) → Option (List Argument) → (Text → Option (List Argument)) → Option (List Argument)
-option_word options flags (Some (name, Some value)) behind waiting = if list_any (has_name name) options then with_value name value behind else None
-option_word options flags (Some (name, None)) behind waiting =
+option_word options flags (Some (name, Some value)) following waiting = if list_any (has_name name) options then with_value name value following else None
+option_word options flags (Some (name, None)) following waiting =
     if list_any (has_name name) options then waiting name
-    else if list_any (has_name name) flags then with_value name [] behind
+    else if list_any (has_name name) flags then with_value name [] following
     else None
-option_word options flags None behind waiting = None
+option_word options flags None following waiting = None
 
 -- a positional word is the value of the first of the names that are left
 abbrev pub positional_word : List Text → Text → (List Text → Option (List Argument)) → Option (List Argument)
-positional_word [] word behind = None
-positional_word (name ∷ left) word behind = with_value name word (behind left)
+positional_word [] word following = None
+positional_word (name ∷ left) word following = with_value name word (following left)
 
 -- The arguments that words give in their order, where these are the names of the positional words, those of
 -- the options with values and those of the flags; none where the words are refused.

@@ -46,13 +46,13 @@ pub fn read_words<'a>(
         return Ok(None);
     };
     match Verb::read(command) {
-        Some(verb) => read_behind(alloc, verb, rest),
+        Some(verb) => read_after(alloc, verb, rest),
         None => Ok(None),
     }
 }
 
 /// Reads the words after a verb.
-fn read_behind<'a>(
+fn read_after<'a>(
     alloc: Global,
     verb: Verb,
     words: &'a [String],

@@ -3,12 +3,12 @@ use Rattle.std.proofs.Common.{◌≡◌, ℕ, zero, suc, ◌+◌, ◌<◌, ◌�
 use Rattle.std.specs.Prelude.{◌==◌, ◌%◌}
 use Rattle.std.proofs.lemmas.Bool.Decides.{nat_tests}
 use Rattle.std.proofs.Math.Nat.{eq-or-lt_of_le}
-use Rattle.md_asm_text.specs.Pieces.{pieces}
+use Rattle.md_asm_text.specs.Tokens.{tokens}
 use Rattle.md_asm_text.specs.Lines.{Line, line_of}
 use Rattle.md_asm.specs.Contents.{is_unfit, size}
 use Rattle.md_asm.specs.Held.{IsAddress}
 use Rattle.md_asm.specs.Places.{WrittenPlaces, address, any_written, image_limit, is_sub, is_too_large, with_written}
-use Rattle.md_asm.specs.Rounds.{On, Outcome, Read, Round, Slot, Step, Stop, behind, fault_of, go_on, has_bytes, is_twice, kept_if, labelled, moved, round_one, sized_step, slot_of, start, line_step, unless, wants_even}
+use Rattle.md_asm.specs.Rounds.{On, Outcome, Read, Round, Slot, Step, Stop, following, fault_of, go_on, has_bytes, is_twice, kept_if, labelled, moved, round_one, sized_step, slot_of, start, line_step, unless, wants_even}
 use Rattle.md_asm.specs.declared.kind.Kind.{Kind}
 use Rattle.md_asm.specs.declared.kind.Kind.TheVariants as kinds
 use Rattle.md_asm.specs.declared.processor.Processor.{Processor}
@@ -112,14 +112,14 @@ no_fourth false false false false e first second third fourth fifth is = refl
 
 free : (round : Round) (line : Line) (long : ℕ) → fault_of round line long ≡ None → any_written round.written round.place long ≡ false
 free round line long none =
-    no_fourth (is_unfit (is_sub round.processor) line.body (pieces line.text)) (is_twice round.names line.label)
+    no_fourth (is_unfit (is_sub round.processor) line.body (tokens line.text)) (is_twice round.names line.label)
     (wants_even (is_sub round.processor) line.body && round.place % 2 == 1) (any_written round.written round.place long)
     (has_bytes line.body && is_too_large round.place long) kinds.BadNumber kinds.Twice kinds.Odd kinds.Overlap kinds.TooLarge none
 
-behind_by : (round : Round) (number : ℕ) (line : Line) (long : ℕ) → IsRound round → fault_of round line long ≡ None → (b : Bool) → has_bytes line.body ≡ b
+after_by : (round : Round) (number : ℕ) (line : Line) (long : ℕ) → IsRound round → fault_of round line long ≡ None → (b : Bool) → has_bytes line.body ≡ b
     → IsRound (moved (kept_if b (labelled round line.label) number line long) line.body long)
-behind_by round number line long is none false has = record { put = is.put; apart = is.apart; low = is.low }
-behind_by round number line long is none true has =
+after_by round number line long is none false has = record { put = is.put; apart = is.apart; low = is.low }
+after_by round number line long is none true has =
     let low = within round line long none has in
     let off = free round line long none in
     let slot = slot_of (labelled round line.label) number line long in
@@ -137,18 +137,18 @@ behind_by round number line long is none true has =
 -- ---- a step
 
 unless_by : (round : Round) (number : ℕ) (line : Line) (long : ℕ) (next : Round) → IsRound round → (kind : Option Kind) → fault_of round line long ≡ kind
-    → unless kind (behind round number line long) ≡ On next → IsRound next
+    → unless kind (following round number line long) ≡ On next → IsRound next
 unless_by round number line long next is (Some kind) fault on = cc
 unless_by round number line long next is None fault on =
-    let e : behind round number line long ≡ next = cc in
-    subst (λ (r : Round). IsRound r) e (behind_by round number line long is fault (has_bytes line.body) refl)
+    let e : following round number line long ≡ next = cc in
+    subst (λ (r : Round). IsRound r) e (after_by round number line long is fault (has_bytes line.body) refl)
 
 sized_by : (round : Round) (number : ℕ) (line : Line) (found : Option ℕ) (next : Round) → IsRound round → sized_step round number line found ≡ On next → IsRound next
 sized_by round number line None next is on = cc
 sized_by round number line (Some long) next is on = unless_by round number line long next is (fault_of round line long) refl on
 
 stepped : (round : Round) (number : ℕ) (line : Line) (next : Round) → IsRound round → line_step round number line ≡ On next → IsRound next
-stepped round number line next is on = sized_by round number line (size (is_sub round.processor) line.body (pieces line.text)) next is on
+stepped round number line next is on = sized_by round number line (size (is_sub round.processor) line.body (tokens line.text)) next is on
 
 went_on : (number : ℕ) (s : Step) (go : Round → Outcome) (last : Round) → go_on number s go ≡ Read last → (next : Round) × (s ≡ On next) × (go next ≡ Read last)
 went_on number (On next) go last is = (next, refl, is)

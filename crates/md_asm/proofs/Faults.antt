@@ -2,7 +2,7 @@
 use Rattle.std.proofs.Common.{◌≡◌, ℕ, ◌+◌, ◌≤◌, Bool, true, false, ◌&&◌, nat_lt, List, [], ◌∷◌, length, Some, None, refl, arith, if◌then◌else◌}
 use Rattle.std.specs.Prelude.{◌==◌, ◌%◌}
 use Rattle.std.proofs.lemmas.Bool.Decides.{nat_tests}
-use Rattle.md_asm_text.specs.Pieces.{pieces}
+use Rattle.md_asm_text.specs.Tokens.{tokens}
 use Rattle.md_asm_text.specs.Lines.{Line}
 use Rattle.md_asm_text.specs.Texts.{lines}
 use Rattle.md_asm.specs.Contents.{is_unfit}
@@ -28,7 +28,7 @@ low false place long off is = cc
 pub within : (round : Round) (line : Line) (long : ℕ) → fault_of round line long ≡ None → has_bytes line.body ≡ true → round.place + long ≤ image_limit
 within round line long none is =
     low (has_bytes line.body) round.place long
-    (last (is_unfit (is_sub round.processor) line.body (pieces line.text)) (is_twice round.names line.label)
+    (last (is_unfit (is_sub round.processor) line.body (tokens line.text)) (is_twice round.names line.label)
     (wants_even (is_sub round.processor) line.body && round.place % 2 == 1) (any_written round.written round.place long)
     (has_bytes line.body && is_too_large round.place long) kinds.BadNumber kinds.Twice kinds.Odd kinds.Overlap kinds.TooLarge none) is
 

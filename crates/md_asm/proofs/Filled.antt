@@ -1,7 +1,7 @@
 -- What round two writes to a memory is there at the end.
 use Rattle.std.proofs.Common.{◌≡◌, ℕ, ◌+◌, ◌<◌, ◌≤◌, ◌⊎◌, inl, inr, List, [], ◌∷◌, length, get_or, refl, sym, ap, ◌∙◌, arith}
 use Rattle.std.proofs.lemmas.Bool.{cases_lt}
-use Rattle.md_asm_text.specs.Pieces.{pieces}
+use Rattle.md_asm_text.specs.Tokens.{tokens}
 use Rattle.md_asm.specs.Contents.{Far, Good, Settled, Unfit, Unknown}
 use Rattle.md_asm.specs.Numbers.{Names, resolved}
 use Rattle.md_asm.specs.Held.{StandsAt}
@@ -83,7 +83,7 @@ all_filled names memory last [] low apart is = let e : memory ≡ last = cc in r
 all_filled names memory last (slot ∷ more) low apart is =
     let on = went_on slot.line (with_slot names memory slot) (λ next. round_two names next more) last is in
     let own = put_by memory slot.place (settled_slot names slot) on.0 on.1 in
-    let size = settled_long slot.sub slot.body slot.long (resolved names (pieces slot.text)) slot.address own.0 own.1 in
+    let size = settled_long slot.sub slot.body slot.long (resolved names (tokens slot.text)) slot.address own.0 own.1 in
     let room : slot.place + length own.0 ≤ length memory = let l = low.0 in omega (arith, l, size) in
     let long : length on.0 ≡ length memory = rw (sym own.2) (put_long memory slot.place own.0 room) in
     with_front names memory on.0 last slot more own.0 room own.1 own.2 size apart.0

@@ -1,6 +1,6 @@
 -- The image of a source holds the bytes of each line.
 use Rattle.std.proofs.Common.{◌≡◌, ℕ, ◌+◌, ◌≤◌, List, [], ◌∷◌, length, take, refl, arith}
-use Rattle.md_asm_text.specs.Pieces.{pieces}
+use Rattle.md_asm_text.specs.Tokens.{tokens}
 use Rattle.md_asm_text.specs.Texts.{lines as lines_of}
 use Rattle.md_asm.specs.Numbers.{Names, resolved}
 use Rattle.md_asm.specs.Assembly.{Done, assembly, assembly_of, places_of, second}
@@ -15,7 +15,7 @@ use Rattle.md_asm.proofs.Slots.{settled_long}
 
 slot_held : (names : Names) (written : WrittenPlaces) (memory : List ℕ) (end : ℕ) (slot : Slot) → IsPut written end slot → IsFilled memory names slot → IsHeld (take end memory) names slot
 slot_held names written memory end slot put is =
-    let size : length is.bytes ≡ slot.long = settled_long slot.sub slot.body slot.long (resolved names (pieces slot.text)) slot.address is.bytes is.settled in
+    let size : length is.bytes ≡ slot.long = settled_long slot.sub slot.body slot.long (resolved names (tokens slot.text)) slot.address is.bytes is.settled in
     let low = put.low in record {
       bytes = is.bytes;
       settled = is.settled;

@@ -20,8 +20,8 @@ put_long memory place bytes h =
     let front = front_long memory place bytes h in
     omega (arith, front, length-append (take place memory ++ bytes) (drop (place + length bytes) memory), length-drop (place + length bytes) memory)
 
-behind_by : (a b : ℕ) → a + b - a ≡ b
-behind_by a b = omega arith
+after_by : (a b : ℕ) → a + b - a ≡ b
+after_by a b = omega arith
 
 pub put_stands : (memory : List ℕ) (place : ℕ) (bytes : List ℕ) → place + length bytes ≤ length memory → StandsAt (put memory place bytes) place bytes
 unfolding put
@@ -30,7 +30,7 @@ put_stands memory place bytes h k within =
     let front = length-take-le place memory (omega arith) in
     get_or_append_left (take place memory ++ bytes) (drop (place + length bytes) memory) 0 (place + k) (omega arith)
     ∙ get_or-append_right (take place memory) bytes place (place + k) 0 front (omega arith)
-    ∙ ap (λ (n : ℕ). get_or bytes n 0) (behind_by place k)
+    ∙ ap (λ (n : ℕ). get_or bytes n 0) (after_by place k)
 
 -- a place before the bytes or after them is left
 pub put_leaves : (memory : List ℕ) (place : ℕ) (bytes : List ℕ) (k : ℕ) → place + length bytes ≤ length memory → (k < place) ⊎ (place + length bytes ≤ k)

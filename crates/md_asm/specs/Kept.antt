@@ -1,6 +1,6 @@
 -- What holds of the lines that are kept for the second round.
 use Rattle.std.specs.Prelude.{ℕ, ◌≡◌, ◌+◌, ◌<◌, ◌≤◌, Bool, true, List, [], ◌∷◌, IfSome, length, vec_len}
-use Rattle.md_asm_text.specs.Pieces.{Piece, pieces}
+use Rattle.md_asm_text.specs.Tokens.{Token, tokens}
 use Rattle.md_asm_text.specs.declared.body.Body.{Body}
 use Rattle.md_asm.specs.Contents.{Far, Good, Settled, Unfit, Unknown, settled_line}
 use Rattle.md_asm.specs.Numbers.{Names, resolved}
@@ -9,14 +9,14 @@ use Rattle.md_asm.specs.declared.pass.Pass.{Pass}
 use Rattle.md_asm.specs.Places.{image_limit}
 
 -- a line results in these bytes whatever values names have
-abbrev pub SettlesOn : Bool → Body → ℕ → List Piece → ℕ → List ℕ → Type 0
+abbrev pub SettlesOn : Bool → Body → ℕ → List Token → ℕ → List ℕ → Type 0
 SettlesOn sub body long line_tokens at bytes = (names : Names) → settled_line sub body long (resolved names line_tokens) at ≡ Good bytes
 
 -- it ends below 400000h, has an address of its processor, and the bytes that it has are its own
 pub record IsKept (entry : Entry) : Type 0 where
   pub low : entry.place + entry.long ≤ image_limit
   pub addressed : entry.z80 ≡ true → entry.address < 65536
-  pub known : IfSome entry.bytes (λ bytes. SettlesOn entry.z80 entry.body entry.long (pieces entry.text.now) entry.address bytes.items)
+  pub known : IfSome entry.bytes (λ bytes. SettlesOn entry.z80 entry.body entry.long (tokens entry.text.now) entry.address bytes.items)
 
 abbrev pub AreKept : List Entry → Type 0
 AreKept [] = Unit {0}

@@ -2,7 +2,7 @@
 use Rattle.std.specs.Prelude.{ℕ, ◌+◌, ◌%◌, Bool, true, false, not, ◌&&◌, ◌==◌, if◌then◌else◌, List, [], ◌∷◌, ◌++◌, Option, Some, None, is_some, max}
 use Rattle.std.specs.Map.{update}
 use Rattle.std.specs.Str.{bytes_eq}
-use Rattle.md_asm_text.specs.Pieces.{pieces}
+use Rattle.md_asm_text.specs.Tokens.{tokens}
 use Rattle.md_asm_text.specs.Lines.{Line, line_of}
 use Rattle.md_asm_text.specs.declared.body.Body.{Body}
 use Rattle.md_asm_text.specs.declared.body.Body.TheVariants as bodies
@@ -74,36 +74,36 @@ is_twice names (Some name) = is_some (names name)
 -- the least kind of a line that has a form, of this length
 abbrev pub fault_of : Round → Line → ℕ → Option Kind
 fault_of round line long =
-    if is_unfit (is_sub round.processor) line.body (pieces line.text) then Some kinds.BadNumber
+    if is_unfit (is_sub round.processor) line.body (tokens line.text) then Some kinds.BadNumber
     else (if is_twice round.names line.label then Some kinds.Twice
     else (if wants_even (is_sub round.processor) line.body && round.place % 2 == 1 then Some kinds.Odd
     else (if any_written round.written round.place long then Some kinds.Overlap
     else (if has_bytes line.body && is_too_large round.place long then Some kinds.TooLarge else None))))
 
-abbrev pub place_behind : ℕ → Body → ℕ → ℕ
-place_behind place (bodies.Org at) long = at
-place_behind place bodies.Words long = place + long
-place_behind place bodies.Bytes long = place + long
-place_behind place bodies.Instruction long = place + long
-place_behind place bodies.Nothing long = place
-place_behind place bodies.Main long = place
-place_behind place (bodies.Sub at) long = place
-place_behind place bodies.Bad long = place
+abbrev pub place_after : ℕ → Body → ℕ → ℕ
+place_after place (bodies.Org at) long = at
+place_after place bodies.Words long = place + long
+place_after place bodies.Bytes long = place + long
+place_after place bodies.Instruction long = place + long
+place_after place bodies.Nothing long = place
+place_after place bodies.Main long = place
+place_after place (bodies.Sub at) long = place
+place_after place bodies.Bad long = place
 
-abbrev pub processor_behind : Processor → ℕ → Body → Processor
-processor_behind processor place bodies.Main = processors.Main
-processor_behind processor place (bodies.Sub at) = processors.Sub at place
-processor_behind processor place (bodies.Org at) = processor
-processor_behind processor place bodies.Words = processor
-processor_behind processor place bodies.Bytes = processor
-processor_behind processor place bodies.Instruction = processor
-processor_behind processor place bodies.Nothing = processor
-processor_behind processor place bodies.Bad = processor
+abbrev pub processor_after : Processor → ℕ → Body → Processor
+processor_after processor place bodies.Main = processors.Main
+processor_after processor place (bodies.Sub at) = processors.Sub at place
+processor_after processor place (bodies.Org at) = processor
+processor_after processor place bodies.Words = processor
+processor_after processor place bodies.Bytes = processor
+processor_after processor place bodies.Instruction = processor
+processor_after processor place bodies.Nothing = processor
+processor_after processor place bodies.Bad = processor
 
 -- a label has the address before its own line's directive
-abbrev pub names_behind : Names → Option (List ℕ) → ℕ → Names
-names_behind names None at = names
-names_behind names (Some name) at = update bytes_eq names name (Some at)
+abbrev pub names_after : Names → Option (List ℕ) → ℕ → Names
+names_after names None at = names
+names_after names (Some name) at = update bytes_eq names name (Some at)
 
 abbrev pub slot_of : Round → ℕ → Line → ℕ → Slot
 slot_of round number line long = record {
@@ -118,7 +118,7 @@ slot_of round number line long = record {
 
 -- a label has its value
 abbrev pub labelled : Round → Option (List ℕ) → Round
-labelled round label = record round { names = names_behind round.names label (address round.processor round.place) }
+labelled round label = record round { names = names_after round.names label (address round.processor round.place) }
 
 -- a line that has bytes is kept
 abbrev pub kept : Round → ℕ → Line → ℕ → Round
@@ -136,13 +136,13 @@ kept_if false round number line long = round
 -- the place and the processor after a line
 abbrev pub moved : Round → Body → ℕ → Round
 moved round body long = record round {
-  place = place_behind round.place body long;
-  processor = processor_behind round.processor round.place body;
+  place = place_after round.place body long;
+  processor = processor_after round.processor round.place body;
 }
 
 -- after a line of this number and length
-abbrev pub behind : Round → ℕ → Line → ℕ → Round
-behind round number line long = moved (kept_if (has_bytes line.body) (labelled round line.label) number line long) line.body long
+abbrev pub following : Round → ℕ → Line → ℕ → Round
+following round number line long = moved (kept_if (has_bytes line.body) (labelled round line.label) number line long) line.body long
 
 pub data Step : Type 0 where
   On : Round → Step
@@ -154,10 +154,10 @@ unless None next = On next
 
 abbrev pub sized_step : Round → ℕ → Line → Option ℕ → Step
 sized_step round number line None = Stop kinds.BadLine
-sized_step round number line (Some long) = unless (fault_of round line long) (behind round number line long)
+sized_step round number line (Some long) = unless (fault_of round line long) (following round number line long)
 
 abbrev pub line_step : Round → ℕ → Line → Step
-line_step round number line = sized_step round number line (size (is_sub round.processor) line.body (pieces line.text))
+line_step round number line = sized_step round number line (size (is_sub round.processor) line.body (tokens line.text))
 
 pub data Outcome : Type 0 where
   Read : Round → Outcome
@@ -176,7 +176,7 @@ round_one round number (text ∷ more) = go_on number (line_step round number (l
 
 -- the outcome of a line, with all names known
 abbrev pub settled_slot : Names → Slot → Settled
-settled_slot names slot = settled_line slot.sub slot.body slot.long (resolved names (pieces slot.text)) slot.address
+settled_slot names slot = settled_line slot.sub slot.body slot.long (resolved names (tokens slot.text)) slot.address
 
 pub data Patched : Type 0 where
   Onto : List ℕ → Patched

@@ -49,7 +49,7 @@ fn read_lines<'a>(alloc: Global, pass: &mut Pass<'a>, source: &'a [u8]) -> Resul
     let mut line = 1;
     let mut rest = source;
     while !rest.is_empty() {
-        let (text, behind) = next_line(rest);
+        let (text, following) = next_line(rest);
         if let Some(kind) = pass.read(alloc, line, text)? {
             return Err(AsmFault::Line {
                 line,
@@ -57,7 +57,7 @@ fn read_lines<'a>(alloc: Global, pass: &mut Pass<'a>, source: &'a [u8]) -> Resul
             });
         }
         line += 1;
-        rest = behind;
+        rest = following;
     }
     Ok(())
 }

@@ -4,7 +4,7 @@ ghost use Rattle.md_asm.specs.Codes as codes;
 
 use asm_m68k::words_of;
 use asm_z80::bytes_of;
-use md_asm_text::Piece;
+use md_asm_text::Token;
 use md_word::NoMemory;
 use std::alloc::Global;
 
@@ -25,11 +25,11 @@ fn in_bytes(alloc: Global, words: &[u16]) -> Result<Vec<u8>, NoMemory>
 
 /// The bytes of an instruction of the 68000 at an address, or `None` where no instruction has these tokens there. It fails
 /// where memory runs out.
-#[tactic(auto, using(crate::proofs::Checks::main_said, crate::proofs::Checks::main_none))]
-fn main_code(alloc: Global, pieces: &[Piece<'_>], at: u32) -> Result<Option<Vec<u8>>, NoMemory>
-    ensures { IfOk result (λ found. option_map (λ bytes. bytes.items) found ≡ codes.code false (map shown pieces.now) at) }
+#[tactic(auto, using(crate::proofs::Checks::main_round_trips, crate::proofs::Checks::main_none))]
+fn main_code(alloc: Global, tokens: &[Token<'_>], at: u32) -> Result<Option<Vec<u8>>, NoMemory>
+    ensures { IfOk result (λ found. option_map (λ bytes. bytes.items) found ≡ codes.code false (map shown tokens.now) at) }
 {
-    match words_of(alloc, pieces, at)? {
+    match words_of(alloc, tokens, at)? {
         Some(words) => {
             let bytes = in_bytes(alloc, words.as_slice())?;
             Ok(Some(bytes))
@@ -40,11 +40,11 @@ fn main_code(alloc: Global, pieces: &[Piece<'_>], at: u32) -> Result<Option<Vec<
 
 /// The bytes of an instruction of the Z80 at an address, or `None` where no instruction has these tokens there. It fails
 /// where memory runs out.
-#[tactic(auto, using(crate::proofs::Checks::sub_said, crate::proofs::Checks::sub_none))]
-fn sub_code(alloc: Global, pieces: &[Piece<'_>], at: u16) -> Result<Option<Vec<u8>>, NoMemory>
-    ensures { IfOk result (λ found. option_map (λ bytes. bytes.items) found ≡ codes.code true (map shown pieces.now) at) }
+#[tactic(auto, using(crate::proofs::Checks::sub_round_trips, crate::proofs::Checks::sub_none))]
+fn sub_code(alloc: Global, tokens: &[Token<'_>], at: u16) -> Result<Option<Vec<u8>>, NoMemory>
+    ensures { IfOk result (λ found. option_map (λ bytes. bytes.items) found ≡ codes.code true (map shown tokens.now) at) }
 {
-    match bytes_of(alloc, pieces, at)? {
+    match bytes_of(alloc, tokens, at)? {
         Some(bytes) => {
             let bytes = bytes.as_slice().to_vec(alloc)?;
             Ok(Some(bytes))
@@ -58,15 +58,15 @@ fn sub_code(alloc: Global, pieces: &[Piece<'_>], at: u16) -> Result<Option<Vec<u
 pub(crate) fn code(
     alloc: Global,
     z80: bool,
-    pieces: &[Piece<'_>],
+    tokens: &[Token<'_>],
     at: u32,
 ) -> Result<Option<Vec<u8>>, NoMemory>
     requires { z80 ≡ true → at < 65536 }
-    ensures { IfOk result (λ found. option_map (λ bytes. bytes.items) found ≡ codes.code z80 (map shown pieces.now) at) }
+    ensures { IfOk result (λ found. option_map (λ bytes. bytes.items) found ≡ codes.code z80 (map shown tokens.now) at) }
 {
     if z80 {
-        sub_code(alloc, pieces, at as u16)
+        sub_code(alloc, tokens, at as u16)
     } else {
-        main_code(alloc, pieces, at)
+        main_code(alloc, tokens, at)
     }
 }

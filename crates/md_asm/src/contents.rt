@@ -8,7 +8,7 @@ use crate::data::{any_over, bytes_of, count, words_of};
 use crate::fitting::misfits;
 use crate::numbers::{fill, has_name};
 use crate::settled::Settled;
-use md_asm_text::{Body, Piece};
+use md_asm_text::{Body, Token};
 use md_word::NoMemory;
 use std::alloc::Global;
 
@@ -17,11 +17,11 @@ use std::alloc::Global;
 fn instruction_size(
     alloc: Global,
     z80: bool,
-    pieces: &[Piece<'_>],
+    tokens: &[Token<'_>],
 ) -> Result<Option<usize>, NoMemory>
-    ensures { IfOk result (λ size. size ≡ contents.size z80 Body.Instruction (map shown pieces.now)) }
+    ensures { IfOk result (λ size. size ≡ contents.size z80 Body.Instruction (map shown tokens.now)) }
 {
-    let filled = fill(alloc, pieces)?;
+    let filled = fill(alloc, tokens)?;
     match code(alloc, z80, filled.as_slice(), 4)? {
         Some(bytes) => Ok(Some(bytes.len())),
         None => Ok(None),
@@ -33,15 +33,15 @@ pub fn size(
     alloc: Global,
     z80: bool,
     body: Body,
-    pieces: &[Piece<'_>],
+    tokens: &[Token<'_>],
 ) -> Result<Option<usize>, NoMemory>
-    ensures { IfOk result (λ size. size ≡ contents.size z80 body (map shown pieces.now)) }
+    ensures { IfOk result (λ size. size ≡ contents.size z80 body (map shown tokens.now)) }
 {
     match body {
         Body::Bad => Ok(None),
-        Body::Words => Ok(Some(2 * count(pieces))),
-        Body::Bytes => Ok(Some(count(pieces))),
-        Body::Instruction => instruction_size(alloc, z80, pieces),
+        Body::Words => Ok(Some(2 * count(tokens))),
+        Body::Bytes => Ok(Some(count(tokens))),
+        Body::Instruction => instruction_size(alloc, z80, tokens),
         Body::Nothing | Body::Org(_) | Body::Main | Body::Sub(_) => Ok(Some(0)),
     }
 }
@@ -51,15 +51,15 @@ pub fn is_unfit(
     alloc: Global,
     z80: bool,
     body: Body,
-    pieces: &[Piece<'_>],
+    tokens: &[Token<'_>],
 ) -> Result<bool, NoMemory>
-    ensures { IfOk result (λ unfit. unfit ≡ contents.is_unfit z80 body (map shown pieces.now)) }
+    ensures { IfOk result (λ unfit. unfit ≡ contents.is_unfit z80 body (map shown tokens.now)) }
 {
     match body {
         Body::Sub(at) => Ok(at >= 65_536),
-        Body::Words => Ok(any_over(65_536, pieces)),
-        Body::Bytes => Ok(any_over(256, pieces)),
-        Body::Instruction => misfits(alloc, z80, pieces),
+        Body::Words => Ok(any_over(65_536, tokens)),
+        Body::Bytes => Ok(any_over(256, tokens)),
+        Body::Instruction => misfits(alloc, z80, tokens),
         Body::Bad | Body::Nothing | Body::Org(_) | Body::Main => Ok(false),
     }
 }
@@ -70,22 +70,22 @@ pub(crate) fn content(
     alloc: Global,
     z80: bool,
     body: Body,
-    pieces: &[Piece<'_>],
+    tokens: &[Token<'_>],
     at: u32,
 ) -> Result<Option<Vec<u8>>, NoMemory>
     requires { z80 ≡ true → at < 65536 }
-    ensures { IfOk result (λ found. option_map (λ bytes. bytes.items) found ≡ contents.content z80 body (map shown pieces.now) at) }
+    ensures { IfOk result (λ found. option_map (λ bytes. bytes.items) found ≡ contents.content z80 body (map shown tokens.now) at) }
 {
     match body {
         Body::Words => {
-            let bytes = words_of(alloc, pieces)?;
+            let bytes = words_of(alloc, tokens)?;
             Ok(Some(bytes))
         }
         Body::Bytes => {
-            let bytes = bytes_of(alloc, pieces)?;
+            let bytes = bytes_of(alloc, tokens)?;
             Ok(Some(bytes))
         }
-        Body::Instruction => code(alloc, z80, pieces, at),
+        Body::Instruction => code(alloc, z80, tokens, at),
         Body::Bad | Body::Nothing | Body::Org(_) | Body::Main | Body::Sub(_) => {
             Ok(Some(Vec::new(alloc)))
         }
@@ -115,18 +115,18 @@ pub fn settle(
     z80: bool,
     body: Body,
     long: usize,
-    pieces: &[Piece<'_>],
+    tokens: &[Token<'_>],
     at: u32,
 ) -> Result<Settled, NoMemory>
     requires { z80 ≡ true → at < 65536 }
-    ensures { IfOk result (λ settled. settled_seen settled ≡ contents.settled_line z80 body long (map shown pieces.now) at) }
+    ensures { IfOk result (λ settled. settled_seen settled ≡ contents.settled_line z80 body long (map shown tokens.now) at) }
 {
-    if has_name(pieces) {
+    if has_name(tokens) {
         return Ok(Settled::Unknown);
     }
-    if is_unfit(alloc, z80, body, pieces)? {
+    if is_unfit(alloc, z80, body, tokens)? {
         return Ok(Settled::Unfit);
     }
-    let found = content(alloc, z80, body, pieces, at)?;
+    let found = content(alloc, z80, body, tokens, at)?;
     Ok(sized(found, long))
 }

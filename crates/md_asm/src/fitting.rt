@@ -1,12 +1,12 @@
 ghost use Rattle.std.specs.Prelude.{◌≡◌, ◌<◌, ◌+◌, IfOk, length, map, true};
 ghost use Rattle.md_asm_text.specs.Shown.{shown};
-ghost use Rattle.md_asm_text.specs.Pieces as texts;
+ghost use Rattle.md_asm_text.specs.Tokens as texts;
 ghost use Rattle.md_asm.specs.Contents as contents;
 ghost use Rattle.md_asm.specs.Numbers as numbers;
 
 use crate::codes::code;
 use crate::numbers::fill;
-use md_asm_text::Piece;
+use md_asm_text::Token;
 use md_word::NoMemory;
 use std::alloc::Global;
 
@@ -25,15 +25,15 @@ fn under(z80: bool, n: u32) -> u32
 /// The tokens with 8 for each number and name, and a number at one place. It fails where memory runs out.
 fn alone<'a>(
     alloc: Global,
-    pieces: &[Piece<'a>],
+    tokens: &[Token<'a>],
     i: usize,
     n: u32,
-) -> Result<Vec<Piece<'a>>, NoMemory>
-    requires { i < length pieces.now }
-    ensures { IfOk result (λ v. map shown v.items ≡ numbers.alone (map shown pieces.now) i (texts.Number n)) }
+) -> Result<Vec<Token<'a>>, NoMemory>
+    requires { i < length tokens.now }
+    ensures { IfOk result (λ v. map shown v.items ≡ numbers.alone (map shown tokens.now) i (texts.Number n)) }
 {
-    let mut tried = fill(alloc, pieces)?;
-    tried[i] = Piece::Number(n);
+    let mut tried = fill(alloc, tokens)?;
+    tried[i] = Token::Number(n);
     Ok(tried)
 }
 
@@ -41,16 +41,16 @@ fn alone<'a>(
 fn misfit(
     alloc: Global,
     z80: bool,
-    pieces: &[Piece<'_>],
+    tokens: &[Token<'_>],
     i: usize,
-    piece: &Piece<'_>,
+    token: &Token<'_>,
 ) -> Result<bool, NoMemory>
-    requires { i < length pieces.now }
-    ensures { IfOk result (λ misfits. misfits ≡ contents.misfit z80 (map shown pieces.now) i (shown piece.now)) }
+    requires { i < length tokens.now }
+    ensures { IfOk result (λ misfits. misfits ≡ contents.misfit z80 (map shown tokens.now) i (shown token.now)) }
 {
-    match piece {
-        Piece::Number(n) => {
-            let tried = alone(alloc, pieces, i, *n)?;
+    match token {
+        Token::Number(n) => {
+            let tried = alone(alloc, tokens, i, *n)?;
             let found = code(alloc, z80, tried.as_slice(), under(z80, *n))?;
             Ok(found.is_none())
         }
@@ -60,13 +60,13 @@ fn misfit(
 
 /// Whether a number of an instruction does not fit. It fails where memory runs out.
 #[tactic(auto, unfolding(crate::specs::Contents::misfits))]
-pub(crate) fn misfits(alloc: Global, z80: bool, pieces: &[Piece<'_>]) -> Result<bool, NoMemory>
-    ensures { IfOk result (λ misfits. misfits ≡ contents.misfits z80 (map shown pieces.now) 0 (map shown pieces.now)) }
+pub(crate) fn misfits(alloc: Global, z80: bool, tokens: &[Token<'_>]) -> Result<bool, NoMemory>
+    ensures { IfOk result (λ misfits. misfits ≡ contents.misfits z80 (map shown tokens.now) 0 (map shown tokens.now)) }
 {
     let mut i = 0;
-    let mut rest = pieces;
-    while let [piece, after @ ..] = rest {
-        if misfit(alloc, z80, pieces, i, piece)? {
+    let mut rest = tokens;
+    while let [token, after @ ..] = rest {
+        if misfit(alloc, z80, tokens, i, token)? {
             return Ok(true);
         }
         i += 1;

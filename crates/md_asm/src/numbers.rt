@@ -4,20 +4,20 @@ ghost use Rattle.md_asm.specs.Numbers as numbers;
 ghost use Rattle.md_asm.specs.SeenCodes.{names_seen};
 
 use crate::names::Names;
-use md_asm_text::Piece;
+use md_asm_text::Token;
 use md_word::NoMemory;
 use std::alloc::Global;
 
 /// A token with the value of its name, where it is a name that has one.
-fn resolve_piece<'a>(names: &Names<'a>, piece: Piece<'a>) -> Piece<'a>
-    ensures { shown result ≡ numbers.resolved_piece (names_seen names.now) (shown piece.entry) }
+fn resolve_token<'a>(names: &Names<'a>, token: Token<'a>) -> Token<'a>
+    ensures { shown result ≡ numbers.resolved_token (names_seen names.now) (shown token.entry) }
 {
-    match piece {
-        Piece::Name(name) => match names.value_of(name) {
-            Some(value) => Piece::Number(value),
-            None => piece,
+    match token {
+        Token::Name(name) => match names.value_of(name) {
+            Some(value) => Token::Number(value),
+            None => token,
         },
-        _ => piece,
+        _ => token,
     }
 }
 
@@ -25,34 +25,34 @@ fn resolve_piece<'a>(names: &Names<'a>, piece: Piece<'a>) -> Piece<'a>
 pub fn resolve<'a>(
     alloc: Global,
     names: &Names<'a>,
-    pieces: &[Piece<'a>],
-) -> Result<Vec<Piece<'a>>, NoMemory>
-    ensures { IfOk result (λ v. map shown v.items ≡ numbers.resolved (names_seen names.now) (map shown pieces.now)) }
+    tokens: &[Token<'a>],
+) -> Result<Vec<Token<'a>>, NoMemory>
+    ensures { IfOk result (λ v. map shown v.items ≡ numbers.resolved (names_seen names.now) (map shown tokens.now)) }
 {
     let mut resolved = Vec::new(alloc);
-    for piece in pieces {
-        resolved.push(resolve_piece(names, *piece))?;
+    for token in tokens {
+        resolved.push(resolve_token(names, *token))?;
     }
     Ok(resolved)
 }
 
-fn is_name(piece: &Piece<'_>) -> bool
-    ensures { result ≡ numbers.is_name (shown piece.now) }
+fn is_name(token: &Token<'_>) -> bool
+    ensures { result ≡ numbers.is_name (shown token.now) }
 {
-    match piece {
-        Piece::Name(_) => true,
+    match token {
+        Token::Name(_) => true,
         _ => false,
     }
 }
 
 /// Whether a name is among the tokens.
 #[tactic(auto, unfolding(crate::specs::Numbers::has_name))]
-pub fn has_name(pieces: &[Piece<'_>]) -> bool
-    ensures { result ≡ numbers.has_name (map shown pieces.now) }
+pub fn has_name(tokens: &[Token<'_>]) -> bool
+    ensures { result ≡ numbers.has_name (map shown tokens.now) }
 {
-    let mut rest = pieces;
-    while let [piece, after @ ..] = rest {
-        if is_name(piece) {
+    let mut rest = tokens;
+    while let [token, after @ ..] = rest {
+        if is_name(token) {
             return true;
         }
         rest = after;
@@ -60,22 +60,22 @@ pub fn has_name(pieces: &[Piece<'_>]) -> bool
     false
 }
 
-fn fill_piece<'a>(piece: Piece<'a>) -> Piece<'a>
-    ensures { shown result ≡ numbers.filled_piece (shown piece.entry) }
+fn fill_token<'a>(token: Token<'a>) -> Token<'a>
+    ensures { shown result ≡ numbers.filled_token (shown token.entry) }
 {
-    match piece {
-        Piece::Name(_) | Piece::Number(_) => Piece::Number(8),
-        _ => piece,
+    match token {
+        Token::Name(_) | Token::Number(_) => Token::Number(8),
+        _ => token,
     }
 }
 
 /// The tokens with 8 for each number and name. It fails where memory runs out.
-pub(crate) fn fill<'a>(alloc: Global, pieces: &[Piece<'a>]) -> Result<Vec<Piece<'a>>, NoMemory>
-    ensures { IfOk result (λ v. map shown v.items ≡ numbers.filled (map shown pieces.now)) }
+pub(crate) fn fill<'a>(alloc: Global, tokens: &[Token<'a>]) -> Result<Vec<Token<'a>>, NoMemory>
+    ensures { IfOk result (λ v. map shown v.items ≡ numbers.filled (map shown tokens.now)) }
 {
     let mut filled = Vec::new(alloc);
-    for piece in pieces {
-        filled.push(fill_piece(*piece))?;
+    for token in tokens {
+        filled.push(fill_token(*token))?;
     }
     Ok(filled)
 }

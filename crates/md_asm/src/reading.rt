@@ -1,5 +1,5 @@
 ghost use Rattle.std.specs.Prelude.{◌≡◌, ◌+◌, ◌<◌, ◌≤◌, IfOk, IfSome, OnOk, map, true, option_map, vec_len};
-ghost use Rattle.md_asm_text.specs.Pieces as texts;
+ghost use Rattle.md_asm_text.specs.Tokens as texts;
 ghost use Rattle.md_asm_text.specs.Shown.{shown};
 ghost use Rattle.md_asm_text.specs.Lines.{line_of};
 ghost use Rattle.md_asm_text.specs.Seen.{line_seen};
@@ -15,7 +15,7 @@ use crate::kind::Kind;
 use crate::pass::Pass;
 use crate::processor::{Processor, address, is_sub};
 use crate::{Names, Settled, has_name, is_unfit, settle, size};
-use md_asm_text::{Body, Line, Piece, read_line};
+use md_asm_text::{Body, Line, Token, read_line};
 use md_word::NoMemory;
 use std::alloc::Global;
 
@@ -58,9 +58,9 @@ fn is_too_large(place: u32, long: usize) -> bool
 }
 
 /// The place after a line.
-fn place_behind(place: u32, body: Body, long: usize) -> u32
+fn place_after(place: u32, body: Body, long: usize) -> u32
     requires { rounds.has_bytes body ≡ true → place + long ≤ places.image_limit }
-    ensures { result ≡ rounds.place_behind place body long }
+    ensures { result ≡ rounds.place_after place body long }
 {
     match body {
         Body::Org(at) => at,
@@ -70,8 +70,8 @@ fn place_behind(place: u32, body: Body, long: usize) -> u32
 }
 
 /// The processor after a line.
-fn processor_behind(processor: Processor, place: u32, body: Body) -> Processor
-    ensures { result ≡ rounds.processor_behind processor place body }
+fn processor_after(processor: Processor, place: u32, body: Body) -> Processor
+    ensures { result ≡ rounds.processor_after processor place body }
 {
     match body {
         Body::Main => Processor::Main,
@@ -87,16 +87,16 @@ fn known(
     z80: bool,
     body: Body,
     long: usize,
-    pieces: &[Piece<'_>],
+    tokens: &[Token<'_>],
     at: u32,
 ) -> Result<Option<Vec<u8>>, NoMemory>
     requires { z80 ≡ true → at < 65536 }
-    ensures { IfOk result (λ found. IfSome found (λ bytes. SettlesOn z80 body long (map shown pieces.now) at bytes.items)) }
+    ensures { IfOk result (λ found. IfSome found (λ bytes. SettlesOn z80 body long (map shown tokens.now) at bytes.items)) }
 {
-    if has_name(pieces) {
+    if has_name(tokens) {
         return Ok(None);
     }
-    match settle(alloc, z80, body, long, pieces, at)? {
+    match settle(alloc, z80, body, long, tokens, at)? {
         Settled::Good(bytes) => Ok(Some(bytes)),
         Settled::Unknown | Settled::Unfit | Settled::Far => Ok(None),
     }
@@ -112,11 +112,11 @@ impl<'a> Pass<'a> {
         long: usize,
     ) -> Result<Option<Kind>, NoMemory>
         requires whole { vec_len self.now.cells.marks ≡ places.image_limit }
-        requires pieces { map shown line.now.pieces.items ≡ texts.pieces line.now.text.now }
+        requires tokens { map shown line.now.tokens.items ≡ texts.tokens line.now.text.now }
         ensures { IfOk result (λ fault. fault ≡ rounds.fault_of (round_seen self.now) (line_seen line.now) long) }
     {
         let z80 = is_sub(self.processor);
-        if is_unfit(alloc, z80, line.body, line.pieces.as_slice())? {
+        if is_unfit(alloc, z80, line.body, line.tokens.as_slice())? {
             return Ok(Some(Kind::BadNumber));
         }
         if is_twice(&self.names, line.label) {
@@ -143,14 +143,14 @@ impl<'a> Pass<'a> {
         long: usize,
     ) -> Result<(), NoMemory>
         requires pass { IsPass self.old }
-        requires pieces { map shown line.now.pieces.items ≡ texts.pieces line.now.text.now }
+        requires tokens { map shown line.now.tokens.items ≡ texts.tokens line.now.text.now }
         requires within { self.old.place + long ≤ places.image_limit }
         ensures seen { OnOk result (round_seen self.new ≡ rounds.kept (round_seen self.old) number (line_seen line.now) long) }
         ensures pass { OnOk result (IsPass self.new) }
     {
         let z80 = is_sub(self.processor);
         let at = address(self.processor, self.place);
-        let bytes = known(alloc, z80, line.body, long, line.pieces.as_slice(), at)?;
+        let bytes = known(alloc, z80, line.body, long, line.tokens.as_slice(), at)?;
         self.entries.push(Entry {
             line: number,
             place: self.place,
@@ -188,17 +188,17 @@ impl<'a> Pass<'a> {
         long: usize,
     ) -> Result<(), NoMemory>
         requires pass { IsPass self.old }
-        requires pieces { map shown line.now.pieces.items ≡ texts.pieces line.now.text.now }
+        requires tokens { map shown line.now.tokens.items ≡ texts.tokens line.now.text.now }
         requires within { rounds.has_bytes line.now.body ≡ true → self.old.place + long ≤ places.image_limit }
-        ensures seen { OnOk result (round_seen self.new ≡ rounds.behind (round_seen self.old) number (line_seen line.now) long) }
+        ensures seen { OnOk result (round_seen self.new ≡ rounds.following (round_seen self.old) number (line_seen line.now) long) }
         ensures pass { OnOk result (IsPass self.new) }
     {
         self.label(line.label)?;
         if has_bytes(line.body) {
             self.keep(alloc, number, line, long)?;
         }
-        self.processor = processor_behind(self.processor, self.place, line.body);
-        self.place = place_behind(self.place, line.body, long);
+        self.processor = processor_after(self.processor, self.place, line.body);
+        self.place = place_after(self.place, line.body, long);
         Ok(())
     }
 
@@ -215,7 +215,7 @@ impl<'a> Pass<'a> {
     {
         let line = read_line(alloc, text)?;
         let z80 = is_sub(self.processor);
-        let Some(long) = size(alloc, z80, line.body, line.pieces.as_slice())? else {
+        let Some(long) = size(alloc, z80, line.body, line.tokens.as_slice())? else {
             return Ok(Some(Kind::BadLine));
         };
         if let Some(kind) = self.fault_of(alloc, &line, long)? {

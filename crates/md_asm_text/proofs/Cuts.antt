@@ -2,11 +2,11 @@
 use Rattle.std.proofs.Common.{◌≡◌, ℕ, ◌-◌, ◌<◌, ◌≤◌, Bool, true, false, List, [], ◌∷◌, ◌++◌, ◌==◌, length, take, get_or, reverse, refl, ap, ◌∙◌, sym, arith, if◌then◌else◌}
 use Rattle.std.proofs.lemmas.Grind.{common_steps}
 use Rattle.std.proofs.lemmas.List.{reverse-append, reverse-reverse}
-use Rattle.md_asm_text.specs.Texts.{before, behind, cut_back, is_blank, lines, unblanked, with_character}
+use Rattle.md_asm_text.specs.Texts.{before, following, cut_back, is_blank, lines, unblanked, with_character}
 
 -- a text that is not empty is its first line, and the lines after it
-pub first_line : (c : ℕ) (cs : List ℕ) → lines (c ∷ cs) ≡ before 10 (c ∷ cs) ∷ lines (behind 10 (c ∷ cs))
-unfolding lines before behind
+pub first_line : (c : ℕ) (cs : List ℕ) → lines (c ∷ cs) ≡ before 10 (c ∷ cs) ∷ lines (following 10 (c ∷ cs))
+unfolding lines before following
 first_line c [] = by_test (c == 10)
   where
     by_test : (b : Bool) → (if b then [] ∷ [] else with_character c []) ≡ (if b then [] else c ∷ []) ∷ lines (if b then [] else [])
@@ -14,9 +14,9 @@ first_line c [] = by_test (c == 10)
     by_test false = refl
 first_line c (d ∷ ds) = by_test (c == 10) (first_line d ds)
   where
-    by_test : (b : Bool) → lines (d ∷ ds) ≡ before 10 (d ∷ ds) ∷ lines (behind 10 (d ∷ ds))
+    by_test : (b : Bool) → lines (d ∷ ds) ≡ before 10 (d ∷ ds) ∷ lines (following 10 (d ∷ ds))
         → (if b then [] ∷ lines (d ∷ ds) else with_character c (lines (d ∷ ds)))
-        ≡ (if b then [] else c ∷ before 10 (d ∷ ds)) ∷ lines (if b then d ∷ ds else behind 10 (d ∷ ds))
+        ≡ (if b then [] else c ∷ before 10 (d ∷ ds)) ∷ lines (if b then d ∷ ds else following 10 (d ∷ ds))
     by_test true more = refl
     by_test false more = ap (with_character c) more
 
@@ -45,25 +45,25 @@ pub cut_other : (xs : List ℕ) → 0 < length xs → is_blank (get_or xs (lengt
 cut_other xs some is =
     last_split xs some ∙ sym (ap cut_back (last_split xs some) ∙ back_other (take (length xs - 1) xs) (get_or xs (length xs - 1) 0) is)
 
-behind_within : (text : List ℕ) → length (behind 10 text) ≤ length text
-unfolding behind
-behind_within [] = omega arith
-behind_within (c ∷ cs) = by_test (c == 10) (behind_within cs)
+after_within : (text : List ℕ) → length (following 10 text) ≤ length text
+unfolding following
+after_within [] = omega arith
+after_within (c ∷ cs) = by_test (c == 10) (after_within cs)
   where
-    by_test : (b : Bool) → length (behind 10 cs) ≤ length cs → length (if b then cs else behind 10 cs) ≤ length (c ∷ cs)
+    by_test : (b : Bool) → length (following 10 cs) ≤ length cs → length (if b then cs else following 10 cs) ≤ length (c ∷ cs)
     by_test true h = omega arith
     by_test false h = omega arith
 
 -- a text that is not empty
-pub first_of : (text : List ℕ) → 0 < length text → lines text ≡ before 10 text ∷ lines (behind 10 text)
+pub first_of : (text : List ℕ) → 0 < length text → lines text ≡ before 10 text ∷ lines (following 10 text)
 first_of [] some = absurd (omega arith)
 first_of (c ∷ cs) some = first_line c cs
 
-pub behind_shorter : (text : List ℕ) → 0 < length text → length (behind 10 text) < length text
-unfolding behind
-behind_shorter [] some = absurd (omega arith)
-behind_shorter (c ∷ cs) some = by_test (c == 10) (behind_within cs)
+pub after_shorter : (text : List ℕ) → 0 < length text → length (following 10 text) < length text
+unfolding following
+after_shorter [] some = absurd (omega arith)
+after_shorter (c ∷ cs) some = by_test (c == 10) (after_within cs)
   where
-    by_test : (b : Bool) → length (behind 10 cs) ≤ length cs → length (if b then cs else behind 10 cs) < length (c ∷ cs)
+    by_test : (b : Bool) → length (following 10 cs) ≤ length cs → length (if b then cs else following 10 cs) < length (c ∷ cs)
     by_test true h = omega arith
     by_test false h = omega arith

@@ -1,7 +1,7 @@
 -- The tokens of a text are that of the word at the start and those after it.
 use Rattle.std.proofs.Common.{◌≡◌, ℕ, ◌+◌, ◌-◌, ◌≤◌, Bool, true, false, List, [], ◌∷◌, ◌++◌, length, take, drop, append_assoc, append-nil, refl, ap, ◌∙◌, sym, arith, if◌then◌else◌}
 use Rattle.std.proofs.lemmas.Grind.{common_steps}
-use Rattle.md_asm_text.specs.Pieces.{Piece, closed, is_worded, opened, split, Word}
+use Rattle.md_asm_text.specs.Tokens.{Token, closed, is_worded, opened, split, Word}
 use Rattle.md_asm_text.specs.Runs.{marks, run}
 
 one_more : (c : ℕ) (cs : List ℕ) (k : ℕ) → take (1 + k) (c ∷ cs) ≡ c ∷ take k cs
@@ -47,8 +47,8 @@ opened_front text = opened_run [] text
 whole_rest : (k : ℕ) (text : List ℕ) → take (length text - k) (drop k text) ≡ drop k text
 whole_rest k text = grind (arith, common_steps)
 
-pub front_joined : (old new : List Piece) (text : List ℕ) (count : ℕ) → count ≡ run text → new ≡ old ++ closed (take count text)
+pub front_joined : (old new : List Token) (text : List ℕ) (count : ℕ) → count ≡ run text → new ≡ old ++ closed (take count text)
     → new ++ marks (take (length text - count) (drop count text)) ≡ old ++ split [] text
 front_joined old new text count e put =
     rw (whole_rest count text, put, e)
-    (append_assoc old (closed (take (run text) text)) (marks (drop (run text) text)) ∙ ap (λ (l : List Piece). old ++ l) (sym (split_front text)))
+    (append_assoc old (closed (take (run text) text)) (marks (drop (run text) text)) ∙ ap (λ (l : List Token). old ++ l) (sym (split_front text)))

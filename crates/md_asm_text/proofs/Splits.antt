@@ -4,7 +4,7 @@ use Rattle.std.specs.Fmt.{digit_glyph}
 use Rattle.std.proofs.lemmas.Bool.Decides.{nat_tests}
 use Rattle.std.proofs.lemmas.Bool.{not-true, and_parts}
 use Rattle.md_disasm.specs.Digits.{one_digit, two_digits, four_digits, eight_digits}
-use Rattle.md_asm_text.specs.Pieces.{Piece, Word, Number, Mark, are_digits, closed, digit_value, every, is_hexadecimal, is_name, is_worded, opened, split, token_of, value_behind}
+use Rattle.md_asm_text.specs.Tokens.{Token, Word, Number, Mark, are_digits, closed, digit_value, every, is_hexadecimal, is_name, is_worded, opened, split, token_of, value_after}
 
 -- a text that does not go on with a word
 abbrev pub is_end : List ℕ → Bool
@@ -12,8 +12,8 @@ is_end [] = true
 is_end (c ∷ cs) = not (is_worded c)
 
 -- a token before others, and three texts before a fourth
-pub behind : (p : Piece) (xs ys : List Piece) → xs ≡ ys → p ∷ xs ≡ p ∷ ys
-behind p xs ys e = ap (λ (l : List Piece). p ∷ l) e
+pub following : (p : Token) (xs ys : List Token) → xs ≡ ys → p ∷ xs ≡ p ∷ ys
+following p xs ys e = ap (λ (l : List Token). p ∷ l) e
 
 pub apart : (a b c e : List ℕ) → ((a ++ b) ++ c) ++ e ≡ a ++ (b ++ (c ++ e))
 apart a b c e = append_assoc (a ++ b) c e ∙ append_assoc a b (c ++ e)
@@ -108,7 +108,7 @@ register_split c n e is dollar ends =
 record AreDigitsOf (count n : ℕ) (digits : List ℕ) : Type 0 where
   pub all : every is_hexadecimal digits ≡ true
   pub long : length digits ≡ count
-  pub value : value_behind 0 digits ≡ n
+  pub value : value_after 0 digits ≡ n
 
 one_all : (n : ℕ) → every is_hexadecimal (one_digit n) ≡ true
 unfolding one_digit
@@ -132,27 +132,27 @@ eight_all : (n : ℕ) → every is_hexadecimal (eight_digits n) ≡ true
 unfolding eight_digits
 eight_all n = every_both is_hexadecimal (four_digits (n / 65536)) (four_digits (n % 65536)) (four_all (n / 65536)) (four_all (n % 65536))
 
-value_both : (before : ℕ) (xs ys : List ℕ) → value_behind before (xs ++ ys) ≡ value_behind (value_behind before xs) ys
+value_both : (before : ℕ) (xs ys : List ℕ) → value_after before (xs ++ ys) ≡ value_after (value_after before xs) ys
 value_both before [] ys = refl
 value_both before (x ∷ xs) ys = value_both (before * 16 + digit_value x) xs ys
 
-one_value : (before n : ℕ) → value_behind before (one_digit n) ≡ before * 16 + n % 16
+one_value : (before n : ℕ) → value_after before (one_digit n) ≡ before * 16 + n % 16
 unfolding one_digit
 one_value before n = let e = value n in omega (arith, e)
 
-two_value : (before n : ℕ) → value_behind before (two_digits n) ≡ before * 256 + n % 256
+two_value : (before n : ℕ) → value_after before (two_digits n) ≡ before * 256 + n % 256
 unfolding two_digits
 two_value before n =
     value_both before (one_digit (n / 16)) (one_digit n)
     ∙ rw (one_value before (n / 16), one_value (before * 16 + n / 16 % 16) n) (omega arith)
 
-four_value : (before n : ℕ) → value_behind before (four_digits n) ≡ before * 65536 + n % 65536
+four_value : (before n : ℕ) → value_after before (four_digits n) ≡ before * 65536 + n % 65536
 unfolding four_digits
 four_value before n =
     value_both before (two_digits (n / 256)) (two_digits (n % 256))
     ∙ rw (two_value before (n / 256), two_value (before * 256 + n / 256 % 256) (n % 256)) (omega arith)
 
-eight_value : (before n : ℕ) → value_behind before (eight_digits n) ≡ before * 4294967296 + n % 4294967296
+eight_value : (before n : ℕ) → value_after before (eight_digits n) ≡ before * 4294967296 + n % 4294967296
 unfolding eight_digits
 eight_value before n =
     value_both before (four_digits (n / 65536)) (four_digits (n % 65536))
@@ -199,7 +199,7 @@ number_split : (count n : ℕ) (digits e : List ℕ) → 0 < count → count < 9
     → split [] (36 ∷ (digits ++ e)) ≡ Number n ∷ split [] e
 unfolding is_worded
 number_split count n digits e some few are ends =
-    word_split (36 ∷ digits) e (all_worded digits are.all) ends ∙ ap (λ (p : Piece). p ∷ split [] e) (number_token count n digits some few are)
+    word_split (36 ∷ digits) e (all_worded digits are.all) ends ∙ ap (λ (p : Token). p ∷ split [] e) (number_token count n digits some few are)
 
 -- the numbers of texts
 pub number_1 : (n : ℕ) (e : List ℕ) → n < 16 → is_end e ≡ true → split [] (36 ∷ (one_digit n ++ e)) ≡ Number n ∷ split [] e

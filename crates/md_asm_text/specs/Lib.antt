@@ -3,7 +3,7 @@ pub mod Bodies
 pub mod Bounds
 pub mod Lines
 pub mod Operands
-pub mod Pieces
+pub mod Tokens
 pub mod Runs
 pub mod Seen
 pub mod Shown

@@ -8,9 +8,9 @@ before mark [] = []
 before mark (c ∷ cs) = if c == mark then [] else c ∷ before mark cs
 
 -- the text after it
-unfoldable pub behind : ℕ → List ℕ → List ℕ
-behind mark [] = []
-behind mark (c ∷ cs) = if c == mark then cs else behind mark cs
+unfoldable pub following : ℕ → List ℕ → List ℕ
+following mark [] = []
+following mark (c ∷ cs) = if c == mark then cs else following mark cs
 
 -- whether there is one
 unfoldable pub has : ℕ → List ℕ → Bool

@@ -1,5 +1,5 @@
 ghost use Rattle.std.specs.Prelude.{◌≡◌, ◌<◌, ◌≤◌, ◌^◌, length};
-ghost use Rattle.md_asm_text.specs.Pieces as meaning;
+ghost use Rattle.md_asm_text.specs.Tokens as meaning;
 
 pub(crate) fn is_digit(c: u8) -> bool
     ensures { result ≡ meaning.is_digit c }
@@ -21,7 +21,7 @@ pub(crate) fn is_named(c: u8) -> bool
 }
 
 /// Whether a character belongs to a word.
-#[tactic(auto, unfolding(crate::specs::Pieces::is_worded))]
+#[tactic(auto, unfolding(crate::specs::Tokens::is_worded))]
 pub(crate) fn is_worded(c: u8) -> bool
     ensures { result ≡ meaning.is_worded c }
 {

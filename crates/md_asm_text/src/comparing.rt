@@ -1,23 +1,23 @@
 ghost use Rattle.std.specs.Prelude.{◌≡◌, ◌↔◌, map, IsTrue};
 ghost use Rattle.md_asm_text.specs.Shown.{shown};
 
-use crate::piece::Piece;
+use crate::token::Token;
 
 /// Whether two tokens are the same.
-fn alike(x: &Piece<'_>, y: &Piece<'_>) -> bool
+fn alike(x: &Token<'_>, y: &Token<'_>) -> bool
     ensures { IsTrue result ↔ (shown x.now ≡ shown y.now) }
 {
     match (x, y) {
-        (Piece::Word(a), Piece::Word(b)) => *a == *b,
-        (Piece::Number(a), Piece::Number(b)) => *a == *b,
-        (Piece::Name(a), Piece::Name(b)) => *a == *b,
-        (Piece::Mark(a), Piece::Mark(b)) => *a == *b,
+        (Token::Word(a), Token::Word(b)) => *a == *b,
+        (Token::Number(a), Token::Number(b)) => *a == *b,
+        (Token::Name(a), Token::Name(b)) => *a == *b,
+        (Token::Mark(a), Token::Mark(b)) => *a == *b,
         _ => false,
     }
 }
 
 /// Whether two texts have the same tokens.
-pub fn same(a: &[Piece<'_>], b: &[Piece<'_>]) -> bool
+pub fn same(a: &[Token<'_>], b: &[Token<'_>]) -> bool
     ensures { IsTrue result ↔ (map shown a.now ≡ map shown b.now) }
 {
     let mut first = a;

@@ -2,11 +2,11 @@ ghost use Rattle.std.specs.Prelude.{◌≡◌, ◌<◌, ◌≤◌, ◌+◌, ◌�
 ghost use Rattle.md_asm_text.specs.Texts as meaning;
 
 /// The count of characters before the first one like this; of all of them without one.
-#[tactic(auto, unfolding(crate::specs::Texts::before, crate::specs::Texts::behind, crate::specs::Texts::has))]
+#[tactic(auto, unfolding(crate::specs::Texts::before, crate::specs::Texts::following, crate::specs::Texts::has))]
 fn index_of(text: &[u8], mark: u8) -> usize
     ensures within { result ≤ length text.now }
     ensures before { take result text.now ≡ meaning.before mark text.now }
-    ensures behind { drop (result + 1) text.now ≡ meaning.behind mark text.now }
+    ensures following { drop (result + 1) text.now ≡ meaning.following mark text.now }
     ensures found { nat_lt result (length text.now) ≡ meaning.has mark text.now }
 {
     for (i, c) in text.iter().enumerate() {
@@ -33,8 +33,8 @@ pub(crate) fn before(text: &[u8], mark: u8) -> &[u8]
 }
 
 /// The text after the first such character; the empty text without one.
-pub(crate) fn behind(text: &[u8], mark: u8) -> &[u8]
-    ensures { result.now ≡ meaning.behind mark text.now }
+pub(crate) fn following(text: &[u8], mark: u8) -> &[u8]
+    ensures { result.now ≡ meaning.following mark text.now }
 {
     let count = index_of(text, mark);
     if count < text.len() {
@@ -51,6 +51,6 @@ pub fn next_line(text: &[u8]) -> (&[u8], &[u8])
     ensures shorter { length result.1.now < length text.now }
 {
     let line = before(text, 10);
-    let rest = behind(text, 10);
+    let rest = following(text, 10);
     (line, rest)
 }

@@ -9,8 +9,8 @@ mod cutting;
 mod directives;
 mod line;
 mod operands;
-mod piece;
 mod splitter;
+mod token;
 mod trimming;
 mod words;
 
@@ -19,6 +19,6 @@ pub use comparing::same;
 pub use cutting::next_line;
 pub use line::{Line, read_line};
 pub use operands::{first_operand, second_operand};
-pub use piece::Piece;
 pub use splitter::split;
+pub use token::Token;
 pub use words::is_name;

@@ -1,14 +1,14 @@
 ghost use Rattle.std.specs.Prelude.{◌≡◌, IfOk, map, option_map};
-ghost use Rattle.md_asm_text.specs.Pieces as texts;
+ghost use Rattle.md_asm_text.specs.Tokens as texts;
 ghost use Rattle.md_asm_text.specs.Shown.{shown};
 ghost use Rattle.md_asm_text.specs.Lines as lines;
 ghost use Rattle.md_asm_text.specs.Seen.{line_seen};
 
 use crate::body::Body;
-use crate::cutting::{before, behind, has};
+use crate::cutting::{before, following, has};
 use crate::directives::directive_of;
 use crate::trimming::{cut_back, unblanked};
-use crate::{Piece, is_name, split};
+use crate::{Token, is_name, split};
 use md_word::NoMemory;
 use std::alloc::Global;
 
@@ -20,20 +20,20 @@ pub struct Line<'a> {
     /// The text after it, without blanks at either end.
     pub text: &'a [u8],
     /// The tokens of this text.
-    pub pieces: Vec<Piece<'a>>,
+    pub tokens: Vec<Token<'a>>,
     /// What this text is.
     pub body: Body,
 }
 
 /// What a text without blanks at either end is, by its tokens.
-fn body_of(text: &[u8], pieces: &[Piece<'_>]) -> Body
-    requires { map shown pieces.now ≡ texts.pieces text.now }
+fn body_of(text: &[u8], tokens: &[Token<'_>]) -> Body
+    requires { map shown tokens.now ≡ texts.tokens text.now }
     ensures { result ≡ lines.body_of text.now }
 {
     if text.is_empty() {
         Body::Nothing
     } else {
-        directive_of(pieces)
+        directive_of(tokens)
     }
 }
 
@@ -44,14 +44,14 @@ fn with_body<'a>(
     text: &'a [u8],
 ) -> Result<Line<'a>, NoMemory>
     ensures line { IfOk result (λ line. line_seen line ≡ lines.with_body (option_map (λ name. name.now) label.entry) text.now) }
-    ensures pieces { IfOk result (λ line. map shown line.pieces.items ≡ texts.pieces line.text.now) }
+    ensures tokens { IfOk result (λ line. map shown line.tokens.items ≡ texts.tokens line.text.now) }
 {
     let line_tokens = split(alloc, text)?;
     let body = body_of(text, line_tokens.as_slice());
     Ok(Line {
         label,
         text,
-        pieces: line_tokens,
+        tokens: line_tokens,
         body,
     })
 }
@@ -59,21 +59,21 @@ fn with_body<'a>(
 /// The line of a text without a comment and blanks at either end. It fails where memory runs out.
 fn labelled<'a>(alloc: Global, text: &'a [u8]) -> Result<Line<'a>, NoMemory>
     ensures line { IfOk result (λ line. line_seen line ≡ lines.labelled text.now) }
-    ensures pieces { IfOk result (λ line. map shown line.pieces.items ≡ texts.pieces line.text.now) }
+    ensures tokens { IfOk result (λ line. map shown line.tokens.items ≡ texts.tokens line.text.now) }
 {
     if !has(text, 58) {
         return with_body(alloc, None, text);
     }
     let name = before(text, 58);
     if is_name(name) {
-        with_body(alloc, Some(name), unblanked(behind(text, 58)))
+        with_body(alloc, Some(name), unblanked(following(text, 58)))
     } else {
         let nothing: &'a [u8] = &[];
         let line_tokens = split(alloc, nothing)?;
         Ok(Line {
             label: None,
             text: nothing,
-            pieces: line_tokens,
+            tokens: line_tokens,
             body: Body::Bad,
         })
     }
@@ -87,7 +87,7 @@ fn labelled<'a>(alloc: Global, text: &'a [u8]) -> Result<Line<'a>, NoMemory>
 #[tactic(auto, unfolding(crate::specs::Lines::line_of))]
 pub fn read_line<'a>(alloc: Global, text: &'a [u8]) -> Result<Line<'a>, NoMemory>
     ensures line { IfOk result (λ line. line_seen line ≡ lines.line_of text.now) }
-    ensures pieces { IfOk result (λ line. map shown line.pieces.items ≡ texts.pieces line.text.now) }
+    ensures tokens { IfOk result (λ line. map shown line.tokens.items ≡ texts.tokens line.text.now) }
 {
     labelled(alloc, cut_back(unblanked(before(text, 59))))
 }

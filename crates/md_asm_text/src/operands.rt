@@ -2,62 +2,62 @@ ghost use Rattle.std.specs.Prelude.{◌≡◌, ◌≤◌, ◌+◌, map, length, 
 ghost use Rattle.md_asm_text.specs.Operands as meaning;
 ghost use Rattle.md_asm_text.specs.Shown.{shown};
 
-use crate::piece::Piece;
+use crate::token::Token;
 
 /// Whether brackets are open after a token.
-fn opens(inside: bool, piece: &Piece<'_>) -> bool
-    ensures { result ≡ meaning.opens inside (shown piece.now) }
+fn opens(inside: bool, token: &Token<'_>) -> bool
+    ensures { result ≡ meaning.opens inside (shown token.now) }
 {
-    match piece {
-        Piece::Mark(40) => true,
-        Piece::Mark(41) => false,
+    match token {
+        Token::Mark(40) => true,
+        Token::Mark(41) => false,
         _ => inside,
     }
 }
 
 /// Whether a token is a comma.
-pub(crate) fn is_comma(piece: &Piece<'_>) -> bool
-    ensures { result ≡ meaning.is_comma (shown piece.now) }
+pub(crate) fn is_comma(token: &Token<'_>) -> bool
+    ensures { result ≡ meaning.is_comma (shown token.now) }
 {
-    match piece {
-        Piece::Mark(44) => true,
+    match token {
+        Token::Mark(44) => true,
         _ => false,
     }
 }
 
 /// The count of tokens before the first comma outside brackets; of all of them without one.
 #[tactic(auto, unfolding(crate::specs::Operands::operands_of))]
-fn before_comma(pieces: &[Piece<'_>]) -> usize
-    ensures within { result ≤ length pieces.now }
-    ensures first { map shown (take result pieces.now) ≡ (meaning.operands_of false (map shown pieces.now)).0 }
-    ensures second { map shown (drop (result + 1) pieces.now) ≡ (meaning.operands_of false (map shown pieces.now)).1 }
+fn before_comma(tokens: &[Token<'_>]) -> usize
+    ensures within { result ≤ length tokens.now }
+    ensures first { map shown (take result tokens.now) ≡ (meaning.operands_of false (map shown tokens.now)).0 }
+    ensures second { map shown (drop (result + 1) tokens.now) ≡ (meaning.operands_of false (map shown tokens.now)).1 }
 {
     let mut inside = false;
-    for (i, piece) in pieces.iter().enumerate() {
-        if !inside && is_comma(piece) {
+    for (i, token) in tokens.iter().enumerate() {
+        if !inside && is_comma(token) {
             return i;
         }
-        inside = opens(inside, piece);
+        inside = opens(inside, token);
     }
-    pieces.len()
+    tokens.len()
 }
 
 /// The tokens of an instruction's first operand: those before the first comma outside brackets.
-pub fn first_operand<'a, 'b>(pieces: &'b [Piece<'a>]) -> &'b [Piece<'a>]
-    ensures { map shown result.now ≡ (meaning.operands_of false (map shown pieces.now)).0 }
+pub fn first_operand<'a, 'b>(tokens: &'b [Token<'a>]) -> &'b [Token<'a>]
+    ensures { map shown result.now ≡ (meaning.operands_of false (map shown tokens.now)).0 }
 {
-    let count = before_comma(pieces);
-    &pieces[..count]
+    let count = before_comma(tokens);
+    &tokens[..count]
 }
 
 /// The tokens of an instruction's second operand: those after the first comma outside brackets, none without one.
-pub fn second_operand<'a, 'b>(pieces: &'b [Piece<'a>]) -> &'b [Piece<'a>]
-    ensures { map shown result.now ≡ (meaning.operands_of false (map shown pieces.now)).1 }
+pub fn second_operand<'a, 'b>(tokens: &'b [Token<'a>]) -> &'b [Token<'a>]
+    ensures { map shown result.now ≡ (meaning.operands_of false (map shown tokens.now)).1 }
 {
-    let count = before_comma(pieces);
-    if count < pieces.len() {
-        &pieces[count + 1..]
+    let count = before_comma(tokens);
+    if count < tokens.len() {
+        &tokens[count + 1..]
     } else {
-        &pieces[count..]
+        &tokens[count..]
     }
 }

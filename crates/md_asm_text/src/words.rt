@@ -1,10 +1,10 @@
 ghost use Rattle.std.specs.Prelude.{◌≡◌, ◌<◌, ◌≤◌, ◌^◌, ◌+◌, ◌*◌, [], length, true, if◌then◌else◌};
 ghost use Rattle.md_asm_text.specs.Bounds.{limit};
-ghost use Rattle.md_asm_text.specs.Pieces as meaning;
+ghost use Rattle.md_asm_text.specs.Tokens as meaning;
 ghost use Rattle.md_asm_text.specs.Shown.{shown};
 
 use crate::characters::{is_digit, is_letter, is_named};
-use crate::piece::Piece;
+use crate::token::Token;
 
 /// Whether a character is a hexadecimal digit, of either case.
 fn is_hexadecimal(c: u8) -> bool
@@ -55,17 +55,17 @@ fn digit_value(c: u8) -> u8
 }
 
 /// The value of digits after those that have a value already.
-fn value_behind(before: u32, text: &[u8]) -> u32
+fn value_after(before: u32, text: &[u8]) -> u32
     requires few { length text.now ≤ 8 }
     requires digits { meaning.every meaning.is_hexadecimal text.now ≡ true }
     requires room { before < limit (length text.now) }
-    ensures { result ≡ meaning.value_behind before text.now }
+    ensures { result ≡ meaning.value_after before text.now }
 {
     match text {
         [] => before,
         [c, rest @ ..] => {
             let digit = digit_value(*c);
-            value_behind(before * 16 + u32::from(digit), rest)
+            value_after(before * 16 + u32::from(digit), rest)
         }
     }
 }
@@ -75,9 +75,9 @@ fn value_behind(before: u32, text: &[u8]) -> u32
 fn value(text: &[u8]) -> u32
     requires few { length text.now ≤ 8 }
     requires digits { meaning.every meaning.is_hexadecimal text.now ≡ true }
-    ensures { result ≡ meaning.value_behind 0 text.now }
+    ensures { result ≡ meaning.value_after 0 text.now }
 {
-    value_behind(0, text)
+    value_after(0, text)
 }
 
 /// Whether a word is one that no name may be.
@@ -95,7 +95,7 @@ fn is_reserved(word: &[u8]) -> bool
 
 /// Whether a word is a name: a letter, then letters, digits and underscores, 3 to 32 in all, and none of
 /// the words of texts that are as long.
-#[tactic(auto, unfolding(crate::specs::Pieces::is_name))]
+#[tactic(auto, unfolding(crate::specs::Tokens::is_name))]
 pub fn is_name(word: &[u8]) -> bool
     ensures { result ≡ meaning.is_name word.now }
 {
@@ -119,24 +119,24 @@ fn are_digits(text: &[u8]) -> bool
 }
 
 /// The token of a word that is no number.
-fn plain<'a>(word: &'a [u8]) -> Piece<'a>
+fn plain<'a>(word: &'a [u8]) -> Token<'a>
     ensures { shown result ≡ meaning.plain word.now }
 {
     if is_name(word) {
-        Piece::Name(word)
+        Token::Name(word)
     } else {
-        Piece::Word(word)
+        Token::Word(word)
     }
 }
 
 /// The token of a word.
-#[tactic(auto, unfolding(crate::specs::Pieces::token_of))]
-pub(crate) fn token_of<'a>(word: &'a [u8]) -> Piece<'a>
+#[tactic(auto, unfolding(crate::specs::Tokens::token_of))]
+pub(crate) fn token_of<'a>(word: &'a [u8]) -> Token<'a>
     ensures { shown result ≡ meaning.token_of word.now }
 {
     match word {
-        [36, digits @ ..] if are_digits(digits) => Piece::Number(value(digits)),
-        [] => Piece::Word(word),
+        [36, digits @ ..] if are_digits(digits) => Token::Number(value(digits)),
+        [] => Token::Word(word),
         _ => plain(word),
     }
 }

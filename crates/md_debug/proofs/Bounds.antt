@@ -2,7 +2,7 @@
 use Rattle.std.proofs.Common.{◌≡◌, ℕ, ◌%◌, ◌^◌, ◌<◌, ◌≤◌, ◌&&◌, ◌==◌, Bool, true, false, nat_le, if◌then◌else◌, List, Option, Some, None, codes, bytes_eq, option_map, option_and_then, Ok, Err, refl, subst, arith}
 use Rattle.std.specs.List.{list_all}
 use Rattle.std.proofs.lemmas.Bool.Decides.{nat_tests}
-use Rattle.debug_text.specs.Commands.{bare, behind, command_of, even_place, is_seven_bit, number_in, numbered, place_in, read_by, within, word_in, word_of}
+use Rattle.debug_text.specs.Commands.{bare, following, command_of, even_place, is_seven_bit, number_in, numbered, place_in, read_by, within, word_in, word_of}
 use Rattle.debug_text.specs.Numbers.{address_of, decimal_of}
 use Rattle.debug_text.specs.declared.command.Command.{Command}
 use Rattle.debug_text.specs.declared.command.Command.TheVariants.{Step, RunTo, Back, Regs, Mem, Dis, Trace, Report}
@@ -49,7 +49,7 @@ place_is (Some at) (Some count) range = (omega arith, range.1)
 
 places_in : (text : Option (List ℕ)) → IsPlace (option_and_then place_in text)
 places_in None = tt
-places_in (Some text) = place_is (address_of (word_in text)) (number_in 1 256 (behind text)) (numbers_in 1 256 (behind text))
+places_in (Some text) = place_is (address_of (word_in text)) (number_in 1 256 (following text)) (numbers_in 1 256 (following text))
 
 abbrev IsEven : Option (ℕ × ℕ) → Type 0
 IsEven None = Unit {0}
@@ -128,8 +128,8 @@ chosen_in false false false false false false false false text command same = ab
 
 pub bounds_of : (line : List ℕ) (command : Command) → command_of line ≡ Ok command → IsWithinBounds command
 bounds_of line command same = by (list_all is_seven_bit line) same where
-  by : (b : Bool) → (if b then read_by (word_of (word_in line)) (behind line) else Err UnknownWord) ≡ Ok command → IsWithinBounds command
+  by : (b : Bool) → (if b then read_by (word_of (word_in line)) (following line) else Err UnknownWord) ≡ Ok command → IsWithinBounds command
   by true same =
       chosen_in (bytes_eq (word_in line) (codes "step")) (bytes_eq (word_in line) (codes "run")) (bytes_eq (word_in line) (codes "back")) (bytes_eq (word_in line) (codes "regs"))
-      (bytes_eq (word_in line) (codes "mem")) (bytes_eq (word_in line) (codes "dis")) (bytes_eq (word_in line) (codes "trace")) (bytes_eq (word_in line) (codes "report")) (behind line) command same
+      (bytes_eq (word_in line) (codes "mem")) (bytes_eq (word_in line) (codes "dis")) (bytes_eq (word_in line) (codes "trace")) (bytes_eq (word_in line) (codes "report")) (following line) command same
   by false same = absurd cc

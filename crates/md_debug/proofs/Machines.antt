@@ -44,8 +44,8 @@ unfolding Steps
 one_steps zero m a b first second one two = (one.0 ∙ sym two.0, one.1 ∙ sym two.1)
 one_steps (suc n) m a b first second (mid, (early, (late, (steps, (once, all))))) (mid', (early', (late', (steps', (once', all'))))) =
     let before = one_steps n m mid mid' early early' steps steps' in
-    let behind = one_once mid a b late late' once (subst (λ (s : Start). StepsOnce s b late') (sym before.0) once') in
-    (behind.0, all ∙ ap₂ (λ (x y : List ℕ). x ++ y) before.1 behind.1 ∙ sym all')
+    let following = one_once mid a b late late' once (subst (λ (s : Start). StepsOnce s b late') (sym before.0) once') in
+    (following.0, all ∙ ap₂ (λ (x y : List ℕ). x ++ y) before.1 following.1 ∙ sym all')
 
 pub one_run : (end : ℕ) (m a b : Start) (first second : List ℕ) → RunsTo end m a first → RunsTo end m b second → (a ≡ b) × (first ≡ second)
 one_run end m a b first second (arrives later at goes) (arrives later' at' goes') =

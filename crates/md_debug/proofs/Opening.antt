@@ -6,8 +6,8 @@ use Rattle.text_lines.specs.Lines.{lines_of}
 use Rattle.md_outer.specs.Outside.{SinkState}
 use Rattle.md_outer.specs.declared.sink.Failed.{Failed}
 use Rattle.md_debug.specs.Scripts.{ObeysAll, Plays, PutsReplies, StopsAtReply}
-use Rattle.md_debug.specs.declared.script.Ending.{Ending}
-use Rattle.md_debug.specs.declared.script.Ending.TheVariants.{OutOfMemory}
+use Rattle.md_debug.specs.declared.script.SessionOutcome.{SessionOutcome}
+use Rattle.md_debug.specs.declared.script.SessionOutcome.TheVariants.{OutOfMemory}
 use Rattle.md_debug.specs.Opened.{PlaysScript, PutsScript, StopsScript, images_with, opened}
 use Rattle.md_debug.specs.Sessions.{SessionValue}
 use Rattle.md_word.specs.Clock.{last_cycle}
@@ -53,22 +53,22 @@ plays_none cart script =
     record { after = session; plays = ([], lines_of script, session, record { parts = refl; obeyed = none_obeyed session }) }
 
 -- what is put in the session at power-on
-pub puts_script : (told : Type 0) (cart script : List ℕ) (old new : SessionValue ImagesValue) (out out' : SinkState) (result : Result Ending Failed) → old ≡ opened (images_with cart)
-    → IfOk result (λ ending. PutsReplies size_of image_of Keeps told (lines_of script) old new out out' ending) → IfOk result (λ ending. PutsScript told cart script out out' ending)
-puts_script told cart script old new out out' (Err failed) is put = tt
-puts_script told cart script old new out out' (Ok ending) is put = record {
+pub puts_script : (observable : Type 0) (cart script : List ℕ) (old new : SessionValue ImagesValue) (out out' : SinkState) (result : Result SessionOutcome Failed) → old ≡ opened (images_with cart)
+    → IfOk result (λ session_outcome. PutsReplies size_of image_of Keeps observable (lines_of script) old new out out' session_outcome) → IfOk result (λ session_outcome. PutsScript observable cart script out out' session_outcome)
+puts_script observable cart script old new out out' (Err failed) is put = tt
+puts_script observable cart script old new out out' (Ok session_outcome) is put = record {
   replies = put.replies;
   plays = record {
     after = new;
-    plays = subst (λ (s : SessionValue ImagesValue). Plays size_of image_of Keeps (lines_of script) s new put.replies ending) is put.plays;
+    plays = subst (λ (s : SessionValue ImagesValue). Plays size_of image_of Keeps (lines_of script) s new put.replies session_outcome) is put.plays;
   };
   puts = put.puts;
 }
 
-pub stops_script : (told : Type 0) (cart script : List ℕ) (old new : SessionValue ImagesValue) (out out' : SinkState) (result : Result Ending Failed) → old ≡ opened (images_with cart)
-    → OnErr result (StopsAtReply size_of image_of Keeps told (lines_of script) old new out out') → OnErr result (StopsScript told cart script out out')
-stops_script told cart script old new out out' (Ok ending) is stops = tt
-stops_script told cart script old new out out' (Err failed) is stops = record {
+pub stops_script : (observable : Type 0) (cart script : List ℕ) (old new : SessionValue ImagesValue) (out out' : SinkState) (result : Result SessionOutcome Failed) → old ≡ opened (images_with cart)
+    → OnErr result (StopsAtReply size_of image_of Keeps observable (lines_of script) old new out out') → OnErr result (StopsScript observable cart script out out')
+stops_script observable cart script old new out out' (Ok session_outcome) is stops = tt
+stops_script observable cart script old new out out' (Err failed) is stops = record {
   after = new;
-  stops = subst (λ (s : SessionValue ImagesValue). StopsAtReply size_of image_of Keeps told (lines_of script) s new out out') is stops;
+  stops = subst (λ (s : SessionValue ImagesValue). StopsAtReply size_of image_of Keeps observable (lines_of script) s new out out') is stops;
 }

@@ -3,8 +3,8 @@ use Rattle.std.proofs.Common.{◌≡◌, ◌≢◌, ℕ, suc, ◌⊎◌, inl, in
 use Rattle.debug_text.specs.Commands.{command_of}
 use Rattle.debug_text.specs.declared.command.Command.{Command}
 use Rattle.md_debug.specs.Scripts.{IsRefused, ObeysAll, Plays}
-use Rattle.md_debug.specs.declared.script.Ending.{Ending}
-use Rattle.md_debug.specs.declared.script.Ending.TheVariants.{Obeyed, OutOfMemory, Refused}
+use Rattle.md_debug.specs.declared.script.SessionOutcome.{SessionOutcome}
+use Rattle.md_debug.specs.declared.script.SessionOutcome.TheVariants.{Obeyed, OutOfMemory, Refused}
 use Rattle.md_debug.specs.Sessions.{Obeys, SessionValue, reply_to}
 use Rattle.md_debug.specs.declared.fault.DebugFault.{DebugFault}
 use Rattle.md_machine.specs.Machines.{MachineValue}
@@ -29,9 +29,9 @@ module _ {Images : Type 0} (size : Images → ℕ) (spelling : Images → Machin
       inr (so_far.0, so_far.1, so_far.2, suc (length before), so_far.3, so_far.4, refuses_at before after line so_far.1 new so_far.2 fault so_far.5 refused, so_far.6, refl)
 
   -- the machine after a line that both obey
-  behind : (line : List ℕ) (command other : Command) (a b x y : SessionValue Images) → Alike a b → command_of line ≡ Ok command → command_of line ≡ Ok other
+  following : (line : List ℕ) (command other : Command) (a b x y : SessionValue Images) → Alike a b → command_of line ≡ Ok command → command_of line ≡ Ok other
       → Obeys size spelling keeps a command x → Obeys size spelling keeps b other y → Alike x y × (reply_to command x ≡ reply_to other y)
-  behind line command other a b x y same is is' obeys obeys' =
+  following line command other a b x y same is is' obeys obeys' =
       let which : command ≡ other = same_ok command other (sym is ∙ is') in
       let on : Obeys size spelling keeps b command y = subst (λ (c : Command). Obeys size spelling keeps b c y) (sym which) obeys' in
       let next = obeys_alike size spelling keeps command a b x y spelled keep same obeys on in
@@ -49,7 +49,7 @@ module _ {Images : Type 0} (size : Images → ℕ) (spelling : Images → Machin
   one_refused (line ∷ lines) a b first second n m fault other same (inr one) (inl two) =
       absurd (not_refused size spelling keeps line one.0 a b one.1 other same one.4 one.5 two.0)
   one_refused (line ∷ lines) a b first second n m fault other same (inr one) (inr two) =
-      let next = behind line one.0 two.0 a b one.1 two.1 same one.4 two.4 one.5 two.5 in
+      let next = following line one.0 two.0 a b one.1 two.1 same one.4 two.4 one.5 two.5 in
       let rest = one_refused lines one.1 two.1 one.2 two.2 one.3 two.3 fault other next.0 one.6 two.6 in
       (one.7 ∙ ap₂ (λ (s t : List ℕ). s ++ t) next.1 rest.0 ∙ sym two.7, (one.8 ∙ ap suc rest.1.0 ∙ sym two.8, rest.1.1))
 
@@ -58,7 +58,7 @@ module _ {Images : Type 0} (size : Images → ℕ) (spelling : Images → Machin
   unfolding ObeysAll
   one_obeyed [] a b x y first second same one two = one.1 ∙ sym two.1
   one_obeyed (line ∷ lines) a b x y first second same one two =
-      let next = behind line one.0 two.0 a b one.1 two.1 same one.3 two.3 one.4 two.4 in
+      let next = following line one.0 two.0 a b one.1 two.1 same one.3 two.3 one.4 two.4 in
       one.6 ∙ ap₂ (λ (s t : List ℕ). s ++ t) next.1 (one_obeyed lines one.1 two.1 x y one.2 two.2 next.0 one.5 two.5) ∙ sym two.6
 
   never_both : (lines : List (List ℕ)) (a b x : SessionValue Images) (first second : List ℕ) (n : ℕ) (fault : DebugFault) → Alike a b
@@ -67,7 +67,7 @@ module _ {Images : Type 0} (size : Images → ℕ) (spelling : Images → Machin
   never_both [] a b x first second n fault same all refused = refused
   never_both (line ∷ lines) a b x first second n fault same all (inl refused) = not_refused size spelling keeps line all.0 a b all.1 fault same all.3 all.4 refused.0
   never_both (line ∷ lines) a b x first second n fault same all (inr refused) =
-      let next = behind line all.0 refused.0 a b all.1 refused.1 same all.3 refused.4 all.4 refused.5 in
+      let next = following line all.0 refused.0 a b all.1 refused.1 same all.3 refused.4 all.4 refused.5 in
       never_both lines all.1 refused.1 x all.2 refused.2 refused.3 fault next.0 all.5 refused.6
 
   refused_in : (lines : List (List ℕ)) (old new : SessionValue Images) (replies : List ℕ) (number : ℕ) (fault : DebugFault)
@@ -78,9 +78,9 @@ module _ {Images : Type 0} (size : Images → ℕ) (spelling : Images → Machin
       subst (λ (l : List (List ℕ)). RefusesAt l old replies (suc (length before)) fault) (sym first.parts) here in
       subst (λ (n : ℕ). RefusesAt lines old replies n fault) (sym (add-one (length before)) ∙ sym at) there
 
-  pub one_outcome : (lines : List (List ℕ)) (old x y : SessionValue Images) (first second : List ℕ) (ending other : Ending)
-      → Plays size spelling keeps lines old x first ending → Plays size spelling keeps lines old y second other → ending ≢ OutOfMemory → other ≢ OutOfMemory
-      → (first ≡ second) × (ending ≡ other)
+  pub one_outcome : (lines : List (List ℕ)) (old x y : SessionValue Images) (first second : List ℕ) (session_outcome other : SessionOutcome)
+      → Plays size spelling keeps lines old x first session_outcome → Plays size spelling keeps lines old y second other → session_outcome ≢ OutOfMemory → other ≢ OutOfMemory
+      → (first ≡ second) × (session_outcome ≡ other)
   one_outcome lines old x y first second Obeyed Obeyed one two there there' = (one_obeyed lines old old x y first second (alike_self old) one two, refl)
   one_outcome lines old x y first second Obeyed (Refused number fault) one two there there' =
       absurd (never_both lines old old x first second number fault (alike_self old) one (refused_in lines old y second number fault two))
@@ -91,4 +91,4 @@ module _ {Images : Type 0} (size : Images → ℕ) (spelling : Images → Machin
       (refused_in lines old x first number fault one) (refused_in lines old y second number' fault' two) in
       (same.0, ap₂ Refused same.1.0 same.1.1)
   one_outcome lines old x y first second OutOfMemory other one two there there' = absurd (there refl)
-  one_outcome lines old x y first second ending OutOfMemory one two there there' = absurd (there' refl)
+  one_outcome lines old x y first second session_outcome OutOfMemory one two there there' = absurd (there' refl)

@@ -10,7 +10,7 @@ use Rattle.std.proofs.lemmas.Str.{IsUtf8-from_ascii}
 use Rattle.text_lines.proofs.Ascii.{ascii_of}
 use Rattle.md_outer.specs.Outside.{IsPrefix, PutsText, SinkState}
 use borrow.Author.Tests.{ltb-true}
-use Rattle.debug_text.specs.Commands.{behind, command_of, is_seven_bit, read_by, word_in, word_of}
+use Rattle.debug_text.specs.Commands.{following, command_of, is_seven_bit, read_by, word_in, word_of}
 use Rattle.debug_text.specs.declared.command.Command.{Command}
 use Rattle.debug_text.specs.declared.command.Command.TheVariants.{Back}
 use Rattle.debug_text.specs.declared.command.Misread.TheVariants as misread
@@ -19,8 +19,8 @@ use Rattle.md_debug.specs.Sessions.{Obeys, SessionValue, oldest_of, reply_to}
 use Rattle.md_debug.specs.declared.fault.DebugFault.{DebugFault}
 use Rattle.md_debug.specs.declared.fault.DebugFault.TheVariants.{BadNumber, NoMemory, NotKept, UnknownWord}
 use Rattle.md_debug.specs.Scripts.{FailsWithin, IsRefused, ObeysAll, ObeysFirst, Plays, PutsWhole}
-use Rattle.md_debug.specs.declared.script.Ending.{Ending}
-use Rattle.md_debug.specs.declared.script.Ending.TheVariants.{OutOfMemory, Refused}
+use Rattle.md_debug.specs.declared.script.SessionOutcome.{SessionOutcome}
+use Rattle.md_debug.specs.declared.script.SessionOutcome.TheVariants.{OutOfMemory, Refused}
 
 -- why a session refuses a line
 pub refused_by : {X Images : Type 0} (session : SessionValue Images) (line : List ℕ) (r : Result X DebugFault) (fault : DebugFault) → r ≡ Err fault
@@ -41,9 +41,9 @@ refused_for session text line (Err fault) is unknown number not_kept = λ other.
     subst (λ (l : List ℕ). IsRefused session l fault) is (refused_by session text (Err fault) fault refl unknown number not_kept other)
 
 -- a second text is written after one that was written
-pub puts_more : {E F G : Type 0} (told : Type 0) (first second : List ℕ) (old mid new : SinkState) → PutsText {E = E} told first old mid (Ok tt)
-    → PutsText {E = F} told second mid new (Ok tt) → PutsText {E = G} told (first ++ second) old new (Ok tt)
-puts_more told first second old mid new one two = record {
+pub puts_more : {E F G : Type 0} (observable : Type 0) (first second : List ℕ) (old mid new : SinkState) → PutsText {E = E} observable first old mid (Ok tt)
+    → PutsText {E = F} observable second mid new (Ok tt) → PutsText {E = G} observable (first ++ second) old new (Ok tt)
+puts_more observable first second old mid new one two = record {
   later = omega (arith, one.later, two.later);
   whole = λ t. two.whole t ∙ ap (λ (l : List ℕ). l ++ second) (one.whole t) ∙ append_assoc old.bytes first second;
   failed = tt;
@@ -51,32 +51,32 @@ puts_more told first second old mid new one two = record {
 }
 
 -- a text that was put, or failed, by its bytes
-pub puts_whole : {E : Type 0} (told : Type 0) (text bytes : List ℕ) (old new : SinkState) → PutsText {E = E} told text old new (Ok tt) → text ≡ bytes → PutsWhole told bytes old new
-puts_whole told text bytes old new put is = record {
+pub puts_whole : {E : Type 0} (observable : Type 0) (text bytes : List ℕ) (old new : SinkState) → PutsText {E = E} observable text old new (Ok tt) → text ≡ bytes → PutsWhole observable bytes old new
+puts_whole observable text bytes old new put is = record {
   later = put.later;
   whole = λ t. put.whole t ∙ ap (λ (l : List ℕ). old.bytes ++ l) is;
   failed = tt;
   part = tt;
 }
 
-pub fails_within : {E : Type 0} (told : Type 0) (text bytes : List ℕ) (old new : SinkState) (e : E) → PutsText {E = E} told text old new (Err e) → text ≡ bytes → FailsWithin told bytes old new
-fails_within told text bytes old new e put is = record {
+pub fails_within : {E : Type 0} (observable : Type 0) (text bytes : List ℕ) (old new : SinkState) (e : E) → PutsText {E = E} observable text old new (Err e) → text ≡ bytes → FailsWithin observable bytes old new
+fails_within observable text bytes old new e put is = record {
   later = put.later;
   whole = tt;
   failed = put.failed;
-  part = subst (λ (l : List ℕ). told → (part : List ℕ) × IsPrefix part l × (new.bytes ≡ old.bytes ++ part)) is put.part;
+  part = subst (λ (l : List ℕ). observable → (part : List ℕ) × IsPrefix part l × (new.bytes ≡ old.bytes ++ part)) is put.part;
 }
 
 -- no text is put without a call
-pub puts_none : {E : Type 0} (told : Type 0) (old : SinkState) → PutsText {E = E} told [] old old (Ok tt)
-puts_none told old = record { later = omega arith; whole = λ t. sym (append-nil old.bytes); failed = tt; part = tt }
+pub puts_none : {E : Type 0} (observable : Type 0) (old : SinkState) → PutsText {E = E} observable [] old old (Ok tt)
+puts_none observable old = record { later = omega arith; whole = λ t. sym (append-nil old.bytes); failed = tt; part = tt }
 
 -- bytes that are no text have one that is not ASCII
 pub not_text : (line : List ℕ) → ¬ IsUtf8 line → command_of line ≡ Err misread.UnknownWord
 not_text line other = by (list_all is_seven_bit line) refl where
   by : (b : Bool) → list_all is_seven_bit line ≡ b → command_of line ≡ Err misread.UnknownWord
   by true all = absurd (other (IsUtf8-from_ascii line (ascii_of line all)))
-  by false some = ap (λ (b : Bool). if b then read_by (word_of (word_in line)) (behind line) else Err misread.UnknownWord) some
+  by false some = ap (λ (b : Bool). if b then read_by (word_of (word_in line)) (following line) else Err misread.UnknownWord) some
 
 module _ {Images : Type 0} (size : Images → ℕ) (spelling : Images → MachineValue → List ℕ) (keeps : Images → List ℕ → MachineValue → Type 0) where
   pub obeys_none : (session : SessionValue Images) (replies : List ℕ) → replies ≡ [] → ObeysAll size spelling keeps [] session session replies
@@ -122,10 +122,10 @@ module _ {Images : Type 0} (size : Images → ℕ) (spelling : Images → Machin
       subst (λ (l : List (List ℕ)). ObeysAll size spelling keeps l old new replies) (sym all) so_far.obeyed
 
   -- a line is not obeyed
-  refused_at : (lines before after : List (List ℕ)) (line : List ℕ) (old mid new : SessionValue Images) (replies : List ℕ) (ending : Ending) (number : ℕ) (fault : DebugFault)
-      → ObeysFirst size spelling keeps lines before (line ∷ after) old mid replies → number ≡ length before + 1 → ending ≡ Refused number fault → IsRefused mid line fault × (new ≡ mid)
-      → Plays size spelling keeps lines old new replies ending
-  refused_at lines before after line old mid new replies ending number fault so_far is ends refused =
+  refused_at : (lines before after : List (List ℕ)) (line : List ℕ) (old mid new : SessionValue Images) (replies : List ℕ) (session_outcome : SessionOutcome) (number : ℕ) (fault : DebugFault)
+      → ObeysFirst size spelling keeps lines before (line ∷ after) old mid replies → number ≡ length before + 1 → session_outcome ≡ Refused number fault → IsRefused mid line fault × (new ≡ mid)
+      → Plays size spelling keeps lines old new replies session_outcome
+  refused_at lines before after line old mid new replies session_outcome number fault so_far is ends refused =
       subst (Plays size spelling keeps lines old new replies) (sym ends) (
         before,
         line,
@@ -135,17 +135,17 @@ module _ {Images : Type 0} (size : Images → ℕ) (spelling : Images → Machin
         subst (λ (s : SessionValue Images). IsRefused s line fault) (sym refused.1) refused.0,
       )
 
-  pub plays_stopped : (lines before after : List (List ℕ)) (line : List ℕ) (old mid new : SessionValue Images) (replies : List ℕ) (ending : Ending) (number : ℕ) (fault : DebugFault)
-      → ObeysFirst size spelling keeps lines before (line ∷ after) old mid replies → number ≡ length before + 1 → (fault ≡ NoMemory → ending ≡ OutOfMemory) → (fault ≢ NoMemory → ending ≡ Refused number fault)
-      → (fault ≢ NoMemory → IsRefused mid line fault × (new ≡ mid)) → Plays size spelling keeps lines old new replies ending
-  plays_stopped lines before after line old mid new replies ending number NoMemory so_far is memory ends refused =
+  pub plays_stopped : (lines before after : List (List ℕ)) (line : List ℕ) (old mid new : SessionValue Images) (replies : List ℕ) (session_outcome : SessionOutcome) (number : ℕ) (fault : DebugFault)
+      → ObeysFirst size spelling keeps lines before (line ∷ after) old mid replies → number ≡ length before + 1 → (fault ≡ NoMemory → session_outcome ≡ OutOfMemory) → (fault ≢ NoMemory → session_outcome ≡ Refused number fault)
+      → (fault ≢ NoMemory → IsRefused mid line fault × (new ≡ mid)) → Plays size spelling keeps lines old new replies session_outcome
+  plays_stopped lines before after line old mid new replies session_outcome number NoMemory so_far is memory ends refused =
       subst (Plays size spelling keeps lines old new replies) (sym (memory refl)) (before, line ∷ after, mid, so_far)
-  plays_stopped lines before after line old mid new replies ending number UnknownWord so_far is memory ends refused =
+  plays_stopped lines before after line old mid new replies session_outcome number UnknownWord so_far is memory ends refused =
       let other : UnknownWord ≢ NoMemory = λ e. cc in
-      refused_at lines before after line old mid new replies ending number UnknownWord so_far is (ends other) (refused other)
-  plays_stopped lines before after line old mid new replies ending number BadNumber so_far is memory ends refused =
+      refused_at lines before after line old mid new replies session_outcome number UnknownWord so_far is (ends other) (refused other)
+  plays_stopped lines before after line old mid new replies session_outcome number BadNumber so_far is memory ends refused =
       let other : BadNumber ≢ NoMemory = λ e. cc in
-      refused_at lines before after line old mid new replies ending number BadNumber so_far is (ends other) (refused other)
-  plays_stopped lines before after line old mid new replies ending number (NotKept oldest) so_far is memory ends refused =
+      refused_at lines before after line old mid new replies session_outcome number BadNumber so_far is (ends other) (refused other)
+  plays_stopped lines before after line old mid new replies session_outcome number (NotKept oldest) so_far is memory ends refused =
       let other : NotKept oldest ≢ NoMemory = λ e. cc in
-      refused_at lines before after line old mid new replies ending number (NotKept oldest) so_far is (ends other) (refused other)
+      refused_at lines before after line old mid new replies session_outcome number (NotKept oldest) so_far is (ends other) (refused other)

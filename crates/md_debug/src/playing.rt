@@ -1,7 +1,7 @@
 ghost use Rattle.std.specs.Prelude.{◌≡◌, IfOk, OnErr};
 ghost use Rattle.md_debug.specs.Opened.{PutsScript, StopsScript, images_with, opened};
 
-use crate::{Ending, Session, play};
+use crate::{Session, SessionOutcome, play};
 use md_outer::{Failed, Sink};
 use md_pads::Recording;
 use md_word::NoMemory;
@@ -47,13 +47,13 @@ pub fn play_script<S: Sink>(
     cart: Cart,
     script: &[u8],
     out: &mut S,
-) -> Result<Ending, Failed>
-    ensures ends { IfOk result (λ ending. PutsScript S.told cart script.now (S.state out.old) (S.state out.new) ending) }
-    ensures stops { OnErr result (StopsScript S.told cart script.now (S.state out.old) (S.state out.new)) }
+) -> Result<SessionOutcome, Failed>
+    ensures ends { IfOk result (λ session_outcome. PutsScript S.observable cart script.now (S.state out.old) (S.state out.new) session_outcome) }
+    ensures stops { OnErr result (StopsScript S.observable cart script.now (S.state out.old) (S.state out.new)) }
 {
     match session_with(alloc, cart) {
         Ok(session) => played(session, script, out),
-        Err(NoMemory) => Ok(Ending::OutOfMemory),
+        Err(NoMemory) => Ok(SessionOutcome::OutOfMemory),
     }
 }
 
@@ -62,9 +62,9 @@ fn played<S: Sink>(
     session: Session<StateImages>,
     script: &[u8],
     out: &mut S,
-) -> Result<Ending, Failed>
-    ensures ends { (cart : _) → session ≡ opened (images_with cart) → IfOk result (λ ending. PutsScript S.told cart script.now (S.state out.old) (S.state out.new) ending) }
-    ensures stops { (cart : _) → session ≡ opened (images_with cart) → OnErr result (StopsScript S.told cart script.now (S.state out.old) (S.state out.new)) }
+) -> Result<SessionOutcome, Failed>
+    ensures ends { (cart : _) → session ≡ opened (images_with cart) → IfOk result (λ session_outcome. PutsScript S.observable cart script.now (S.state out.old) (S.state out.new) session_outcome) }
+    ensures stops { (cart : _) → session ≡ opened (images_with cart) → OnErr result (StopsScript S.observable cart script.now (S.state out.old) (S.state out.new)) }
 {
     let mut session = session;
     play(&mut session, script, out)

@@ -14,7 +14,7 @@ use text_lines::first_line;
 
 /// The outcome of a script, of which each reply is written.
 #[derive(Clone, Copy)]
-pub enum Ending {
+pub enum SessionOutcome {
     /// Each of its lines was obeyed.
     Obeyed,
     /// The line of this number, from 1 on, is refused.
@@ -30,9 +30,9 @@ pub fn play<I: Images<Machine>, S: Sink>(
     session: &mut Session<I>,
     script: &[u8],
     out: &mut S,
-) -> Result<Ending, Failed>
-    ensures ends { IfOk result (λ ending. PutsReplies I.size I.spelling I.keeps S.told (lines_of script.now) session.old session.new (S.state out.old) (S.state out.new) ending) }
-    ensures stops { OnErr result (StopsAtReply I.size I.spelling I.keeps S.told (lines_of script.now) session.old session.new (S.state out.old) (S.state out.new)) }
+) -> Result<SessionOutcome, Failed>
+    ensures ends { IfOk result (λ session_outcome. PutsReplies I.size I.spelling I.keeps S.observable (lines_of script.now) session.old session.new (S.state out.old) (S.state out.new) session_outcome) }
+    ensures stops { OnErr result (StopsAtReply I.size I.spelling I.keeps S.observable (lines_of script.now) session.old session.new (S.state out.old) (S.state out.new)) }
 {
     let mut number = 0;
     let mut rest = script;
@@ -41,25 +41,25 @@ pub fn play<I: Images<Machine>, S: Sink>(
         number += 1;
         let reply = match obey(session, line) {
             Ok(reply) => reply,
-            Err(fault) => return Ok(ending_of(number, fault)),
+            Err(fault) => return Ok(session_outcome_of(number, fault)),
         };
         match out.put(reply.as_slice()) {
             Ok(()) => rest = after,
             Err(failed) => return Err(failed),
         }
     }
-    Ok(Ending::Obeyed)
+    Ok(SessionOutcome::Obeyed)
 }
 
 /// The outcome of a script at a line that is not obeyed.
-fn ending_of(number: u64, fault: DebugFault) -> Ending
-    ensures memory { fault ≡ DebugFault.NoMemory → result ≡ Ending.OutOfMemory }
-    ensures refused { fault ≢ DebugFault.NoMemory → result ≡ Ending.Refused number fault }
+fn session_outcome_of(number: u64, fault: DebugFault) -> SessionOutcome
+    ensures memory { fault ≡ DebugFault.NoMemory → result ≡ SessionOutcome.OutOfMemory }
+    ensures refused { fault ≢ DebugFault.NoMemory → result ≡ SessionOutcome.Refused number fault }
 {
     match fault {
-        DebugFault::NoMemory => Ending::OutOfMemory,
+        DebugFault::NoMemory => SessionOutcome::OutOfMemory,
         DebugFault::UnknownWord | DebugFault::BadNumber | DebugFault::NotKept { .. } => {
-            Ending::Refused(number, fault)
+            SessionOutcome::Refused(number, fault)
         }
     }
 }

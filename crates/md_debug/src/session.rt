@@ -107,7 +107,7 @@ impl<I: Images<Machine>> Session<I> {
             | Command::Mem(..)
             | Command::Dis(..)
             | Command::Trace(_)
-            | Command::Report => Ok(self.told(command)?),
+            | Command::Report => Ok(self.observable(command)?),
         }
     }
 
@@ -213,7 +213,7 @@ impl<I: Images<Machine>> Session<I> {
     }
 
     /// The reply to a command that leaves the session as it is. It fails only when memory runs out.
-    fn told(&self, command: Command) -> Result<Vec<u8>, NoMemory>
+    fn observable(&self, command: Command) -> Result<Vec<u8>, NoMemory>
         requires { IsQuestion command }
         ensures { IfOk result (λ reply. reply.items ≡ reply_to command self.now) }
     {

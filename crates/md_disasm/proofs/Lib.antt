@@ -1,4 +1,4 @@
 pub mod Lengths68
 pub mod Lengths80
 pub mod Lists68
-pub mod Tells
+pub mod Reports

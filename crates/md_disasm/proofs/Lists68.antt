@@ -19,8 +19,8 @@ pub put_one : (turned : Bool) (list n : ℕ) (first after : Bool) (old mid new :
     → IsPutBelow turned list n first old mid → new ≡ mid ++ (if is_listed turned list n then next first n else [])
     → after ≡ first && not (is_listed turned list n) → IsPutBelow turned list (n + 1) after old new
 unfolding are_absent listed
-put_one turned list n first after old mid new before put tells = rw add-one (record {
-  none = tells ∙ ap (λ (b : Bool). b && not (is_listed turned list n)) before.none;
+put_one turned list n first after old mid new before put reports = rw add-one (record {
+  none = reports ∙ ap (λ (b : Bool). b && not (is_listed turned list n)) before.none;
   text = put ∙ ap (λ (l : List ℕ). l ++ (if is_listed turned list n then next first n else [])) before.text
       ∙ append_assoc old (listed turned list n) (if is_listed turned list n then next first n else [])
       ∙ ap (λ (b : Bool). old ++ (listed turned list n ++ (if is_listed turned list n then next b n else []))) before.none;

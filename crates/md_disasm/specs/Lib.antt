@@ -11,4 +11,4 @@ pub mod Shown68
 pub mod Shown80
 pub mod Texts68
 pub mod Texts80
-pub mod Told
+pub mod Reported

@@ -39,7 +39,7 @@ fn put_led(text: &mut String, mark: &str, operand: Operand68) -> Result<(), NoMe
 fn put_row(text: &mut String, row: Syntax68) -> Result<(), NoMemory>
     ensures { Appends result (string_bytes text.old) (string_bytes text.new) (texts.row_text (shown68 row)) }
 {
-    text.push_str(row.stem)?;
+    text.push_str(row.mnemonic)?;
     text.push_str(row.ending)?;
     put_size(text, row.size)?;
     put_led(text, " ", row.first)?;

@@ -9,7 +9,7 @@ use md_word::Size;
 #[derive(Clone, Copy)]
 pub(crate) struct Syntax68 {
     /// The name without its suffix.
-    pub stem: &'static str,
+    pub mnemonic: &'static str,
     /// The suffix of the name: a condition, or the letter of a form.
     pub ending: &'static str,
     pub size: Option<Size>,
@@ -52,15 +52,15 @@ pub(crate) fn two(name: &'static str, first: Operand68, second: Operand68) -> Sy
 
 /// A name of two parts with two operands.
 pub(crate) fn ended(
-    stem: &'static str,
+    mnemonic: &'static str,
     ending: &'static str,
     first: Operand68,
     second: Operand68,
 ) -> Syntax68
-    ensures { shown68 result ≡ rows.two (stem.now ++ ending.now) first second }
+    ensures { shown68 result ≡ rows.two (mnemonic.now ++ ending.now) first second }
 {
     Syntax68 {
-        stem,
+        mnemonic,
         ending,
         size: None,
         first,

@@ -4,7 +4,7 @@ use Rattle.std.specs.List.{AllByRecursion}
 use Rattle.std.specs.Int.{w16, w32, w64}
 use Rattle.std.proofs.lemmas.List.{length-take, length-drop}
 use Rattle.std.proofs.lemmas.Grind.{same_number_lists}
-use Rattle.md_fields.specs.Fields.{Field, byte, word, long, quad, words, block, size_of, sizes, first_wrong, holds_of, AllHold, IsWithin, AreWithin}
+use Rattle.md_fields.specs.Fields.{Field, byte, word, long, quad, words, block, size_of, sizes, first_invalid, holds_of, AllHold, IsWithin, AreWithin}
 use Rattle.md_fields.specs.Places.{IsBytes, number_at, WordsAt, IsAt, Stand}
 use Rattle.md_fields.specs.Items.{Keeps, IsRight, IsRefused}
 use Rattle.md_fields.proofs.Standing.{IsBytes-take, IsBytes-drop, within, spelled, spelled_stand, long_as}
@@ -57,10 +57,10 @@ module _ {S : Type 0} (fields : S → List Field) (bytes : List ℕ) (one : (s t
 
   -- what is kept and right is not refused
   pub not_both : (size : ℕ) (s : S) (place : ℕ) → Keeps fields bytes s → IsRight fields s → sizes (fields s) ≡ size → IsRefused size fields bytes place → ⊥
-  not_both size s place p right sized (inl wrong) = wrong.0 (ap length p.all ∙ long_as (fields s) p.within ∙ sized)
+  not_both size s place p right sized (inl invalid) = invalid.0 (ap length p.all ∙ long_as (fields s) p.within ∙ sized)
   not_both size s place p right sized (inr b) =
       let e : s ≡ b.saved = same s b.saved p b.keeps in
-      let e2 : first_wrong 0 (fields s) ≡ Some place = ap (λ (x : S). first_wrong 0 (fields x)) e ∙ b.first in
+      let e2 : first_invalid 0 (fields s) ≡ Some place = ap (λ (x : S). first_invalid 0 (fields x)) e ∙ b.first in
       absurd cc
 
   -- bytes are refused at one place
@@ -70,8 +70,8 @@ module _ {S : Type 0} (fields : S → List Field) (bytes : List ℕ) (one : (s t
   one_place size sized p q (inr a) (inl b) = absurd (b.0 (ap length a.keeps.all ∙ long_as (fields a.saved) a.keeps.within ∙ sized a.saved))
   one_place size sized p q (inr a) (inr b) =
       let e : a.saved ≡ b.saved = same a.saved b.saved a.keeps b.keeps in
-      let e2 : first_wrong 0 (fields a.saved) ≡ Some q = ap (λ (x : S). first_wrong 0 (fields x)) e ∙ b.first in
-      let e3 : first_wrong 0 (fields a.saved) ≡ Some p = a.first in
+      let e2 : first_invalid 0 (fields a.saved) ≡ Some q = ap (λ (x : S). first_invalid 0 (fields x)) e ∙ b.first in
+      let e3 : first_invalid 0 (fields a.saved) ≡ Some p = a.first in
       cc
 
 -- words at one offset are the same
@@ -83,11 +83,11 @@ one_holds true next place e = (refl, e)
 one_holds false next place e = absurd cc
 
 -- where none is wrong each rule holds
-pub rules_hold : (place : ℕ) (fs : List Field) → first_wrong place fs ≡ None → AllHold fs
-unfolding first_wrong AllHold
+pub rules_hold : (place : ℕ) (fs : List Field) → first_invalid place fs ≡ None → AllHold fs
+unfolding first_invalid AllHold
 rules_hold place [] e = tt
 rules_hold place (f ∷ fs) e =
-    let h = one_holds (holds_of f) (first_wrong (place + size_of f) fs) place e in
+    let h = one_holds (holds_of f) (first_invalid (place + size_of f) fs) place e in
     (h.0, rules_hold (place + size_of f) fs h.1)
 
 first_case : (holds : Bool) (next : Option ℕ) (place p more : ℕ) → cond holds next (Some place) ≡ Some p → (next ≡ Some p → p ≤ place + more) → p ≤ place + more
@@ -95,10 +95,10 @@ first_case true next place p more e h = h e
 first_case false next place p more e h = let same : place ≡ p = cc in omega (arith, same)
 
 -- the first place that is wrong is within the fields
-pub first_within : (place : ℕ) (fs : List Field) (p : ℕ) → first_wrong place fs ≡ Some p → p ≤ place + sizes fs
-unfolding first_wrong sizes
+pub first_within : (place : ℕ) (fs : List Field) (p : ℕ) → first_invalid place fs ≡ Some p → p ≤ place + sizes fs
+unfolding first_invalid sizes
 first_within place [] p e = absurd cc
-first_within place (f ∷ fs) p e = first_case (holds_of f) (first_wrong (place + size_of f) fs) place p (size_of f + sizes fs) e (λ h. omega (arith, first_within (place + size_of f) fs p h))
+first_within place (f ∷ fs) p e = first_case (holds_of f) (first_invalid (place + size_of f) fs) place p (size_of f + sizes fs) e (λ h. omega (arith, first_within (place + size_of f) fs p h))
 
 -- the place of a refusal is within the item
 pub refused_within : {S : Type 0} (fields : S → List Field) (bytes : List ℕ) (size : ℕ) (sized : (s : S) → sizes (fields s) ≡ size) (place : ℕ) → IsRefused size fields bytes place → place ≤ size
@@ -106,7 +106,7 @@ refused_within fields bytes size sized place (inl a) = omega (arith, a.1)
 refused_within fields bytes size sized place (inr b) = omega (arith, first_within 0 (fields b.saved) place b.first, sized b.saved)
 
 -- where each rule holds none is wrong
-pub none_wrong : (place : ℕ) (fs : List Field) → AllHold fs → first_wrong place fs ≡ None
-unfolding first_wrong AllHold
-none_wrong place [] h = refl
-none_wrong place (f ∷ fs) h = rw h.0 (none_wrong (place + size_of f) fs h.1)
+pub none_invalid : (place : ℕ) (fs : List Field) → AllHold fs → first_invalid place fs ≡ None
+unfolding first_invalid AllHold
+none_invalid place [] h = refl
+none_invalid place (f ∷ fs) h = rw h.0 (none_invalid (place + size_of f) fs h.1)

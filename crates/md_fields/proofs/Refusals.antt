@@ -13,11 +13,11 @@ pub same_rule : {T : Type 0} (p q : ℕ) → failed {T = T} (Rule p) ≡ failed 
 same_rule p q e = cc
 
 -- a refusal reports the one offset that is invalid
-pub told_wrong : {T : Type 0} (Wrong : ℕ → Type 0) (p : ℕ) → Wrong p → ((q r : ℕ) → Wrong q → Wrong r → q ≡ r)
-    → (place : ℕ) → (failed {T = T} (Rule p) ≡ failed (Rule place)) ↔ Wrong place
-told_wrong Wrong p wrong one place = (λ e. subst Wrong (same_rule p place e) wrong, λ w. ap (λ (q : ℕ). failed (Rule q)) (one p place wrong w))
+pub reported_invalid : {T : Type 0} (Invalid : ℕ → Type 0) (p : ℕ) → Invalid p → ((q r : ℕ) → Invalid q → Invalid r → q ≡ r)
+    → (place : ℕ) → (failed {T = T} (Rule p) ≡ failed (Rule place)) ↔ Invalid place
+reported_invalid Invalid p invalid one place = (λ e. subst Invalid (same_rule p place e) invalid, λ w. ap (λ (q : ℕ). failed (Rule q)) (one p place invalid w))
 
 -- where a value is read no place is wrong
-pub told_right : {T : Type 0} (value : T) (Wrong : ℕ → Type 0) → ((q : ℕ) → Wrong q → ⊥)
-    → (place : ℕ) → (Ok value ≡ failed (Rule place)) ↔ Wrong place
-told_right value Wrong none place = (λ e. absurd cc, λ w. absurd (none place w))
+pub reported_right : {T : Type 0} (value : T) (Invalid : ℕ → Type 0) → ((q : ℕ) → Invalid q → ⊥)
+    → (place : ℕ) → (Ok value ≡ failed (Rule place)) ↔ Invalid place
+reported_right value Invalid none place = (λ e. absurd cc, λ w. absurd (none place w))

@@ -97,12 +97,12 @@ stands (words count ns holds) front rest w = (w.0, words_stand ns front rest w.1
 stands (block size b holds) front rest w = sym (ap (take size) (drop_at front (b ++ rest) (length front) refl) ∙ take_at b rest size w)
 
 -- fields that fit their bytes are after any prefix in what they spell
-pub stand_behind : (front : List ℕ) (fs : List Field) → AreWithin fs → Stand (length front) fs (front ++ spelling fs)
+pub stand_after : (front : List ℕ) (fs : List Field) → AreWithin fs → Stand (length front) fs (front ++ spelling fs)
 unfolding Stand spelling AreWithin
-stand_behind front [] w = ap length (append-nil front)
-stand_behind front (f ∷ fs) w =
+stand_after front [] w = ap length (append-nil front)
+stand_after front (f ∷ fs) w =
     let next : length (front ++ bytes_of f) ≡ length front + size_of f = omega (arith, length-append front (bytes_of f), size_is f w.0) in
-    let tail = stand_behind (front ++ bytes_of f) fs w.1 in
+    let tail = stand_after (front ++ bytes_of f) fs w.1 in
     let moved : Stand (length front + size_of f) fs ((front ++ bytes_of f) ++ spelling fs) = subst (λ (k : ℕ). Stand k fs ((front ++ bytes_of f) ++ spelling fs)) next tail in
     (stands f front (spelling fs) w.0, subst (λ (bytes : List ℕ). Stand (length front + size_of f) fs bytes) (append_assoc front (bytes_of f) (spelling fs)) moved)
 
@@ -112,7 +112,7 @@ spelled fs bytes fits p = spelled_from 0 fs bytes fits p
 
 -- fields that spell bytes are in them
 pub spelled_stand : (fs : List Field) (bytes : List ℕ) → AreWithin fs → spelling fs ≡ bytes → Stand 0 fs bytes
-spelled_stand fs bytes w e = subst (λ (b : List ℕ). Stand 0 fs b) e (stand_behind [] fs w)
+spelled_stand fs bytes w e = subst (λ (b : List ℕ). Stand 0 fs b) e (stand_after [] fs w)
 
 -- what fields spell is as long as their sizes say, where the values fit
 pub long_as : (fs : List Field) → AreWithin fs → length (spelling fs) ≡ sizes fs

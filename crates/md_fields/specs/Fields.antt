@@ -89,9 +89,9 @@ sizes [] = 0
 sizes (field ∷ rest) = size_of field + sizes rest
 
 -- the offset of the first field whose rule fails, where the first field is at an offset
-unfoldable pub first_wrong : ℕ → List Field → Option ℕ
-first_wrong place [] = None
-first_wrong place (field ∷ rest) = if holds_of field then first_wrong (place + size_of field) rest else Some place
+unfoldable pub first_invalid : ℕ → List Field → Option ℕ
+first_invalid place [] = None
+first_invalid place (field ∷ rest) = if holds_of field then first_invalid (place + size_of field) rest else Some place
 
 -- the rule of each field holds
 unfoldable pub AllHold : List Field → Type 0

@@ -1,5 +1,5 @@
 ghost use Rattle.std.specs.Prelude.{◌≡◌, ◌<◌, ◌^◌, map};
-ghost use Rattle.md_fields.specs.Fields.{seen, size_of, holds_of, sizes, first_wrong};
+ghost use Rattle.md_fields.specs.Fields.{seen, size_of, holds_of, sizes, first_invalid};
 
 /// A field of a saved state: its value, and whether its rule holds.
 ///
@@ -51,10 +51,10 @@ impl<'a> Field<'a> {
 
 /// The offset of the first field whose rule fails, in bytes from the first field on; None where each
 /// rule holds.
-#[tactic(auto, unfolding(crate::specs::Fields::sizes, crate::specs::Fields::first_wrong))]
-pub fn first_wrong(fields: &[Field<'_>]) -> Option<usize>
+#[tactic(auto, unfolding(crate::specs::Fields::sizes, crate::specs::Fields::first_invalid))]
+pub fn first_invalid(fields: &[Field<'_>]) -> Option<usize>
     requires { sizes (map seen fields.now) < 2 ^ 32 }
-    ensures { result ≡ first_wrong 0 (map seen fields.now) }
+    ensures { result ≡ first_invalid 0 (map seen fields.now) }
 {
     let mut place = 0;
     let mut rest = fields;

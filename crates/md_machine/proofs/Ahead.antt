@@ -45,7 +45,7 @@ pub sub_gone_ahead : (n : ℕ) (end : Key) (pins : Pins) (c d : SubValue) → Sa
 sub_gone_ahead n end pins c d first went cart answer = record {
   some = went.some;
   each = all-sub-before n end pins c d.chip.state first went;
-  is = ap₂ (λ image told. Sub (record { chip = record { cart = image; state = d.chip.state }; answer = told })) cart answer
+  is = ap₂ (λ image reported. Sub (record { chip = record { cart = image; state = d.chip.state }; answer = reported })) cart answer
       ∙ ap (λ state. Sub (sub_in_state c state)) went.is ∙ sym (all-sub-begun c pins n);
 }
 
@@ -78,6 +78,6 @@ pub main_gone_ahead : (n : ℕ) (end : Key) (pins : Pins) (c d : MainValue) → 
 main_gone_ahead n end pins c d first went cart answer = record {
   some = went.some;
   each = all-main-before n end pins c d.chip.state first went;
-  is = ap₂ (λ image told. Main (record { chip = record { cart = image; state = d.chip.state }; answer = told })) cart answer
+  is = ap₂ (λ image reported. Main (record { chip = record { cart = image; state = d.chip.state }; answer = reported })) cart answer
       ∙ ap (λ state. Main (main_in_state c state)) went.is ∙ sym (all-main-begun c pins n);
 }

@@ -28,12 +28,12 @@ not-below at = omega arith
 pub record AreLater (parts : Assembly) : Type 0 where
   pub main : parts.at ≤ (next_of parts.main.state).key.cycle
   pub sub : parts.at ≤ (sub_next_of parts.sub.state).key.cycle
-  pub line : parts.at ≤ parts.draw.next
+  pub line : parts.at ≤ parts.renderer.next
 
 abbrev core_of : Assembly → Board → List Chip → ℕ → MachineValue
 core_of parts board chips room = machine_at parts.at (core_in board chips (bounds_of chips) [] room)
 
-machine-by : (parts : Assembly) (board : Board) (room : ℕ) → IsBoard board → AreLater parts → parts.draw.pal ≡ board.vdp.pal → most_entries parts.draw.pal ≤ room
+machine-by : (parts : Assembly) (board : Board) (room : ℕ) → IsBoard board → AreLater parts → parts.renderer.pal ≡ board.vdp.pal → most_entries parts.renderer.pal ≤ room
     → ((i : ℕ) → i < 5 → IsChip (chip_in five (chips_of parts) i))
     → IsMachine parts.at (Some (core_in board (chips_of parts) (bounds_of (chips_of parts)) [] room))
 unfolding next_of sub_next_of console_of
@@ -60,7 +60,7 @@ machine-by parts board room fits later one ample valid =
     }
 
 pub assembled-machine : (parts : Assembly) (board : Board) (chips : List Chip) (bounds : List Key) (entries : List Entry) (room : ℕ) → IsBoard board → AreLater parts
-    → parts.draw.pal ≡ board.vdp.pal → chips ≡ chips_of parts → bounds ≡ bounds_of chips → entries ≡ [] → most_entries parts.draw.pal ≤ room → ((i : ℕ) → i < 5 → IsChip (chip_in five chips i))
+    → parts.renderer.pal ≡ board.vdp.pal → chips ≡ chips_of parts → bounds ≡ bounds_of chips → entries ≡ [] → most_entries parts.renderer.pal ≤ room → ((i : ℕ) → i < 5 → IsChip (chip_in five chips i))
     → IsMachine parts.at (Some (core_in board chips bounds entries room))
 assembled-machine parts board chips bounds entries room fits later one c b e ample valid =
     subst (λ z. IsMachine parts.at (Some (core_in board chips z entries room))) (sym b)

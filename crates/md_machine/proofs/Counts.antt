@@ -6,8 +6,8 @@ use Rattle.md_word.specs.declared.event.Entry.{Entry}
 use Rattle.m68k_chip.specs.Events.{request_of}
 use Rattle.m68k_chip.specs.States.{next_of}
 use Rattle.z80_chip.specs.States.{next_of as sub_next_of}
-use Rattle.bus_shared.specs.Accesses.{main_told}
-use Rattle.md_machine.specs.Console.{AllBelow, Console, IsQuiet, IsRunTo, fm_moved, rendered, journal, key_in, line_moved, main_moved, moved, sub_accessed, sub_moved, mover, psg_moved, ran, media_after, told}
+use Rattle.bus_shared.specs.Accesses.{main_reported}
+use Rattle.md_machine.specs.Console.{AllBelow, Console, IsQuiet, IsRunTo, fm_moved, rendered, journal, key_in, line_moved, main_moved, moved, sub_accessed, sub_moved, mover, psg_moved, ran, media_after, reported}
 use Rattle.md_machine.specs.Media.{Media, joined, no_media}
 use Rattle.md_machine.specs.Movers.{mover-lt}
 use Rattle.md_machine.specs.Starts.{IsStart, Start, batches_below, first_batch}
@@ -174,17 +174,17 @@ unfolding psg_beat
 psg-goes-on = goes_on psg_beat
 
 -- a move gives one entry at most
-told-by : (b : Bool) (e : Entry) → length (cond b [] (e ∷ [])) ≤ 1
-told-by true e = omega arith
-told-by false e = omega arith
+reported-by : (b : Bool) (e : Entry) → length (cond b [] (e ∷ [])) ≤ 1
+reported-by true e = omega arith
+reported-by false e = omega arith
 
-told-few : (z : Console) (i : ℕ) → i < 5 → length (told z i) ≤ 1
-unfolding told
-told-few z = five-each (λ i. length (told z i) ≤ 1)
-    (told-by (next_of z.main).sample (main_told z.shared (next_of z.main).key (request_of z.cart z.main))) (told-by (sub_next_of z.sub.state).sample (sub_accessed z).entry) (omega arith) (omega arith) (omega arith)
+reported-few : (z : Console) (i : ℕ) → i < 5 → length (reported z i) ≤ 1
+unfolding reported
+reported-few z = five-each (λ i. length (reported z i) ≤ 1)
+    (reported-by (next_of z.main).sample (main_reported z.shared (next_of z.main).key (request_of z.cart z.main))) (reported-by (sub_next_of z.sub.state).sample (sub_accessed z).entry) (omega arith) (omega arith) (omega arith)
 
 pub journal-few : (m : Console) (n : ℕ) → length (journal m n) ≤ n
 unfolding journal
 journal-few m zero = omega arith
 journal-few m (suc n) =
-    omega (arith, length-append (journal m n) (told (ran m n) (mover (ran m n))), journal-few m n, told-few (ran m n) (mover (ran m n)) (mover-lt (ran m n)))
+    omega (arith, length-append (journal m n) (reported (ran m n) (mover (ran m n))), journal-few m n, reported-few (ran m n) (mover (ran m n)) (mover-lt (ran m n)))

@@ -12,51 +12,51 @@ use Rattle.md_machine.specs.Machines.{IsMachine, MachineValue, kept_in, machine_
 use Rattle.md_machine.specs.Media.{no_media}
 use Rattle.bus_shared.specs.Board.{Board, IsBoard}
 use Rattle.md_machine.specs.Regions.{IsOneRegion, most_entries}
-use Rattle.md_machine.specs.Refinement.{console_of, draw_of, fm_of, psg_of, record_of}
+use Rattle.md_machine.specs.Refinement.{console_of, renderer_of, fm_of, psg_of, record_of}
 use Rattle.md_machine.specs.Rules.{IsChip, five, next}
 use Rattle.md_machine.specs.declared.chips.Chip.{Chip}
-use Rattle.md_machine.specs.declared.chips.Chip.TheVariants.{Main, Sub, Draw, Fm, Psg}
+use Rattle.md_machine.specs.declared.chips.Chip.TheVariants.{Main, Sub, Renderer, Fm, Psg}
 use Rattle.md_machine.proofs.Segments.{console-alike}
 
-emptied-draw : (c0 c1 c c3 c4 : Chip) (b : Board) → record_of c0 c1 (emptied c) c3 c4 b ≡ record_of c0 c1 c c3 c4 b
-emptied-draw c0 c1 (Main c) c3 c4 b = refl
-emptied-draw c0 c1 (Sub c) c3 c4 b = refl
-emptied-draw c0 c1 (Draw c) c3 c4 b = refl
-emptied-draw c0 c1 (Fm c) c3 c4 b = refl
-emptied-draw c0 c1 (Psg c) c3 c4 b = refl
+emptied-renderer : (c0 c1 c c3 c4 : Chip) (b : Board) → record_of c0 c1 (emptied c) c3 c4 b ≡ record_of c0 c1 c c3 c4 b
+emptied-renderer c0 c1 (Main c) c3 c4 b = refl
+emptied-renderer c0 c1 (Sub c) c3 c4 b = refl
+emptied-renderer c0 c1 (Renderer c) c3 c4 b = refl
+emptied-renderer c0 c1 (Fm c) c3 c4 b = refl
+emptied-renderer c0 c1 (Psg c) c3 c4 b = refl
 
 emptied-fm : (c0 c1 c2 c d : Chip) (b : Board) → record_of c0 c1 c2 (emptied c) d b ≡ record_of c0 c1 c2 c d b
 emptied-fm c0 c1 c2 (Main c) d b = refl
 emptied-fm c0 c1 c2 (Sub c) d b = refl
-emptied-fm c0 c1 c2 (Draw c) d b = refl
+emptied-fm c0 c1 c2 (Renderer c) d b = refl
 emptied-fm c0 c1 c2 (Fm c) d b = refl
 emptied-fm c0 c1 c2 (Psg c) d b = refl
 
 emptied-psg : (c0 c1 c2 c3 c : Chip) (b : Board) → record_of c0 c1 c2 c3 (emptied c) b ≡ record_of c0 c1 c2 c3 c b
 emptied-psg c0 c1 c2 c3 (Main c) b = refl
 emptied-psg c0 c1 c2 c3 (Sub c) b = refl
-emptied-psg c0 c1 c2 c3 (Draw c) b = refl
+emptied-psg c0 c1 c2 c3 (Renderer c) b = refl
 emptied-psg c0 c1 c2 c3 (Fm c) b = refl
 emptied-psg c0 c1 c2 c3 (Psg c) b = refl
 
-emptied-frame : (c : Chip) → frames_of (draw_of (emptied c)).chip.frame ≡ []
+emptied-frame : (c : Chip) → frames_of (renderer_of (emptied c)).chip.frame ≡ []
 emptied-frame (Main c) = refl
 emptied-frame (Sub c) = refl
-emptied-frame (Draw c) = refl
+emptied-frame (Renderer c) = refl
 emptied-frame (Fm c) = refl
 emptied-frame (Psg c) = refl
 
 emptied-sides : (c : Chip) → (fm_of (emptied c)).samples ≡ []
 emptied-sides (Main c) = refl
 emptied-sides (Sub c) = refl
-emptied-sides (Draw c) = refl
+emptied-sides (Renderer c) = refl
 emptied-sides (Fm c) = refl
 emptied-sides (Psg c) = refl
 
 emptied-levels : (c : Chip) → (psg_of (emptied c)).samples ≡ []
 emptied-levels (Main c) = refl
 emptied-levels (Sub c) = refl
-emptied-levels (Draw c) = refl
+emptied-levels (Renderer c) = refl
 emptied-levels (Fm c) = refl
 emptied-levels (Psg c) = refl
 
@@ -67,14 +67,14 @@ all_emptied m = record { shared = m.shared; chip = λ i. emptied (m.chip i) }
 emptied-main : (c c1 c2 c3 c4 : Chip) (b : Board) → record_of (emptied c) c1 c2 c3 c4 b ≡ record_of c c1 c2 c3 c4 b
 emptied-main (Main c) c1 c2 c3 c4 b = refl
 emptied-main (Sub c) c1 c2 c3 c4 b = refl
-emptied-main (Draw c) c1 c2 c3 c4 b = refl
+emptied-main (Renderer c) c1 c2 c3 c4 b = refl
 emptied-main (Fm c) c1 c2 c3 c4 b = refl
 emptied-main (Psg c) c1 c2 c3 c4 b = refl
 
 emptied-sub : (c0 c c2 c3 c4 : Chip) (b : Board) → record_of c0 (emptied c) c2 c3 c4 b ≡ record_of c0 c c2 c3 c4 b
 emptied-sub c0 (Main c) c2 c3 c4 b = refl
 emptied-sub c0 (Sub c) c2 c3 c4 b = refl
-emptied-sub c0 (Draw c) c2 c3 c4 b = refl
+emptied-sub c0 (Renderer c) c2 c3 c4 b = refl
 emptied-sub c0 (Fm c) c2 c3 c4 b = refl
 emptied-sub c0 (Psg c) c2 c3 c4 b = refl
 
@@ -88,7 +88,7 @@ console-emptied m =
     let c4 = m.chip 4 in
     emptied-main c0 (emptied c1) (emptied c2) (emptied c3) (emptied c4) m.shared
     ∙ emptied-sub c0 c1 (emptied c2) (emptied c3) (emptied c4) m.shared
-    ∙ emptied-draw c0 c1 c2 (emptied c3) (emptied c4) m.shared
+    ∙ emptied-renderer c0 c1 c2 (emptied c3) (emptied c4) m.shared
     ∙ emptied-fm c0 c1 c2 c3 (emptied c4) m.shared
     ∙ emptied-psg c0 c1 c2 c3 c4 m.shared
 
@@ -123,21 +123,21 @@ drained at v j x below long is =
       console = same i;
       entries = v.journal;
       media = record {
-        frames = frames_of (draw_of (chips 2 (lit< tt) i)).chip.frame;
+        frames = frames_of (renderer_of (chips 2 (lit< tt) i)).chip.frame;
         sides = (fm_of (chips 3 (lit< tt) i)).samples;
         levels = (psg_of (chips 4 (lit< tt) i)).samples;
       };
     }
 
 -- the drawing half without its frame
-drained-draw : (at : ℕ) (v : CoreValue Chip Board) (x : Chip) → length v.chips ≡ 5 → x ≡ emptied (chip_in five v.chips 2)
+drained-renderer : (at : ℕ) (v : CoreValue Chip Board) (x : Chip) → length v.chips ≡ 5 → x ≡ emptied (chip_in five v.chips 2)
     → machine_at at (record v { chips = slice_set v.chips 2 x }) ≡ record (machine_at at v) { media = record (machine_at at v).media { frames = [] } }
 unfolding console_of put
-drained-draw at v x long is =
+drained-renderer at v x long is =
     let old : Machine Chip Board = machine_of five v in
     drained at v 2 x (lit< tt) long is
     ∙ (λ i. record (machine_at at v) {
-      console = emptied-draw (old.chip 0) (old.chip 1) (old.chip 2) (old.chip 3) (old.chip 4) v.shared i;
+      console = emptied-renderer (old.chip 0) (old.chip 1) (old.chip 2) (old.chip 3) (old.chip 4) v.shared i;
       media = record (machine_at at v).media { frames = emptied-frame (old.chip 2) i };
     })
 
@@ -169,14 +169,14 @@ drained-psg at v x long is =
 pub emptied-key : (c : Chip) → (next (emptied c)).key ≡ (next c).key
 emptied-key (Main c) = refl
 emptied-key (Sub c) = refl
-emptied-key (Draw c) = refl
+emptied-key (Renderer c) = refl
 emptied-key (Fm c) = refl
 emptied-key (Psg c) = refl
 
 pub emptied-ok : (c : Chip) → IsChip c → IsChip (emptied c)
 emptied-ok (Main c) ok = ok
 emptied-ok (Sub c) ok = ok
-emptied-ok (Draw c) ok = record { chip = record { picture = ok.chip.picture; frame = tt; at_line = ok.chip.at_line; undrawn = ok.chip.undrawn }; view = ok.view }
+emptied-ok (Renderer c) ok = record { chip = record { picture = ok.chip.picture; frame = tt; at_line = ok.chip.at_line; undrawn = ok.chip.undrawn }; view = ok.view }
 emptied-ok (Fm c) ok = record { taken = ok.taken; samples = lit≤ tt }
 emptied-ok (Psg c) ok = record { synth = ok.synth; taken = ok.taken; samples = lit≤ tt }
 
@@ -195,19 +195,19 @@ key-with_emptied false v j i below long e =
 quiet-with_emptied : (v : CoreValue Chip Board) (at j : ℕ) → j < 5 → length v.chips ≡ 5 → IsQuiet five (machine_of five v) at → IsQuiet five (machine_of five (with_emptied v j)) at
 quiet-with_emptied v at j below long quiet i within = subst (λ (k : Key). at ≤ k.cycle) (sym (key-with_emptied (i == j) v j i below long refl)) (quiet i within)
 
-emptied-pal : (c : Chip) → (draw_of (emptied c)).chip.pal ≡ (draw_of c).chip.pal
+emptied-pal : (c : Chip) → (renderer_of (emptied c)).chip.pal ≡ (renderer_of c).chip.pal
 emptied-pal (Main c) = refl
 emptied-pal (Sub c) = refl
-emptied-pal (Draw c) = refl
+emptied-pal (Renderer c) = refl
 emptied-pal (Fm c) = refl
 emptied-pal (Psg c) = refl
 
 pal-by : (b : Bool) (v : CoreValue Chip Board) (j : ℕ) → j < 5 → length v.chips ≡ 5 → (2 == j) ≡ b
-    → (draw_of (chip_in five (with_emptied v j).chips 2)).chip.pal ≡ (draw_of (chip_in five v.chips 2)).chip.pal
+    → (renderer_of (chip_in five (with_emptied v j).chips 2)).chip.pal ≡ (renderer_of (chip_in five v.chips 2)).chip.pal
 pal-by true v j below long e =
-    ap (λ (c : Chip). (draw_of c).chip.pal) (with_emptied_by true v j (emptied (chip_in five v.chips j)) 2 below long refl e)
-    ∙ emptied-pal (chip_in five v.chips j) ∙ ap (λ (k : ℕ). (draw_of (chip_in five v.chips k)).chip.pal) (sym (eqb-true 2 j e))
-pal-by false v j below long e = ap (λ (c : Chip). (draw_of c).chip.pal) (with_emptied_by false v j (emptied (chip_in five v.chips j)) 2 below long refl e)
+    ap (λ (c : Chip). (renderer_of c).chip.pal) (with_emptied_by true v j (emptied (chip_in five v.chips j)) 2 below long refl e)
+    ∙ emptied-pal (chip_in five v.chips j) ∙ ap (λ (k : ℕ). (renderer_of (chip_in five v.chips k)).chip.pal) (sym (eqb-true 2 j e))
+pal-by false v j below long e = ap (λ (c : Chip). (renderer_of c).chip.pal) (with_emptied_by false v j (emptied (chip_in five v.chips j)) 2 below long refl e)
 
 -- the region stays
 pal-with_emptied : (v : CoreValue Chip Board) (j : ℕ) → j < 5 → length v.chips ≡ 5 → (console_of (machine_of five (with_emptied v j))).pal ≡ (console_of (machine_of five v)).pal
@@ -232,9 +232,9 @@ machine-with_emptied v w at j below has is valid = record {
 abbrev pub IsEmptied : ℕ → MachineValue → MachineValue → Type 0
 IsEmptied j old new = (core : CoreValue Chip Board) × (machine_at old.at core ≡ old) × IsCore five IsChip IsBoard core × (new ≡ machine_at old.at (with_emptied core j))
 
-pub with_emptied-draw : (old new : MachineValue) → IsEmptied 2 old new → new ≡ record old { media = record old.media { frames = [] } }
-with_emptied-draw old new (core, same, is, made) =
-    made ∙ drained-draw old.at core (emptied (chip_in five core.chips 2)) is.shape.chip_count refl
+pub with_emptied-renderer : (old new : MachineValue) → IsEmptied 2 old new → new ≡ record old { media = record old.media { frames = [] } }
+with_emptied-renderer old new (core, same, is, made) =
+    made ∙ drained-renderer old.at core (emptied (chip_in five core.chips 2)) is.shape.chip_count refl
     ∙ ap (λ (v : MachineValue). record v { media = record v.media { frames = [] } }) same
 
 pub with_emptied-fm : (old new : MachineValue) → IsEmptied 3 old new → new ≡ record old { media = record old.media { sides = [] } }

@@ -6,7 +6,7 @@ use Rattle.md_word.specs.declared.event.Entry.{Entry}
 use Rattle.m68k_chip.specs.States.{next_of}
 use Rattle.z80_chip.specs.States.{next_of as sub_next_of}
 use Rattle.vdp_time.specs.Lines.{line_of}
-use Rattle.vdp_chip.specs.Drawing.{line_drawn}
+use Rattle.vdp_chip.specs.RendererState.{line_drawn}
 use Rattle.md_word.specs.Region.{finishes, lines, rows}
 use Rattle.md_word.proofs.Regions.{finishes-below, none-more-by, one-more-by}
 use Rattle.vdp_chip.specs.Picture.{finished}

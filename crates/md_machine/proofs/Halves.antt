@@ -4,11 +4,11 @@ use Rattle.bus_shared.specs.Board.{Board}
 use Rattle.md_machine.specs.Halves.{LeavesChip}
 use Rattle.md_machine.specs.Rules.{perform}
 use Rattle.md_machine.specs.declared.chips.Chip.{Chip}
-use Rattle.md_machine.specs.declared.chips.Chip.TheVariants.{Main, Sub, Draw, Fm, Psg}
+use Rattle.md_machine.specs.declared.chips.Chip.TheVariants.{Main, Sub, Renderer, Fm, Psg}
 
 pub leaves : (c : Chip) (b : Board) → LeavesChip c (perform c b).chip
 leaves (Main c) b = refl
 leaves (Sub c) b = refl
-leaves (Draw c) b = refl
+leaves (Renderer c) b = refl
 leaves (Fm c) b = (refl, refl, refl)
 leaves (Psg c) b = (refl, refl, refl)

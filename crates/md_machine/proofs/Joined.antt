@@ -2,7 +2,7 @@
 use Rattle.std.proofs.Common.{◌≡◌, ℕ, zero, suc, ◌+◌, ◌-◌, ◌<◌, ◌≤◌, ◌⊎◌, inl, inr, List, ◌++◌, sym, ap, ◌∙◌, subst, append-nil, append_assoc, arith, add-suc, add-zero}
 use Rattle.std.proofs.lemmas.Bool.{cases_lt}
 use Rattle.md_word.specs.declared.event.Entry.{Entry}
-use Rattle.md_machine.specs.Console.{Console, IsRunTo, rendered, journal, key_in, moved, mover, ran, media_after, told}
+use Rattle.md_machine.specs.Console.{Console, IsRunTo, rendered, journal, key_in, moved, mover, ran, media_after, reported}
 use Rattle.md_machine.specs.Media.{Media, joined, no_media}
 
 pub ran-add : (m : Console) (a b : ℕ) → ran m (a + b) ≡ ran (ran m a) b
@@ -15,9 +15,9 @@ unfolding journal
 journal-add m a zero = ap (journal m) (add-zero a) ∙ sym (append-nil (journal m a))
 journal-add m a (suc b) =
     ap (journal m) (add-suc a b)
-    ∙ ap (λ l. l ++ told (ran m (a + b)) (mover (ran m (a + b)))) (journal-add m a b)
-    ∙ ap (λ z. (journal m a ++ journal (ran m a) b) ++ told z (mover z)) (ran-add m a b)
-    ∙ append_assoc (journal m a) (journal (ran m a) b) (told (ran (ran m a) b) (mover (ran (ran m a) b)))
+    ∙ ap (λ l. l ++ reported (ran m (a + b)) (mover (ran m (a + b)))) (journal-add m a b)
+    ∙ ap (λ z. (journal m a ++ journal (ran m a) b) ++ reported z (mover z)) (ran-add m a b)
+    ∙ append_assoc (journal m a) (journal (ran m a) b) (reported (ran (ran m a) b) (mover (ran (ran m a) b)))
 
 -- consecutive samples
 joined-none : (s : Media) → joined s no_media ≡ s

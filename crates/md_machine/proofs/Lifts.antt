@@ -3,12 +3,12 @@ use Rattle.std.proofs.Common.{◌≡◌, ℕ, zero, suc, ◌<◌, refl, ap, ◌�
 use Rattle.chip_core.specs.Equations.{least-same}
 use Rattle.chip_core.specs.Machines as machines
 use Rattle.chip_core.specs.Machines.{IsValid, Machine, key_of, least_below, move, run}
-use Rattle.md_machine.specs.Console.{Console, key_in, journal, moved, mover, ran, told}
+use Rattle.md_machine.specs.Console.{Console, key_in, journal, moved, mover, ran, reported}
 use Rattle.bus_shared.specs.Board.{Board, IsBoard}
 use Rattle.md_machine.specs.Refinement.{console_of}
 use Rattle.md_machine.specs.Rules.{IsChip, five}
 use Rattle.md_machine.specs.declared.chips.Chip.{Chip}
-use Rattle.md_machine.proofs.Moves.{key-same, move-same, entries-told}
+use Rattle.md_machine.proofs.Moves.{key-same, move-same, entries-reported}
 
 -- the same chip moves
 pub mover-same : (m : Machine Chip Board) → IsValid five IsChip IsBoard m → machines.mover five m ≡ mover (console_of m)
@@ -39,8 +39,8 @@ journal-same m zero valid movers = refl
 journal-same m (suc n) valid movers =
     let stage : IsValid five IsChip IsBoard (run five m n) = valid n (omega arith) in
     let before : console_of (run five m n) ≡ ran (console_of m) n = ran-same m n (λ k below. valid k (omega arith)) movers in
-    let entry : machines.entries five (run five m n) (machines.mover five (run five m n)) ≡ told (ran (console_of m) n) (mover (ran (console_of m) n)) =
-    entries-told (run five m n) stage (machines.mover five (run five m n)) (movers (run five m n))
-    ∙ ap (λ (i : ℕ). told (console_of (run five m n)) i) (mover-same (run five m n) stage)
-    ∙ ap (λ (z : Console). told z (mover z)) before in
+    let entry : machines.entries five (run five m n) (machines.mover five (run five m n)) ≡ reported (ran (console_of m) n) (mover (ran (console_of m) n)) =
+    entries-reported (run five m n) stage (machines.mover five (run five m n)) (movers (run five m n))
+    ∙ ap (λ (i : ℕ). reported (console_of (run five m n)) i) (mover-same (run five m n) stage)
+    ∙ ap (λ (z : Console). reported z (mover z)) before in
     rw (journal-same m n (λ k below. valid k (omega arith)) movers, entry) refl

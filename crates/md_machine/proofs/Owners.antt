@@ -283,7 +283,7 @@ byte-access requests80.Take board key access asks is = absurd access
 
 -- the Z80's access, by its stage
 abbrev after_access : Stage → List ℕ → State80 → AnswerValue80 → State80
-after_access stage cart state told = answered_at stage cart (record state { store = kept_at stage state.store }) told
+after_access stage cart state reported = answered_at stage cart (record state { store = kept_at stage state.store }) reported
 
 access-owns : (stage : Stage) (chip : Chip80Value) (board : Board) (key : Key) → stage ≡ chip.state.stage → is_sample stage ≡ false → IsChip80 chip → Owns chip.state board
     → Owns (after_access stage chip.cart chip.state (sub_access board key (asked_at stage chip.cart chip.state)).answer) (sub_access board key (asked_at stage chip.cart chip.state)).board

@@ -70,16 +70,16 @@ shown_high : (pal : Bool) (recording : Recorded) (n f : ℕ) → rows pal < n �
 shown_high pal recording n f h e = rw (lt-leb n (rows pal) h) (ap (pads_of recording) e)
 
 -- the line after the picture is as many lines on as the picture has rows
-behind-rows : (pal : Bool) (k : ℕ) → line * k % frame_cycles pal ≡ finished_at pal → line * k % frame_cycles pal ≡ line * rows pal
-behind-rows pal k e = e ∙ finished-rows pal
+following-rows : (pal : Bool) (k : ℕ) → line * k % frame_cycles pal ≡ finished_at pal → line * k % frame_cycles pal ≡ line * rows pal
+following-rows pal k e = e ∙ finished-rows pal
 
-some-behind : (pal : Bool) (k : ℕ) → line * k % frame_cycles pal ≡ finished_at pal → rows pal < k + 1
-some-behind true k e = omega (arith, e)
-some-behind false k e = omega (arith, e)
+some-following : (pal : Bool) (k : ℕ) → line * k % frame_cycles pal ≡ finished_at pal → rows pal < k + 1
+some-following true k e = omega (arith, e)
+some-following false k e = omega (arith, e)
 
 at_its_pads : (pal : Bool) (recording : Recorded) (k : ℕ) → line * k % frame_cycles pal ≡ finished_at pal → pads_of recording (line * k / frame_cycles pal) ≡ pads_shown pal recording (k + 1)
 at_its_pads pal recording k e =
-    sym (shown_high pal recording (k + 1) (line * k / frame_cycles pal) (some-behind pal k e) (sym (at_pads pal k (behind-rows pal k e))))
+    sym (shown_high pal recording (k + 1) (line * k / frame_cycles pal) (some-following pal k e) (sym (at_pads pal k (following-rows pal k e))))
 
 early_or_late : (pal : Bool) (k : ℕ) → (k + 1 ≤ rows pal) ⊎ (rows pal ≤ k)
 early_or_late pal k = elim (cases_lt k (rows pal)) [ inl early ↦ inl (omega (arith, early)) | inr late ↦ inr late ]

@@ -20,7 +20,7 @@ use Rattle.md_machine.specs.Console as consoles
 use Rattle.md_machine.specs.Console.{Console, IsRunTo, journal, key_in, media_after, ran}
 use Rattle.md_machine.specs.Cores.{core_of}
 use Rattle.md_machine.specs.Laws.{lawful}
-use Rattle.md_machine.specs.Lists.{AreSegments, Between, EachEndsAsRun, EndsAsRun, GoesAsRun, IsSegment, ListsEndAsRun, Segment, begun, behind, drained}
+use Rattle.md_machine.specs.Lists.{AreSegments, Between, EachEndsAsRun, EndsAsRun, GoesAsRun, IsSegment, ListsEndAsRun, Segment, begun, following, drained}
 use Rattle.md_machine.specs.Machines.{kept_in}
 use Rattle.md_machine.specs.Media.{joined, no_media}
 use Rattle.md_machine.specs.Refinement.{console_of}
@@ -145,7 +145,7 @@ segments-go : CoreLaws → (start : Console) (before there : Between) (list : Li
 segments-go laws start before there [] fresh made is =
     subst (λ (b : Between). GoesAsRun start b) (sym is) (record { made = made; each = each-from laws before.at before.core fresh })
 segments-go laws start before there (segment ∷ later) fresh made are =
-    segments-go laws start (behind before segment) there later (fresh-on laws before segment fresh are.0) (segment-on laws start before segment fresh are.0 made) are.1
+    segments-go laws start (following before segment) there later (fresh-on laws before segment fresh are.0) (segment-on laws start before segment fresh are.0 made) are.1
 
 -- ---- the core of a machine
 

@@ -13,7 +13,7 @@ use Rattle.md_machine.specs.Lines.{frames_of}
 use Rattle.md_machine.specs.Machines.{kept_in}
 use Rattle.bus_shared.specs.Board.{Board, IsBoard}
 use Rattle.md_word.specs.Region.{frame_cycles}
-use Rattle.md_machine.specs.Refinement.{console_of, draw_of, fm_of, psg_of, record_of}
+use Rattle.md_machine.specs.Refinement.{console_of, renderer_of, fm_of, psg_of, record_of}
 use Rattle.md_machine.specs.Regions.{most_batches, most_entries, most_pairs}
 use Rattle.md_machine.specs.Media.{Media, no_media}
 use Rattle.md_machine.specs.Rules.{IsChip, five}
@@ -107,7 +107,7 @@ segment-run m w from to entered runs valid movers valid-w few_fm few none here q
     let levels : KeepsAll psg_part m runs.moves = samples-kept psg_part m runs.moves stages movers (ap (λ (s : Media). s.levels) none) (room-for (console_of m).pal _ (few runs.moves runs.below)) in
     let frames = frames-kept m from to runs.moves stages here movers (ap (λ (s : Media). s.frames) none) quiet near runs.below in
     let kept : kept_in w ≡ media_after (console_of m) runs.moves = λ i. record {
-      frames = (ap (λ (c : Chip). frames_of (draw_of c).chip.frame) (runs.chips 2 (lit< tt)) ∙ frames) i;
+      frames = (ap (λ (c : Chip). frames_of (renderer_of c).chip.frame) (runs.chips 2 (lit< tt)) ∙ frames) i;
       sides = (ap (λ (c : Chip). (fm_of c).samples) (runs.chips 3 (lit< tt)) ∙ sides.samples_are) i;
       levels = (ap (λ (c : Chip). (psg_of c).samples) (runs.chips 4 (lit< tt)) ∙ levels.samples_are) i;
     } in

@@ -6,7 +6,7 @@ use Rattle.rom_header.specs.Cartridge.{IsImage}
 use Rattle.chip_core.specs.Cores.{IsCore, IsShaped, machine_of, no_key}
 use Rattle.m68k_chip.specs.States as states
 use Rattle.m68k_chip.specs.States.{next_of}
-use Rattle.vdp_chip.proofs.Lined.{drawing_begun}
+use Rattle.vdp_chip.proofs.Lined.{renderer_state_begun}
 use Rattle.z80_chip.proofs.Laws as laws80
 use Rattle.z80_chip.specs.States as states80
 use Rattle.z80_chip.specs.States.{next_of as sub_next_of}
@@ -38,7 +38,7 @@ first-is-core cart recording pal room image = record {
   shape = first-shape cart pal;
   shared = keeps.power_on-ok recording pal;
   chip = five-each (λ i. IsChip (slice_index_or (first_chips cart pal) i five.blank)) (power_on-ok cart image) (laws80.power_on-ok cart image)
-      (record { chip = drawing_begun pal; view = refl })
+      (record { chip = renderer_state_begun pal; view = refl })
       (record { taken = lit≤ tt; samples = lit≤ tt })
       (record { synth = IsSynth-at_power_on; taken = lit≤ tt; samples = lit≤ tt });
 }

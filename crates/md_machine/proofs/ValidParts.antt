@@ -11,8 +11,8 @@ use Rattle.md_pads.specs.Recording.{Recorded}
 use Rattle.psg_sound.specs.Synth.{IsSynth}
 use Rattle.psg_sound.specs.SynthLaws.{IsSynth-at_power_on}
 use Rattle.rom_header.specs.Cartridge.{IsImage}
-use Rattle.vdp_chip.proofs.Lined.{drawing_begun}
-use Rattle.vdp_chip.specs.Drawing.{IsDrawing}
+use Rattle.vdp_chip.proofs.Lined.{renderer_state_begun}
+use Rattle.vdp_chip.specs.RendererState.{IsRendererState}
 use Rattle.z80_chip.proofs.Laws as laws80
 use Rattle.z80_chip.specs.Validity.{IsChip80}
 use Rattle.z80_chip.specs.States.{next_of as sub_next_of}
@@ -21,11 +21,11 @@ use Rattle.bus_shared.specs.Board.{Board, IsBoard}
 use Rattle.md_machine.specs.Console as consoles
 use Rattle.md_machine.specs.Console.{Console, ran}
 use Rattle.md_machine.specs.Cores.{core_of}
-use Rattle.md_machine.specs.Parts.{DrawValue, MainValue, PsgValue, SubValue}
-use Rattle.md_machine.specs.Refinement.{console_of, draw_of, main_of, psg_of, sub_of}
+use Rattle.md_machine.specs.Parts.{RendererValue, MainValue, PsgValue, SubValue}
+use Rattle.md_machine.specs.Refinement.{console_of, renderer_of, main_of, psg_of, sub_of}
 use Rattle.md_machine.specs.Rules.{IsChip, five}
 use Rattle.md_machine.specs.declared.chips.Chip.{Chip}
-use Rattle.md_machine.specs.declared.chips.Chip.TheVariants.{Main, Sub, Draw, Psg}
+use Rattle.md_machine.specs.declared.chips.Chip.TheVariants.{Main, Sub, Renderer, Psg}
 use Rattle.md_machine.proofs.Lifts.{Movers, ValidTo, ran-same}
 use Rattle.md_machine.proofs.Moves.{five-each, kind0, kind1, kind2, kind4}
 use Rattle.md_machine.proofs.Segments.{below-lift}
@@ -44,7 +44,7 @@ pub valid_in : (m : Console) → HasValidParts m → IsValid five IsChip IsBoard
 unfolding next_of sub_next_of
 valid_in m has = record {
   shared = has.board;
-  chip = five-each (λ i. IsChip ((machine_in m).chip i)) has.main has.sub (record { chip = has.drawing; view = refl })
+  chip = five-each (λ i. IsChip ((machine_in m).chip i)) has.main has.sub (record { chip = has.renderer_state; view = refl })
       (record { taken = lit≤ tt; samples = lit≤ tt }) (record { synth = has.psg; taken = lit≤ tt; samples = lit≤ tt });
   number = five-each (λ i. (key_of five (machine_in m) i).chip ≡ i) refl refl refl refl refl;
 }
@@ -57,10 +57,10 @@ main_in c v is ok = subst (λ (k : Chip). IsChip68 (main_of k).chip) (sym is) (s
 sub_in : (c : Chip) (v : SubValue) → c ≡ Sub v → IsChip c → IsChip80 (sub_of c).chip
 sub_in c v is ok = subst (λ (k : Chip). IsChip80 (sub_of k).chip) (sym is) (subst IsChip is ok)
 
-draw_in : (c : Chip) (v : DrawValue) → c ≡ Draw v → IsChip c → IsDrawing (draw_of c).chip
-draw_in c v is ok =
-    let own : IsChip (Draw v) = subst IsChip is ok in
-    subst (λ (k : Chip). IsDrawing (draw_of k).chip) (sym is) own.chip
+renderer_in : (c : Chip) (v : RendererValue) → c ≡ Renderer v → IsChip c → IsRendererState (renderer_of c).chip
+renderer_in c v is ok =
+    let own : IsChip (Renderer v) = subst IsChip is ok in
+    subst (λ (k : Chip). IsRendererState (renderer_of k).chip) (sym is) own.chip
 
 psg_in : (c : Chip) (v : PsgValue) → c ≡ Psg v → IsChip c → IsSynth (psg_of c).synth
 psg_in c v is ok =
@@ -74,11 +74,11 @@ parts_in m valid =
     let k1 = kind1 (m.chip 1) (valid.number 1 (lit< tt)) in
     let k2 = kind2 (m.chip 2) (valid.number 2 (lit< tt)) in
     let k4 = kind4 (m.chip 4) (valid.number 4 (lit< tt)) in
-    let drawing = draw_in (m.chip 2) k2.0 k2.1 (valid.chip 2 (lit< tt)) in
+    let renderer_state = renderer_in (m.chip 2) k2.0 k2.1 (valid.chip 2 (lit< tt)) in
     record {
       main = main_in (m.chip 0) k0.0 k0.1 (valid.chip 0 (lit< tt));
       sub = sub_in (m.chip 1) k1.0 k1.1 (valid.chip 1 (lit< tt));
-      drawing = record { picture = drawing.picture; frame = tt; at_line = drawing.at_line; undrawn = drawing.undrawn };
+      renderer_state = record { picture = renderer_state.picture; frame = tt; at_line = renderer_state.at_line; undrawn = renderer_state.undrawn };
       psg = psg_in (m.chip 4) k4.0 k4.1 (valid.chip 4 (lit< tt));
       board = valid.shared;
     }
@@ -89,7 +89,7 @@ pub parts_begun : (cart : List ℕ) (recording : Recorded) (pal : Bool) → IsIm
 parts_begun cart recording pal image = record {
   main = laws68.power_on-ok cart image;
   sub = laws80.power_on-ok cart image;
-  drawing = drawing_begun pal;
+  renderer_state = renderer_state_begun pal;
   psg = IsSynth-at_power_on;
   board = power_on-ok recording pal;
 }

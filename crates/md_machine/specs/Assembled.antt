@@ -4,7 +4,7 @@ use Rattle.md_word.specs.declared.key.Key.{Key}
 use Rattle.chip_core.specs.Cores.{key_in}
 use Rattle.m68k_chip.specs.Validity.{Chip68Value}
 use Rattle.z80_chip.specs.Validity.{Chip80Value}
-use Rattle.vdp_chip.specs.Drawing.{Drawing}
+use Rattle.vdp_chip.specs.RendererState.{RendererState}
 use Rattle.fm_chip.specs.Synth as fm_synths
 use Rattle.psg_sound.specs.Synth.{Synth}
 use Rattle.bus_shared.specs.Board.{Board}
@@ -12,14 +12,14 @@ use Rattle.md_machine.specs.Console.{Console}
 use Rattle.md_machine.specs.Rules.{five}
 use Rattle.md_machine.specs.Starts.{first_batch}
 use Rattle.md_machine.specs.declared.chips.Chip.{Chip}
-use Rattle.md_machine.specs.declared.chips.Chip.TheVariants.{Main, Sub, Draw, Fm, Psg}
+use Rattle.md_machine.specs.declared.chips.Chip.TheVariants.{Main, Sub, Renderer, Fm, Psg}
 
 -- the parts of a machine, at a cycle
 pub record Assembly : Type 0 where
   pub at : ℕ
   pub main : Chip68Value
   pub sub : Chip80Value
-  pub draw : Drawing
+  pub renderer : RendererState
   pub fm : fm_synths.Synth
   pub psg : Synth
 
@@ -29,7 +29,7 @@ abbrev pub chips_of : Assembly → List Chip
 chips_of parts =
     Main (record { chip = parts.main; answer = None })
     ∷ Sub (record { chip = parts.sub; answer = None })
-    ∷ Draw (record { chip = record parts.draw { frame = None }; view = None })
+    ∷ Renderer (record { chip = record parts.renderer { frame = None }; view = None })
     ∷ Fm (record { synth = parts.fm; cycle = first_batch parts.at; taken = []; samples = [] })
     ∷ Psg (record { synth = parts.psg; cycle = first_batch parts.at; taken = []; samples = [] })
     ∷ []
@@ -44,10 +44,10 @@ assembled parts board = record {
   cart = parts.main.cart;
   main = parts.main.state;
   sub = parts.sub;
-  note = parts.draw.note;
-  picture = parts.draw.picture;
-  pal = parts.draw.pal;
-  line = parts.draw.next;
+  note = parts.renderer.note;
+  picture = parts.renderer.picture;
+  pal = parts.renderer.pal;
+  line = parts.renderer.next;
   fm_cycle = first_batch parts.at;
   psg_cycle = first_batch parts.at;
   fm = parts.fm;

@@ -28,10 +28,10 @@ use Rattle.md_pads.specs.Recording.{Frame, Recorded}
 use Rattle.md_pads.specs.declared.version.Version.{Version}
 use Rattle.md_pads.specs.declared.version.Version.TheVariants.{First, Second}
 use Rattle.md_machine.specs.FmCode.{fm_way, port_way}
-use Rattle.md_machine.specs.VdpCode.{draw_way, vdp_way}
-use Rattle.md_machine.specs.Parts.{DrawValue, FmValue, MainValue, PsgValue, SubValue}
+use Rattle.md_machine.specs.VdpCode.{renderer_way, vdp_way}
+use Rattle.md_machine.specs.Parts.{RendererValue, FmValue, MainValue, PsgValue, SubValue}
 use Rattle.md_machine.specs.declared.chips.Chip.{Chip}
-use Rattle.md_machine.specs.declared.chips.Chip.TheVariants.{Main, Sub, Draw, Fm, Psg}
+use Rattle.md_machine.specs.declared.chips.Chip.TheVariants.{Main, Sub, Renderer, Fm, Psg}
 
 -- the way of the 68000's registers
 abbrev pub regs_way : Way Regs
@@ -238,46 +238,46 @@ state80_way =
     (λ s. refl)
 
 -- what is reported to the Z80 as a sum
-abbrev pub told_sum : AnswerValue80 → ℕ ⊎ (Option Store)
-told_sum (Byte value) = inl value
-told_sum Nothing = inr None
-told_sum (Returned store) = inr (Some store)
+abbrev pub reported_sum : AnswerValue80 → ℕ ⊎ (Option Store)
+reported_sum (Byte value) = inl value
+reported_sum Nothing = inr None
+reported_sum (Returned store) = inr (Some store)
 
 -- nothing is reported, or RAM and bank register that return
-abbrev pub told_back : Option Store → AnswerValue80
-told_back None = Nothing
-told_back (Some store) = Returned store
+abbrev pub reported_back : Option Store → AnswerValue80
+reported_back None = Nothing
+reported_back (Some store) = Returned store
 
 -- what is reported to the Z80, from its sum
-abbrev pub told_of : ℕ ⊎ (Option Store) → AnswerValue80
-told_of (inl value) = Byte value
-told_of (inr store) = told_back store
+abbrev pub reported_of : ℕ ⊎ (Option Store) → AnswerValue80
+reported_of (inl value) = Byte value
+reported_of (inr store) = reported_back store
 
 -- what is reported to the Z80 by its sum
-pub told_same : (t : AnswerValue80) → told_of (told_sum t) ≡ t
-told_same (Byte value) = refl
-told_same Nothing = refl
-told_same (Returned store) = refl
+pub reported_same : (t : AnswerValue80) → reported_of (reported_sum t) ≡ t
+reported_same (Byte value) = refl
+reported_same Nothing = refl
+reported_same (Returned store) = refl
 
 -- the way of what is reported to the Z80
-abbrev pub told_way : Way AnswerValue80
-told_way = by_way (either number (maybe store_way)) told_sum told_of told_same
+abbrev pub reported_way : Way AnswerValue80
+reported_way = by_way (either number (maybe store_way)) reported_sum reported_of reported_same
 
 -- the way of the Z80 with its cartridge and the answer that it keeps
 abbrev pub sub_way : Way SubValue
 sub_way =
-    by_way (both (both (many number) state80_way) (maybe told_way)) (λ c. ((c.chip.cart, c.chip.state), c.answer))
+    by_way (both (both (many number) state80_way) (maybe reported_way)) (λ c. ((c.chip.cart, c.chip.state), c.answer))
     (λ p. record { chip = record { cart = p.0.0; state = p.0.1 }; answer = p.1 }) (λ c. refl)
 
 -- the kinds of chips as a sum
 abbrev pub Sum : Type 0
-Sum = MainValue ⊎ (SubValue ⊎ (DrawValue ⊎ (FmValue ⊎ PsgValue)))
+Sum = MainValue ⊎ (SubValue ⊎ (RendererValue ⊎ (FmValue ⊎ PsgValue)))
 
 -- the sum of a chip
 abbrev pub sum_of : Chip → Sum
 sum_of (Main c) = inl c
 sum_of (Sub c) = inr (inl c)
-sum_of (Draw c) = inr (inr (inl c))
+sum_of (Renderer c) = inr (inr (inl c))
 sum_of (Fm c) = inr (inr (inr (inl c)))
 sum_of (Psg c) = inr (inr (inr (inr c)))
 
@@ -287,12 +287,12 @@ late_of (inl c) = Fm c
 late_of (inr c) = Psg c
 
 -- the chip of a sum, from the lines on
-abbrev pub middle_of : DrawValue ⊎ (FmValue ⊎ PsgValue) → Chip
-middle_of (inl c) = Draw c
+abbrev pub middle_of : RendererValue ⊎ (FmValue ⊎ PsgValue) → Chip
+middle_of (inl c) = Renderer c
 middle_of (inr c) = late_of c
 
 -- the chip of a sum, from the Z80 on
-abbrev pub early_of : SubValue ⊎ (DrawValue ⊎ (FmValue ⊎ PsgValue)) → Chip
+abbrev pub early_of : SubValue ⊎ (RendererValue ⊎ (FmValue ⊎ PsgValue)) → Chip
 early_of (inl c) = Sub c
 early_of (inr c) = middle_of c
 
@@ -305,13 +305,13 @@ chip_of (inr c) = early_of c
 pub chip_same : (c : Chip) → chip_of (sum_of c) ≡ c
 chip_same (Main c) = refl
 chip_same (Sub c) = refl
-chip_same (Draw c) = refl
+chip_same (Renderer c) = refl
 chip_same (Fm c) = refl
 chip_same (Psg c) = refl
 
 -- the way of a chip
 abbrev pub chip_way : Way Chip
-chip_way = by_way (either main_way (either sub_way (either draw_way (either fm_way psg_way)))) sum_of chip_of chip_same
+chip_way = by_way (either main_way (either sub_way (either renderer_way (either fm_way psg_way)))) sum_of chip_of chip_same
 
 -- the way of the two words of the pads
 abbrev pub frame_way : Way Frame

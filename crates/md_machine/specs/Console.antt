@@ -22,15 +22,15 @@ use Rattle.psg_sound.specs.Batches.{after_batch, samples}
 use Rattle.psg_sound.specs.Port.{taken_below}
 use Rattle.psg_sound.specs.Synth.{Synth, at_power_on}
 use Rattle.bus_shared.specs.Fm.{fm_board}
-use Rattle.bus_shared.specs.Accesses.{SubOutcome, level_of, line_board, main_answer, main_board, main_told, psg_board, sub_access, sub_pins}
+use Rattle.bus_shared.specs.Accesses.{SubOutcome, level_of, line_board, main_answer, main_board, main_reported, psg_board, sub_access, sub_pins}
 use Rattle.bus_shared.specs.Board.{Board}
 use Rattle.bus_shared.specs.Board as boards
 use Rattle.bus_shared.specs.Entries.{batch_entry, line_entry}
 use Rattle.md_pads.specs.Recording.{Recorded}
 use Rattle.vdp_planes.specs.View.{view_of}
 use Rattle.vdp_planes.specs.declared.view.SpriteNote.{SpriteNote}
-use Rattle.vdp_chip.specs.Drawing.{Drawing}
-use Rattle.vdp_chip.specs.Drawing as drawings
+use Rattle.vdp_chip.specs.RendererState.{RendererState}
+use Rattle.vdp_chip.specs.RendererState as renderer_states
 use Rattle.md_machine.specs.Lines.{drawn_from, frames_of}
 use Rattle.md_machine.specs.Media.{Media, joined, no_media}
 
@@ -62,8 +62,8 @@ power_on cart recording pal = record {
   cart = cart;
   main = states.power_on cart;
   sub = record { cart = cart; state = states80.power_on };
-  note = (drawings.at_power_on pal).note;
-  picture = (drawings.at_power_on pal).picture;
+  note = (renderer_states.at_power_on pal).note;
+  picture = (renderer_states.at_power_on pal).picture;
   pal = pal;
   line = 0;
   fm_cycle = clock.batch;
@@ -110,12 +110,12 @@ sub_moved m =
     })
 
 -- the drawing half of the VDP, of which no frame is kept
-abbrev pub drawing_in : Console → Drawing
-drawing_in m = record { next = m.line; note = m.note; has_view = true; picture = m.picture; frame = None; pal = m.pal }
+abbrev pub renderer_state_in : Console → RendererState
+renderer_state_in m = record { next = m.line; note = m.note; has_view = true; picture = m.picture; frame = None; pal = m.pal }
 
 -- what it is after the event of its next line: that is drawn from the VDP as the event leaves it
-abbrev pub line_done : Console → Drawing
-line_done m = drawn_from (view_of m.pal (line_board m.shared m.line m.note).vdp) (drawing_in m)
+abbrev pub line_done : Console → RendererState
+line_done m = drawn_from (view_of m.pal (line_board m.shared m.line m.note).vdp) (renderer_state_in m)
 
 -- the event of a line
 unfoldable pub line_moved : Console → Console
@@ -155,9 +155,9 @@ moved m i =
     (cond (i == 3) (fm_moved m) (psg_moved m))))
 
 -- the entry that it gives, if it is an access
-unfoldable pub told : Console → ℕ → List Entry
-told m i =
-    cond (i == 0) (cond (next_of m.main).sample [] (main_told m.shared (next_of m.main).key (request_of m.cart m.main) ∷ []))
+unfoldable pub reported : Console → ℕ → List Entry
+reported m i =
+    cond (i == 0) (cond (next_of m.main).sample [] (main_reported m.shared (next_of m.main).key (request_of m.cart m.main) ∷ []))
     (cond (i == 1) (cond (sub_next_of m.sub.state).sample [] ((sub_accessed m).entry ∷ []))
     (cond (i == 2) (let after = line_board m.shared m.line m.note in line_entry after.vdp.pal (record { cycle = m.line; chip = 2 }) (level_of after) ∷ [])
     (cond (i == 3) (batch_entry 11 (record { cycle = m.fm_cycle; chip = 3 }) (length (fm_taken m)) ∷ [])
@@ -188,7 +188,7 @@ ran m (suc n) = moved (ran m n) (mover (ran m n))
 -- the entries of the first n moves, in their order
 unfoldable pub journal : Console → ℕ → List Entry
 journal m zero = []
-journal m (suc n) = journal m n ++ told (ran m n) (mover (ran m n))
+journal m (suc n) = journal m n ++ reported (ran m n) (mover (ran m n))
 
 -- the frames and samples of the first n moves, in their order
 unfoldable pub media_after : Console → ℕ → Media

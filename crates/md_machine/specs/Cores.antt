@@ -3,10 +3,10 @@ use Rattle.std.specs.Prelude.{List, [], ◌∷◌, None}
 use Rattle.bus_shared.specs.Board.{Board}
 use Rattle.chip_core.specs.Cores.{CoreValue}
 use Rattle.md_machine.specs.Assembled.{bounds_of}
-use Rattle.md_machine.specs.Console.{Console, drawing_in}
+use Rattle.md_machine.specs.Console.{Console, renderer_state_in}
 use Rattle.md_machine.specs.Machines.{core_in}
 use Rattle.md_machine.specs.declared.chips.Chip.{Chip}
-use Rattle.md_machine.specs.declared.chips.Chip.TheVariants.{Main, Sub, Draw, Fm, Psg}
+use Rattle.md_machine.specs.declared.chips.Chip.TheVariants.{Main, Sub, Renderer, Fm, Psg}
 
 -- the five chips of a machine: no answer is kept, no view is away, no write was taken, and no frame and no
 -- sample is kept
@@ -14,7 +14,7 @@ abbrev pub chips_in : Console → List Chip
 chips_in m =
     Main (record { chip = record { cart = m.cart; state = m.main }; answer = None })
     ∷ Sub (record { chip = m.sub; answer = None })
-    ∷ Draw (record { chip = drawing_in m; view = None })
+    ∷ Renderer (record { chip = renderer_state_in m; view = None })
     ∷ Fm (record { synth = m.fm; cycle = m.fm_cycle; taken = []; samples = [] })
     ∷ Psg (record { synth = m.psg; cycle = m.psg_cycle; taken = []; samples = [] })
     ∷ []

@@ -2,14 +2,14 @@
 use Rattle.std.specs.Prelude.{ℕ, ℤ, List, [], Option, None, slice_set}
 use Rattle.chip_core.specs.Cores.{CoreValue, chip_in}
 use Rattle.bus_shared.specs.Board.{Board}
-use Rattle.md_machine.specs.Refinement.{draw_of, fm_of, psg_of}
+use Rattle.md_machine.specs.Refinement.{renderer_of, fm_of, psg_of}
 use Rattle.md_machine.specs.Rules.{five}
 use Rattle.md_machine.specs.declared.chips.Chip.{Chip}
-use Rattle.md_machine.specs.declared.chips.Chip.TheVariants.{Main, Sub, Draw, Fm, Psg}
+use Rattle.md_machine.specs.declared.chips.Chip.TheVariants.{Main, Sub, Renderer, Fm, Psg}
 
 -- the frame that the drawing half keeps; of another chip none
 abbrev pub frame_of : Chip → Option (List ℕ)
-frame_of c = (draw_of c).chip.frame
+frame_of c = (renderer_of c).chip.frame
 
 -- the sums of both sides that the FM synthesis keeps; of another chip none
 abbrev pub sides_of : Chip → List (ℤ × ℤ)
@@ -23,7 +23,7 @@ levels_of c = (psg_of c).samples
 abbrev pub emptied : Chip → Chip
 emptied (Main c) = Main c
 emptied (Sub c) = Sub c
-emptied (Draw c) = Draw (record c { chip = record c.chip { frame = None } })
+emptied (Renderer c) = Renderer (record c { chip = record c.chip { frame = None } })
 emptied (Fm c) = Fm (record c { samples = [] })
 emptied (Psg c) = Psg (record c { samples = [] })
 

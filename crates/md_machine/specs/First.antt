@@ -4,7 +4,7 @@ use Rattle.md_word.specs.Clock as clock
 use Rattle.md_word.specs.declared.key.Key.{Key}
 use Rattle.m68k_chip.specs.States.{power_on}
 use Rattle.z80_chip.specs.States as states80
-use Rattle.vdp_chip.specs.Drawing as drawings
+use Rattle.vdp_chip.specs.RendererState as renderer_states
 use Rattle.fm_chip.specs.Synth as fm_synths
 use Rattle.psg_sound.specs.Synth.{at_power_on}
 use Rattle.md_machine.specs.Assembled.{Assembly, chips_of}
@@ -16,7 +16,7 @@ first_parts cart pal = record {
   at = 0;
   main = record { cart = cart; state = power_on cart };
   sub = record { cart = cart; state = states80.power_on };
-  draw = drawings.at_power_on pal;
+  renderer = renderer_states.at_power_on pal;
   fm = fm_synths.at_power_on;
   psg = at_power_on;
 }

@@ -13,7 +13,7 @@ use Rattle.bus_shared.specs.Video.{level_known}
 use Rattle.m68k_chip.specs.States.{State68, next_of}
 use Rattle.psg_sound.specs.Batches.{samples}
 use Rattle.psg_sound.specs.Port.{taken_below}
-use Rattle.bus_shared.specs.Accesses.{main_answer, main_told, main_transfer, main_value, sub_access, taken_back, yielded}
+use Rattle.bus_shared.specs.Accesses.{main_answer, main_reported, main_transfer, main_value, sub_access, taken_back, yielded}
 use Rattle.bus_shared.specs.Entries.{main_entry}
 use Rattle.fm_chip.specs.Batches as fm_batches
 use Rattle.bus_shared.proofs.Keeps.{fm_board-ok, fm_taken-few, line-ok, main-ok, psg_board-ok}
@@ -37,19 +37,19 @@ use Rattle.z80_parcel.specs.Requests as fits80
 use Rattle.z80_parcel.specs.Requests.{RequestValue80, ReadByte, WriteByte, HandOver, TakeBack, AnswerValue80, Byte, Nothing, Returned}
 use Rattle.md_machine.specs.Pins.{level_in, pins_by, pins_of, sub_in}
 use Rattle.md_machine.specs.declared.pins.Pins.TheVariants as pins
-use Rattle.bus_shared.proofs.Values.{tells}
+use Rattle.bus_shared.proofs.Values.{reports}
 use Rattle.m68k_chip.proofs.Laws.{answered-later, answered-ok, begun-later, begun-ok}
 use Rattle.psg_sound.specs.PortLaws.{taken_below-few}
 use Rattle.psg_sound.specs.SynthLaws.{IsSynth-after_batch, length-samples}
 use Rattle.bus_shared.specs.Board.{Board, IsBoard}
-use Rattle.vdp_chip.specs.Drawing.{Drawing}
+use Rattle.vdp_chip.specs.RendererState.{RendererState}
 use Rattle.vdp_planes.specs.declared.view.LineView.{LineView}
-use Rattle.md_machine.specs.LineLaws.{drawing-ok, drawing-wherever, drawn-next}
+use Rattle.md_machine.specs.LineLaws.{renderer_state-ok, renderer_state-wherever, drawn-next}
 use Rattle.md_machine.specs.Lines.{drawn_from}
-use Rattle.md_machine.specs.Parts.{DrawValue, FmValue, IsDraw, IsFm, IsPsg, IsSub, MainValue, PsgValue, SubValue}
-use Rattle.md_machine.specs.Rules.{IsChip, advance, draw_advance, draw_perform, first_of, five, fm_advance, fm_perform, gap, kept, next, perform, psg_advance, psg_perform, sample, sub_advance, sub_perform, view_in, writes}
+use Rattle.md_machine.specs.Parts.{RendererValue, FmValue, IsRenderer, IsFm, IsPsg, IsSub, MainValue, PsgValue, SubValue}
+use Rattle.md_machine.specs.Rules.{IsChip, advance, renderer_advance, renderer_perform, first_of, five, fm_advance, fm_perform, gap, kept, next, perform, psg_advance, psg_perform, sample, sub_advance, sub_perform, view_in, writes}
 use Rattle.md_machine.specs.declared.chips.Chip.{Chip}
-use Rattle.md_machine.specs.declared.chips.Chip.TheVariants.{Main, Sub, Draw, Fm, Psg}
+use Rattle.md_machine.specs.declared.chips.Chip.TheVariants.{Main, Sub, Renderer, Fm, Psg}
 
 -- the board's transfers are those that can be reported to the 68000
 started : (t : Option Transfer) → IfSome t IsTransfer → IfSome t IsStarted
@@ -59,12 +59,12 @@ started (Some t) h = record { some = h.some; most = h.most; even = h.even; on_bu
 -- what the board answers fits
 pub answer-fits : (board : Board) (key : Key) (request : Request68) → IsBoard board → Fits request (main_answer board key request)
 unfolding main_answer main_value
-answer-fits board key (Read8 at) ok = record { value = (tells board key ok).byte at; transfer = started (main_transfer board key (Read8 at)) ((tells board key ok).transfer (Read8 at)); cost = tt }
-answer-fits board key (Read16 at) ok = record { value = (tells board key ok).word at; transfer = started (main_transfer board key (Read16 at)) ((tells board key ok).transfer (Read16 at)); cost = tt }
-answer-fits board key (Write8 at value) ok = record { value = refl; transfer = started (main_transfer board key (Write8 at value)) ((tells board key ok).transfer (Write8 at value)); cost = tt }
-answer-fits board key (Write16 at value) ok = record { value = refl; transfer = started (main_transfer board key (Write16 at value)) ((tells board key ok).transfer (Write16 at value)); cost = tt }
-answer-fits board key (Ack level) ok = record { value = refl; transfer = started (main_transfer board key (Ack level)) ((tells board key ok).transfer (Ack level)); cost = tt }
-answer-fits board key (Word value) ok = record { value = refl; transfer = started (main_transfer board key (Word value)) ((tells board key ok).transfer (Word value)); cost = (tells board key ok).cost value }
+answer-fits board key (Read8 at) ok = record { value = (reports board key ok).byte at; transfer = started (main_transfer board key (Read8 at)) ((reports board key ok).transfer (Read8 at)); cost = tt }
+answer-fits board key (Read16 at) ok = record { value = (reports board key ok).word at; transfer = started (main_transfer board key (Read16 at)) ((reports board key ok).transfer (Read16 at)); cost = tt }
+answer-fits board key (Write8 at value) ok = record { value = refl; transfer = started (main_transfer board key (Write8 at value)) ((reports board key ok).transfer (Write8 at value)); cost = tt }
+answer-fits board key (Write16 at value) ok = record { value = refl; transfer = started (main_transfer board key (Write16 at value)) ((reports board key ok).transfer (Write16 at value)); cost = tt }
+answer-fits board key (Ack level) ok = record { value = refl; transfer = started (main_transfer board key (Ack level)) ((reports board key ok).transfer (Ack level)); cost = tt }
+answer-fits board key (Word value) ok = record { value = refl; transfer = started (main_transfer board key (Word value)) ((reports board key ok).transfer (Word value)); cost = (reports board key ok).cost value }
 
 -- what the Z80 hands over is valid
 handing-valid : (store : Option Store) → IfSome store IsStore → HandsOver (handing store)
@@ -90,23 +90,23 @@ unfolding asked_of
 handed-board c ok = hands-at c.chip.state.stage c.chip.cart c.chip.state ok.store
 
 -- what fits what it asked for fits once that is handed over
-handed-fits : (store : Option Store) (told : AnswerValue80) → fits80.Fits (handing store) told → fits80.Fits TakeBack told
-handed-fits None told fits = fits
+handed-fits : (store : Option Store) (reported : AnswerValue80) → fits80.Fits (handing store) reported → fits80.Fits TakeBack reported
+handed-fits None reported fits = fits
 handed-fits (Some store) (Byte value) fits = fits
 handed-fits (Some store) Nothing fits = tt
 handed-fits (Some store) (Returned back) fits = fits
 
-fits-at : (stage : Stage) (cart : List ℕ) (state : State80) (told : AnswerValue80) → fits80.Fits (asked_at stage cart state) told → fits80.Fits (asked_at stage cart (record state { store = kept_at stage state.store })) told
-fits-at stages80.Sample cart state told fits = fits
-fits-at stages80.Access cart state told fits = fits
-fits-at stages80.Yield cart state told fits = handed-fits state.store told fits
-fits-at stages80.Take cart state told fits = fits
+fits-at : (stage : Stage) (cart : List ℕ) (state : State80) (reported : AnswerValue80) → fits80.Fits (asked_at stage cart state) reported → fits80.Fits (asked_at stage cart (record state { store = kept_at stage state.store })) reported
+fits-at stages80.Sample cart state reported fits = fits
+fits-at stages80.Access cart state reported fits = fits
+fits-at stages80.Yield cart state reported fits = handed-fits state.store reported fits
+fits-at stages80.Take cart state reported fits = fits
 
 -- what the board answers the Z80 fits what it asked for, also once RAM is handed over
-pub told-fits : (c : SubValue) (s : Board) → IsSub c → IsBoard s
+pub reported-fits : (c : SubValue) (s : Board) → IsSub c → IsBoard s
     → fits80.Fits (asked_of c.chip.cart (handed c.chip.state)) (sub_access s (sub_next_of c.chip.state).key (asked_of c.chip.cart c.chip.state)).answer
 unfolding asked_of handed
-told-fits c s ok board =
+reported-fits c s ok board =
     fits-at c.chip.state.stage c.chip.cart c.chip.state _ (keeps.sub-fits s (sub_next_of c.chip.state).key (asked_at c.chip.state.stage c.chip.cart c.chip.state) (hands-at c.chip.state.stage c.chip.cart c.chip.state ok.store) board)
 
 handed-kind : (state : State80) → (sub_next_of state).sample ≡ false → (sub_next_of (handed state)).sample ≡ false
@@ -121,7 +121,7 @@ sub-low state = lit< tt
 -- an access of the Z80
 sub-ok : (c : SubValue) (s : Board) → IsSub c → IsBoard s → (sub_next_of c.chip.state).sample ≡ false → IsSub (sub_advance (sub_perform c s).chip)
 sub-ok c s ok board kind =
-    laws80.answered-ok (laws80.of c.chip.cart (handed c.chip.state)) _ (laws80.handed-ok c.chip ok) (handed-kind c.chip.state kind) (told-fits c s ok board)
+    laws80.answered-ok (laws80.of c.chip.cart (handed c.chip.state)) _ (laws80.handed-ok c.chip ok) (handed-kind c.chip.state kind) (reported-fits c s ok board)
 
 handed-next : (state : State80) → (handed state).next ≡ state.next
 unfolding handed
@@ -164,7 +164,7 @@ access-next : (c : Chip) (s : Board) (i : ℕ) → IsDue five IsChip IsBoard c s
 unfolding next_of sub_next_of
 access-next (Main c) s i d = record { number = refl; later = answered-later c.chip _ d.chip d.kind (answer-fits s (next_of c.chip.state).key (request_of c.chip.cart c.chip.state) d.shared) }
 access-next (Sub c) s i d = record { number = refl; later = sub-later c s d.chip d.kind }
-access-next (Draw c) s i d = record { number = refl; later = omega (arith, drawn-next (view_in (draw_perform c s).chip.view) (record c.chip { has_view = false })) }
+access-next (Renderer c) s i d = record { number = refl; later = omega (arith, drawn-next (view_in (renderer_perform c s).chip.view) (record c.chip { has_view = false })) }
 access-next (Fm c) s i d = record { number = refl; later = omega arith }
 access-next (Psg c) s i d = record { number = refl; later = omega arith }
 
@@ -172,7 +172,7 @@ sample-next : (c : Chip) (s : Board) (i : ℕ) → IsDue five IsChip IsBoard c s
 unfolding next_of sub_next_of
 sample-next (Main c) s i d = record { number = refl; later = begun-later c.chip (level_in (pins_of s i)) d.chip d.kind }
 sample-next (Sub c) s i d = record { number = refl; later = laws80.begun-later c.chip (sub_in (pins_of s i)) d.chip d.kind }
-sample-next (Draw c) s i d = absurd (true≢false (sym d.kind))
+sample-next (Renderer c) s i d = absurd (true≢false (sym d.kind))
 sample-next (Fm c) s i d = absurd (true≢false (sym d.kind))
 sample-next (Psg c) s i d = absurd (true≢false (sym d.kind))
 
@@ -201,23 +201,23 @@ psg-ok c s ok board = record {
   samples = kept-few c.samples (samples (first_of c.cycle) c.synth (taken_below c.cycle s.psg)) (length-samples (first_of c.cycle) c.synth (taken_below c.cycle s.psg)) ok.samples;
 }
 
-draw-ok : (c : DrawValue) (s : Board) → IsDraw c → IsDraw (draw_advance (draw_perform c s).chip)
-draw-ok c s ok =
-    let lent : Drawing = record c.chip { has_view = false } in
-    let view : LineView = view_in (draw_perform c s).chip.view in
-    record { chip = drawing-wherever true (drawn_from view lent) (drawing-ok view lent (drawing-wherever false c.chip ok.chip)); view = refl }
+renderer-ok : (c : RendererValue) (s : Board) → IsRenderer c → IsRenderer (renderer_advance (renderer_perform c s).chip)
+renderer-ok c s ok =
+    let lent : RendererState = record c.chip { has_view = false } in
+    let view : LineView = view_in (renderer_perform c s).chip.view in
+    record { chip = renderer_state-wherever true (drawn_from view lent) (renderer_state-ok view lent (renderer_state-wherever false c.chip ok.chip)); view = refl }
 
 access-chip : (c : Chip) (s : Board) (i : ℕ) → IsDue five IsChip IsBoard c s i false → IsChip (advance (perform c s).chip)
 access-chip (Main c) s i d = answered-ok c.chip _ d.chip d.kind (answer-fits s (next_of c.chip.state).key (request_of c.chip.cart c.chip.state) d.shared)
 access-chip (Sub c) s i d = sub-ok c s d.chip d.shared d.kind
-access-chip (Draw c) s i d = draw-ok c s d.chip
+access-chip (Renderer c) s i d = renderer-ok c s d.chip
 access-chip (Fm c) s i d = fm-ok c s d.chip d.shared
 access-chip (Psg c) s i d = psg-ok c s d.chip d.shared
 
 sample-chip : (c : Chip) (s : Board) (i : ℕ) → IsDue five IsChip IsBoard c s i true → IsChip (sample c (pins_of s i))
 sample-chip (Main c) s i d = begun-ok c.chip (level_in (pins_of s i)) (level-known (i == 1) s) d.chip d.kind
 sample-chip (Sub c) s i d = laws80.begun-ok c.chip (sub_in (pins_of s i)) d.chip d.kind
-sample-chip (Draw c) s i d = d.chip
+sample-chip (Renderer c) s i d = d.chip
 sample-chip (Fm c) s i d = d.chip
 sample-chip (Psg c) s i d = d.chip
 
@@ -229,7 +229,7 @@ main-low state = lit< tt
 access-shared : (c : Chip) (s : Board) (i : ℕ) → IsDue five IsChip IsBoard c s i false → IsBoard (perform c s).shared
 access-shared (Main c) s i d = main-ok s (next_of c.chip.state).key _ (main-low c.chip.state) d.shared
 access-shared (Sub c) s i d = keeps.sub-ok s (sub_next_of c.chip.state).key _ (sub-low c.chip.state) (handed-board c d.chip) d.shared
-access-shared (Draw c) s i d = line-ok s c.chip.next c.chip.note d.shared
+access-shared (Renderer c) s i d = line-ok s c.chip.next c.chip.note d.shared
 access-shared (Fm c) s i d = fm_board-ok s c.cycle d.shared
 access-shared (Psg c) s i d = psg_board-ok s c.cycle d.shared
 
@@ -243,10 +243,10 @@ entry-key key (Ack level) given a = refl
 entry-key key (Word value) given a = refl
 
 access-entry : (c : Chip) (s : Board) (i : ℕ) → IsDue five IsChip IsBoard c s i false → (perform c s).entry.key ≡ (next c).key
-unfolding main_told
+unfolding main_reported
 access-entry (Main c) s i d = entry-key (next_of c.chip.state).key (request_of c.chip.cart c.chip.state) _ _
 access-entry (Sub c) s i d = sub-key s (sub_next_of c.chip.state).key (asked_of c.chip.cart c.chip.state)
-access-entry (Draw c) s i d = refl
+access-entry (Renderer c) s i d = refl
 access-entry (Fm c) s i d = refl
 access-entry (Psg c) s i d = refl
 
@@ -265,7 +265,7 @@ main-number c i is = is
 pins-left : (c : Chip) (s : Board) (i j : ℕ) → IsDue five IsChip IsBoard c s i false → writes i j ≡ false → pins_of (perform c s).shared j ≡ pins_of s j
 pins-left (Main c) s i j d other = absurd (true≢false (subst (λ (n : ℕ). writes n j ≡ false) (sym (main-number c i d.number)) other))
 pins-left (Sub c) s i j d other = pins-same (j == 1) s _ (sub_pins_stay s (sub_next_of c.chip.state).key (asked_of c.chip.cart c.chip.state))
-pins-left (Draw c) s i j d other = absurd (true≢false (subst (λ (n : ℕ). writes n j ≡ false) (sym d.number) other))
+pins-left (Renderer c) s i j d other = absurd (true≢false (subst (λ (n : ℕ). writes n j ≡ false) (sym d.number) other))
 pins-left (Fm c) s i j d other = pins-same (j == 1) s _ (fm_batch_pins_stay s c.cycle)
 pins-left (Psg c) s i j d other = pins-same (j == 1) s _ (batch_pins_stay s c.cycle)
 

@@ -11,46 +11,46 @@ use Rattle.vdp_planes.specs.declared.view.LineView.{LineView}
 use Rattle.vdp_planes.specs.declared.view.SpriteNote.{SpriteNote}
 use Rattle.vdp_planes.specs.View.{display_height, dot_at, view_of}
 use Rattle.vdp_sprites.specs.Sprites.{sprite_dot}
-use Rattle.vdp_chip.specs.Drawing.{Drawing, IsDrawing, answered, line_drawn, picture_after}
-use Rattle.vdp_chip.specs.Picture.{cleared, drawn, finished, row_of}
-use Rattle.vdp_chip.proofs.Lined.{drawing_drawn}
+use Rattle.vdp_chip.specs.RendererState.{RendererState, IsRendererState, answered, line_drawn, picture_after}
+use Rattle.vdp_chip.specs.Picture.{cleared, drawn, finished, scanline_of}
+use Rattle.vdp_chip.proofs.Lined.{renderer_state_drawn}
 use Rattle.vdp_sprites.specs.Lines.{note_on, sprites_on}
-use Rattle.vdp_ahead.proofs.Drawn.{row_drawn}
+use Rattle.vdp_ahead.proofs.Drawn.{scanline_drawn}
 use Rattle.bus_shared.specs.Video.{line_view}
-use Rattle.md_machine.specs.Parts.{IsDraw}
-use Rattle.md_machine.specs.Lines.{drawn_from, told_view, untold}
+use Rattle.md_machine.specs.Parts.{IsRenderer}
+use Rattle.md_machine.specs.Lines.{drawn_from, reported_view, unreported}
 
 -- where the view is, is no matter of the picture
-pub drawing-wherever : (b : Bool) (d : Drawing) → IsDrawing d → IsDrawing (record d { has_view = b })
-drawing-wherever b d h = record { picture = h.picture; frame = h.frame; at_line = h.at_line; undrawn = h.undrawn }
+pub renderer_state-wherever : (b : Bool) (d : RendererState) → IsRendererState d → IsRendererState (record d { has_view = b })
+renderer_state-wherever b d h = record { picture = h.picture; frame = h.frame; at_line = h.at_line; undrawn = h.undrawn }
 
 -- what holds of the drawing half holds after the event of a line
-pub drawing-ok : (view : LineView) (d : Drawing) → IsDrawing d → IsDrawing (drawn_from view d)
+pub renderer_state-ok : (view : LineView) (d : RendererState) → IsRendererState d → IsRendererState (drawn_from view d)
 unfolding drawn_from
-drawing-ok view d h = drawing_drawn view (sprites_on (line_of d.next d.pal) view) (note_on (line_of d.next d.pal) view) d h
+renderer_state-ok view d h = renderer_state_drawn view (sprites_on (line_of d.next d.pal) view) (note_on (line_of d.next d.pal) view) d h
 
 -- there is a value under a function where there is one
-some-told : {A B : Type 0} (f : A → B) (o : Option A) → is_some (option_map f o) ≡ is_some o
-some-told f None = refl
-some-told f (Some x) = refl
+some-reported : {A B : Type 0} (f : A → B) (o : Option A) → is_some (option_map f o) ≡ is_some o
+some-reported f None = refl
+some-reported f (Some x) = refl
 
 -- what holds of the drawing half, wherever its view is
-pub is_drawn : {A : Type 0} (d : Drawing) (f : A → LineView) (view : Option A) → IsDrawing d → d.has_view ≡ not (is_some view) → IsDraw (record { chip = d; view = option_map f view })
-is_drawn d f view ok is = record { chip = ok; view = is ∙ ap not (sym (some-told f view)) }
+pub is_drawn : {A : Type 0} (d : RendererState) (f : A → LineView) (view : Option A) → IsRendererState d → d.has_view ≡ not (is_some view) → IsRenderer (record { chip = d; view = option_map f view })
+is_drawn d f view ok is = record { chip = ok; view = is ∙ ap not (sym (some-reported f view)) }
 
 -- the next line comes 3,420 cycles later
-pub drawn-next : (view : LineView) (d : Drawing) → (drawn_from view d).next ≡ d.next + line
+pub drawn-next : (view : LineView) (d : RendererState) → (drawn_from view d).next ≡ d.next + line
 unfolding drawn_from line_drawn
 drawn-next view d = refl
 
 -- a view that is lent and given back
-drawn-home : (view : LineView) (d : Drawing) → d.has_view ≡ true
+drawn-home : (view : LineView) (d : RendererState) → d.has_view ≡ true
     → record (drawn_from view (record d { has_view = false })) { has_view = true } ≡ drawn_from view d
 unfolding drawn_from line_drawn picture_after
 drawn-home view d home = λ i. record (drawn_from view d) { has_view = sym home i }
 
 -- a line whose row is the same from other dots of the sprites
-line-same : (view : LineView) (s t : List Dot) (note : SpriteNote) (d : Drawing) → row_of view s (line_of d.next d.pal) ≡ row_of view t (line_of d.next d.pal)
+line-same : (view : LineView) (s t : List Dot) (note : SpriteNote) (d : RendererState) → scanline_of view s (line_of d.next d.pal) ≡ scanline_of view t (line_of d.next d.pal)
     → line_drawn view s note d ≡ line_drawn view t note d
 unfolding line_drawn picture_after
 line-same view s t note d same =
@@ -61,21 +61,21 @@ line-same view s t note d same =
     same
 
 -- after the picture it is no matter from what a line is drawn
-unseen-view : (v w : LineView) (s t : List Dot) (note : SpriteNote) (d : Drawing) → nat_lt (line_of d.next d.pal) (rows d.pal) ≡ false → line_drawn v s note d ≡ line_drawn w t note d
+unseen-view : (v w : LineView) (s t : List Dot) (note : SpriteNote) (d : RendererState) → nat_lt (line_of d.next d.pal) (rows d.pal) ≡ false → line_drawn v s note d ≡ line_drawn w t note d
 unfolding line_drawn picture_after drawn
-unseen-view v w s t note d behind = rw behind refl
+unseen-view v w s t note d following = rw following refl
 
-note-behind : (v w : LineView) (y : ℕ) → display_height v ≤ y → display_height w ≤ y → note_on y v ≡ note_on y w
+note-following : (v w : LineView) (y : ℕ) → display_height v ≤ y → display_height w ≤ y → note_on y v ≡ note_on y w
 unfolding note_on
-note-behind v w y first second = rw (le-ltb y (display_height v) first, le-ltb y (display_height w) second) refl
+note-following v w y first second = rw (le-ltb y (display_height v) first, le-ltb y (display_height w) second) refl
 
 -- a line that is drawn from a view and the dots of its sprites
-line-made : (view : LineView) (s : List Dot) (note : SpriteNote) (d : Drawing) → note ≡ note_on (line_of d.next d.pal) view
+line-made : (view : LineView) (s : List Dot) (note : SpriteNote) (d : RendererState) → note ≡ note_on (line_of d.next d.pal) view
     → (line_of d.next d.pal < display_height view → (x : ℕ) → x < picture_width → dot_at s x ≡ sprite_dot view (line_of d.next d.pal) x)
     → line_drawn view s note d ≡ drawn_from view d
 unfolding drawn_from
 line-made view s note d noted dots =
-    rw noted (line-same view s (sprites_on (line_of d.next d.pal) view) (note_on (line_of d.next d.pal) view) d (row_drawn view s (line_of d.next d.pal) dots))
+    rw noted (line-same view s (sprites_on (line_of d.next d.pal) view) (note_on (line_of d.next d.pal) view) d (scanline_drawn view s (line_of d.next d.pal) dots))
 
 -- the display has no line after the picture
 height-within : (pal tall : Bool) → height (pal && tall) ≤ rows pal
@@ -84,30 +84,30 @@ height-within true false = omega arith
 height-within false tall = omega arith
 
 -- what is not observable of a view is not seen
-pub told-drawn : (view : LineView) (d : Drawing) → view.pal ≡ d.pal → drawn_from (told_view d.next view) d ≡ drawn_from view d
-unfolding drawn_from told_view
-told-drawn view d same =
+pub reported-drawn : (view : LineView) (d : RendererState) → view.pal ≡ d.pal → drawn_from (reported_view d.next view) d ≡ drawn_from view d
+unfolding drawn_from reported_view
+reported-drawn view d same =
     let y = line_of d.next d.pal in
     let test : nat_lt (line_of d.next view.pal) (rows view.pal) ≡ nat_lt y (rows d.pal) = ap (λ (pal : Bool). nat_lt (line_of d.next pal) (rows pal)) same in
     elim (cases_Bool (nat_lt y (rows d.pal))) [
       | inl below ↦ rw (test ∙ below) refl
-      | inr behind ↦
-          (let past : rows d.pal ≤ y = ltb-false y (rows d.pal) behind in
+      | inr following ↦
+          (let past : rows d.pal ≤ y = ltb-false y (rows d.pal) following in
           let region : rows view.pal ≡ rows d.pal = ap rows same in
-          let none = untold view.pal in
+          let none = unreported view.pal in
           let first : display_height none ≤ y = omega (arith, height-within view.pal false, region, past) in
           let second : display_height view ≤ y = omega (arith, height-within view.pal view.tall, region, past) in
-          rw (test ∙ behind) (
-          ap (λ (n : SpriteNote). line_drawn none (sprites_on y none) n d) (note-behind none view y first second)
-          ∙ unseen-view none view (sprites_on y none) (sprites_on y view) (note_on y view) d behind))
+          rw (test ∙ following) (
+          ap (λ (n : SpriteNote). line_drawn none (sprites_on y none) n d) (note-following none view y first second)
+          ∙ unseen-view none view (sprites_on y none) (sprites_on y view) (note_on y view) d following))
     ]
 
 -- what the board fills is observable
-pub told_filled : (pal : Bool) (cycle : ℕ) (vdp : Vdp) (view : LineView) → view.pal ≡ pal → told_view cycle (line_view cycle vdp view) ≡ told_view cycle (view_of pal vdp)
-unfolding told_view line_view
-told_filled pal cycle vdp view same = elim (cases_Bool (nat_lt (line_of cycle view.pal) (rows view.pal))) [
+pub reported_filled : (pal : Bool) (cycle : ℕ) (vdp : Vdp) (view : LineView) → view.pal ≡ pal → reported_view cycle (line_view cycle vdp view) ≡ reported_view cycle (view_of pal vdp)
+unfolding reported_view line_view
+reported_filled pal cycle vdp view same = elim (cases_Bool (nat_lt (line_of cycle view.pal) (rows view.pal))) [
   | inl below ↦ rw (below, sym same, below) refl
-  | inr behind ↦ rw (behind, sym same, behind) refl
+  | inr following ↦ rw (following, sym same, following) refl
 ]
 
 -- and its region stays
@@ -115,28 +115,28 @@ pub filled_region : (cycle : ℕ) (vdp : Vdp) (view : LineView) → (line_view c
 unfolding line_view
 filled_region cycle vdp view = elim (cases_Bool (nat_lt (line_of cycle view.pal) (rows view.pal))) [
   | inl below ↦ rw below refl
-  | inr behind ↦ rw behind refl
+  | inr following ↦ rw following refl
 ]
 
 -- a line that is drawn from a view which was lent, and returns with it
-pub lent_drawn : (view : LineView) (s : List Dot) (note : SpriteNote) (d : Drawing) → view.pal ≡ d.pal → note ≡ note_on (line_of d.next d.pal) view
+pub lent_drawn : (view : LineView) (s : List Dot) (note : SpriteNote) (d : RendererState) → view.pal ≡ d.pal → note ≡ note_on (line_of d.next d.pal) view
     → (line_of d.next d.pal < display_height view → (x : ℕ) → x < picture_width → dot_at s x ≡ sprite_dot view (line_of d.next d.pal) x)
-    → answered view s note d ≡ record (drawn_from (told_view d.next view) d) { has_view = true }
+    → answered view s note d ≡ record (drawn_from (reported_view d.next view) d) { has_view = true }
 unfolding answered
-lent_drawn view s note d same noted dots = ap (λ (after : Drawing). record after { has_view = true }) (line-made view s note d noted dots ∙ sym (told-drawn view d same))
+lent_drawn view s note d same noted dots = ap (λ (after : RendererState). record after { has_view = true }) (line-made view s note d noted dots ∙ sym (reported-drawn view d same))
 
 -- a line that is drawn straight from a scene
-pub straight_drawn : (view : LineView) (s : List Dot) (note : SpriteNote) (d : Drawing) → d.has_view ≡ true → view.pal ≡ d.pal → note ≡ note_on (line_of d.next d.pal) view
+pub straight_drawn : (view : LineView) (s : List Dot) (note : SpriteNote) (d : RendererState) → d.has_view ≡ true → view.pal ≡ d.pal → note ≡ note_on (line_of d.next d.pal) view
     → (line_of d.next d.pal < display_height view → (x : ℕ) → x < picture_width → dot_at s x ≡ sprite_dot view (line_of d.next d.pal) x)
-    → line_drawn view s note d ≡ record (drawn_from (told_view d.next view) (record d { has_view = false })) { has_view = true }
+    → line_drawn view s note d ≡ record (drawn_from (reported_view d.next view) (record d { has_view = false })) { has_view = true }
 straight_drawn view s note d home same noted dots =
-    line-made view s note d noted dots ∙ sym (told-drawn view d same) ∙ sym (drawn-home (told_view d.next view) d home)
+    line-made view s note d noted dots ∙ sym (reported-drawn view d same) ∙ sym (drawn-home (reported_view d.next view) d home)
 
 -- a line whose row was drawn ahead
-pub placed_drawn : (view : LineView) (note : SpriteNote) (d after : Drawing) → d.has_view ≡ true → view.pal ≡ d.pal → note ≡ note_on (line_of d.next d.pal) view
+pub placed_drawn : (view : LineView) (note : SpriteNote) (d after : RendererState) → d.has_view ≡ true → view.pal ≡ d.pal → note ≡ note_on (line_of d.next d.pal) view
     → after ≡ line_drawn view (sprites_on (line_of d.next d.pal) view) note d
-    → after ≡ record (drawn_from (told_view d.next view) (record d { has_view = false })) { has_view = true }
+    → after ≡ record (drawn_from (reported_view d.next view) (record d { has_view = false })) { has_view = true }
 unfolding drawn_from
 placed_drawn view note d after home same noted placed =
     placed ∙ ap (λ (n : SpriteNote). line_drawn view (sprites_on (line_of d.next d.pal) view) n d) noted
-    ∙ sym (told-drawn view d same) ∙ sym (drawn-home (told_view d.next view) d home)
+    ∙ sym (reported-drawn view d same) ∙ sym (drawn-home (reported_view d.next view) d home)

@@ -5,23 +5,23 @@ use Rattle.md_word.specs.Region.{rows}
 use Rattle.vdp_time.specs.Lines.{line_of}
 use Rattle.vdp_planes.specs.declared.view.LineView.{LineView}
 use Rattle.vdp_sprites.specs.Lines.{note_on, sprites_on}
-use Rattle.vdp_chip.specs.Drawing.{Drawing, line_drawn}
+use Rattle.vdp_chip.specs.RendererState.{RendererState, line_drawn}
 
 -- the event of the next line, drawn from a view
-unfoldable pub drawn_from : LineView → Drawing → Drawing
+unfoldable pub drawn_from : LineView → RendererState → RendererState
 drawn_from view d = let y = line_of d.next d.pal in line_drawn view (sprites_on y view) (note_on y view) d
 
 -- a view for a picture of a region, of which nothing else is observable
-abbrev pub untold : Bool → LineView
-untold pal = record { registers = []; vram = []; cram = []; vsram = []; pal = pal; tall = false }
+abbrev pub unreported : Bool → LineView
+unreported pal = record { registers = []; vram = []; cram = []; vsram = []; pal = pal; tall = false }
 
 -- what is observable of the view that the board fills at a cycle: after the picture it fills none
-unfoldable pub told_view : ℕ → LineView → LineView
-told_view cycle view = if nat_lt (line_of cycle view.pal) (rows view.pal) then view else untold view.pal
+unfoldable pub reported_view : ℕ → LineView → LineView
+reported_view cycle view = if nat_lt (line_of cycle view.pal) (rows view.pal) then view else unreported view.pal
 
 -- a drawing half of which nothing is observable
-abbrev pub no_drawing : Drawing
-no_drawing = record { next = 0; note = record { overflow = false; collision = false }; has_view = true; picture = []; frame = None; pal = false }
+abbrev pub no_renderer_state : RendererState
+no_renderer_state = record { next = 0; note = record { overflow = false; collision = false }; has_view = true; picture = []; frame = None; pal = false }
 
 -- the frame that is kept, as a list
 abbrev pub frames_of : Option (List ℕ) → List (List ℕ)

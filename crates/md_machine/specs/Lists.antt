@@ -65,8 +65,8 @@ abbrev pub drained : Seen Chip Board → Seen Chip Board
 drained z = record { machine = record { shared = z.machine.shared; chip = λ i. emptied (z.machine.chip i) }; bound = z.bound; journal = [] }
 
 -- after a segment, when what its core keeps is drained
-abbrev pub behind : Between → Segment → Between
-behind before segment = record {
+abbrev pub following : Between → Segment → Between
+following before segment = record {
   at = segment.to;
   core = drained segment.core;
   entries = before.entries ++ segment.core.journal;
@@ -76,7 +76,7 @@ behind before segment = record {
 -- segments one after the other
 abbrev pub AreSegments : Between → List Segment → Between → Type 0
 AreSegments before [] after = after ≡ before
-AreSegments before (segment ∷ later) after = IsSegment before segment × AreSegments (behind before segment) later after
+AreSegments before (segment ∷ later) after = IsSegment before segment × AreSegments (following before segment) later after
 
 -- what was drained up to there is what the run makes, and the core has reached its machine; from there on
 -- every list ends as the run again

@@ -8,7 +8,7 @@ use Rattle.chip_core.specs.Machines.{Machine}
 use Rattle.md_machine.specs.Console.{Console}
 use Rattle.md_pads.specs.Recording.{no_frames}
 use Rattle.bus_shared.specs.Board.{Board, IsBoard, power_on}
-use Rattle.md_machine.specs.Refinement.{console_of, draw_of, fm_of, psg_of}
+use Rattle.md_machine.specs.Refinement.{console_of, renderer_of, fm_of, psg_of}
 use Rattle.md_machine.specs.Regions.{IsOneRegion, most_entries}
 use Rattle.md_machine.specs.Lines.{frames_of}
 use Rattle.md_machine.specs.Media.{Media}
@@ -33,7 +33,7 @@ core_held core = unwrap_or core (core_in (power_on no_frames false) [] [] [] 0)
 
 -- the frames and samples that a machine of five chips keeps
 abbrev pub kept_in : Machine Chip Board → Media
-kept_in m = record { frames = frames_of (draw_of (m.chip 2)).chip.frame; sides = (fm_of (m.chip 3)).samples; levels = (psg_of (m.chip 4)).samples }
+kept_in m = record { frames = frames_of (renderer_of (m.chip 2)).chip.frame; sides = (fm_of (m.chip 3)).samples; levels = (psg_of (m.chip 4)).samples }
 
 -- the machine of a core that was brought to a cycle
 abbrev pub machine_at : ℕ → CoreValue Chip Board → MachineValue

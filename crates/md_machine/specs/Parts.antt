@@ -5,7 +5,7 @@ use Rattle.m68k_chip.specs.Validity.{Chip68Value, IsChip68}
 use Rattle.z80_chip.specs.Validity.{Chip80Value, IsChip80}
 use Rattle.z80_parcel.specs.Requests.{AnswerValue80}
 use Rattle.vdp_planes.specs.declared.view.LineView.{LineView}
-use Rattle.vdp_chip.specs.Drawing.{Drawing, IsDrawing}
+use Rattle.vdp_chip.specs.RendererState.{RendererState, IsRendererState}
 use Rattle.fm_chip.specs.Synth as fm_synths
 use Rattle.fm_port.specs.declared.write.FmWrite.{FmWrite}
 use Rattle.psg_sound.specs.Synth.{Synth, IsSynth}
@@ -31,13 +31,13 @@ IsSub c = IsChip80 c.chip
 
 -- the drawing half of the VDP, and the view that the board filled for it between the two halves of an
 -- access
-pub record DrawValue : Type 0 where
-  pub chip : Drawing
+pub record RendererValue : Type 0 where
+  pub chip : RendererState
   pub view : Option LineView
 
 -- what holds of it: the view is in one of the two places
-pub record IsDraw (c : DrawValue) : Type 0 where
-  pub chip : IsDrawing c.chip
+pub record IsRenderer (c : RendererValue) : Type 0 where
+  pub chip : IsRendererState c.chip
   pub view : c.chip.has_view ≡ not (is_some c.view)
 
 -- the FM synthesis, the cycle of its next batch, the writes that it took for it, and its samples

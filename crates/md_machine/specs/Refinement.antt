@@ -6,11 +6,11 @@ use Rattle.z80_chip.specs.States as states80
 use Rattle.fm_chip.specs.Synth as fm_synths
 use Rattle.psg_sound.specs.Synth.{at_power_on}
 use Rattle.md_machine.specs.Console.{Console}
-use Rattle.md_machine.specs.Lines.{no_drawing}
+use Rattle.md_machine.specs.Lines.{no_renderer_state}
 use Rattle.bus_shared.specs.Board.{Board}
-use Rattle.md_machine.specs.Parts.{DrawValue, FmValue, MainValue, PsgValue, SubValue}
+use Rattle.md_machine.specs.Parts.{RendererValue, FmValue, MainValue, PsgValue, SubValue}
 use Rattle.md_machine.specs.declared.chips.Chip.{Chip}
-use Rattle.md_machine.specs.declared.chips.Chip.TheVariants.{Main, Sub, Draw, Fm, Psg}
+use Rattle.md_machine.specs.declared.chips.Chip.TheVariants.{Main, Sub, Renderer, Fm, Psg}
 
 -- the 68000 of a chip; where it is another, any
 abbrev pub main_of : Chip → MainValue
@@ -33,9 +33,9 @@ psg_of (Psg c) = c
 psg_of _ = record { synth = at_power_on; cycle = 0; taken = []; samples = [] }
 
 -- the drawing half of the VDP of a chip; where it is another, any
-abbrev pub draw_of : Chip → DrawValue
-draw_of (Draw c) = c
-draw_of _ = record { chip = no_drawing; view = None }
+abbrev pub renderer_of : Chip → RendererValue
+renderer_of (Renderer c) = c
+renderer_of _ = record { chip = no_renderer_state; view = None }
 
 -- the record of five chips and a board: the answers that the processors keep, the view, the writes that
 -- the sound chips took, and the frame and the samples that are kept are left out
@@ -44,10 +44,10 @@ record_of c0 c1 c2 c3 c4 b = record {
   cart = (main_of c0).chip.cart;
   main = (main_of c0).chip.state;
   sub = (sub_of c1).chip;
-  line = (draw_of c2).chip.next;
-  note = (draw_of c2).chip.note;
-  picture = (draw_of c2).chip.picture;
-  pal = (draw_of c2).chip.pal;
+  line = (renderer_of c2).chip.next;
+  note = (renderer_of c2).chip.note;
+  picture = (renderer_of c2).chip.picture;
+  pal = (renderer_of c2).chip.pal;
   fm_cycle = (fm_of c3).cycle;
   fm = (fm_of c3).synth;
   psg_cycle = (psg_of c4).cycle;

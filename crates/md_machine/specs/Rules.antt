@@ -18,16 +18,16 @@ use Rattle.fm_port.specs.Port as fm_ports
 use Rattle.bus_shared.specs.Fm.{fm_board}
 use Rattle.psg_sound.specs.Batches.{after_batch, samples}
 use Rattle.psg_sound.specs.Port.{taken_below}
-use Rattle.bus_shared.specs.Accesses.{level_of, line_board, main_answer, main_board, main_told, psg_board, sub_access}
+use Rattle.bus_shared.specs.Accesses.{level_of, line_board, main_answer, main_board, main_reported, psg_board, sub_access}
 use Rattle.bus_shared.specs.Entries.{batch_entry, line_entry}
 use Rattle.bus_shared.specs.Board.{Board}
-use Rattle.md_machine.specs.Parts.{DrawValue, FmValue, IsDraw, IsFm, IsMain, IsPsg, IsSub, MainValue, PsgValue, SubValue}
+use Rattle.md_machine.specs.Parts.{RendererValue, FmValue, IsRenderer, IsFm, IsMain, IsPsg, IsSub, MainValue, PsgValue, SubValue}
 use Rattle.vdp_planes.specs.declared.view.LineView.{LineView}
 use Rattle.vdp_planes.specs.View.{view_of}
-use Rattle.vdp_chip.specs.Drawing as drawings
-use Rattle.md_machine.specs.Lines.{drawn_from, no_drawing, told_view, untold}
+use Rattle.vdp_chip.specs.RendererState as renderer_states
+use Rattle.md_machine.specs.Lines.{drawn_from, no_renderer_state, reported_view, unreported}
 use Rattle.md_machine.specs.declared.chips.Chip.{Chip}
-use Rattle.md_machine.specs.declared.chips.Chip.TheVariants.{Main, Sub, Draw, Fm, Psg}
+use Rattle.md_machine.specs.declared.chips.Chip.TheVariants.{Main, Sub, Renderer, Fm, Psg}
 
 -- the answer that is kept; where there is none, any
 abbrev pub answer_in : Option Answer68 → Answer68
@@ -50,13 +50,13 @@ main_perform c b =
     record {
       chip = record c { answer = Some (main_answer b key request) };
       shared = main_board b key request;
-      entry = main_told b key request;
+      entry = main_reported b key request;
     }
 
 -- what was reported to the Z80; where nothing is kept, nothing
-abbrev pub told_in : Option AnswerValue80 → AnswerValue80
-told_in None = Nothing
-told_in (Some answer) = answer
+abbrev pub reported_in : Option AnswerValue80 → AnswerValue80
+reported_in None = Nothing
+reported_in (Some answer) = answer
 
 -- the board answers the Z80's access, which hands over what it asks with
 abbrev pub sub_perform : SubValue → Board → Accessed SubValue Board
@@ -71,30 +71,30 @@ sub_perform c b =
 
 -- the private work takes the answer
 abbrev pub sub_advance : SubValue → SubValue
-sub_advance c = record { chip = record c.chip { state = events80.answered c.chip.cart c.chip.state (told_in c.answer) }; answer = None }
+sub_advance c = record { chip = record c.chip { state = events80.answered c.chip.cart c.chip.state (reported_in c.answer) }; answer = None }
 
 -- the Z80 continues from a sample
 abbrev pub sub_sample : SubValue → Pins80 → SubValue
 sub_sample c pins = record c { chip = record c.chip { state = events80.begun c.chip.cart c.chip.state pins } }
 
 -- the start of a line: the board takes what the sprites of the line before have set, and fills the view
-abbrev pub draw_perform : DrawValue → Board → Accessed DrawValue Board
-draw_perform c b =
+abbrev pub renderer_perform : RendererValue → Board → Accessed RendererValue Board
+renderer_perform c b =
     let after = line_board b c.chip.next c.chip.note in
     record {
-      chip = record { chip = record c.chip { has_view = false }; view = Some (told_view c.chip.next (view_of c.chip.pal after.vdp)) };
+      chip = record { chip = record c.chip { has_view = false }; view = Some (reported_view c.chip.next (view_of c.chip.pal after.vdp)) };
       shared = after;
-      entry = line_entry after.vdp.pal (drawings.next_of c.chip).key (level_of after);
+      entry = line_entry after.vdp.pal (renderer_states.next_of c.chip).key (level_of after);
     }
 
 -- the view that was filled; where none was, any
 abbrev pub view_in : Option LineView → LineView
-view_in None = untold false
+view_in None = unreported false
 view_in (Some view) = view
 
 -- the line is drawn from it
-abbrev pub draw_advance : DrawValue → DrawValue
-draw_advance c = record { chip = record (drawn_from (view_in c.view) c.chip) { has_view = true }; view = None }
+abbrev pub renderer_advance : RendererValue → RendererValue
+renderer_advance c = record { chip = record (drawn_from (view_in c.view) c.chip) { has_view = true }; view = None }
 
 -- a batch of the FM synthesis is an access
 abbrev pub fm_next : ℕ → Next
@@ -155,7 +155,7 @@ psg_advance c =
 abbrev pub next : Chip → Next
 next (Main c) = next_of c.chip.state
 next (Sub c) = sub_next_of c.chip.state
-next (Draw c) = drawings.next_of c.chip
+next (Renderer c) = renderer_states.next_of c.chip
 next (Fm c) = fm_next c.cycle
 next (Psg c) = psg_next c.cycle
 
@@ -167,7 +167,7 @@ of_kind kind a = record { chip = kind a.chip; shared = a.shared; entry = a.entry
 abbrev pub perform : Chip → Board → Accessed Chip Board
 perform (Main c) b = of_kind Main (main_perform c b)
 perform (Sub c) b = of_kind Sub (sub_perform c b)
-perform (Draw c) b = of_kind Draw (draw_perform c b)
+perform (Renderer c) b = of_kind Renderer (renderer_perform c b)
 perform (Fm c) b = of_kind Fm (fm_perform c b)
 perform (Psg c) b = of_kind Psg (psg_perform c b)
 
@@ -175,7 +175,7 @@ perform (Psg c) b = of_kind Psg (psg_perform c b)
 abbrev pub advance : Chip → Chip
 advance (Main c) = Main (main_advance c)
 advance (Sub c) = Sub (sub_advance c)
-advance (Draw c) = Draw (draw_advance c)
+advance (Renderer c) = Renderer (renderer_advance c)
 advance (Fm c) = Fm (fm_advance c)
 advance (Psg c) = Psg (psg_advance c)
 
@@ -183,7 +183,7 @@ advance (Psg c) = Psg (psg_advance c)
 abbrev pub sample : Chip → Pins → Chip
 sample (Main c) pins = Main (main_sample c (level_in pins))
 sample (Sub c) pins = Sub (sub_sample c (sub_in pins))
-sample (Draw c) pins = Draw c
+sample (Renderer c) pins = Renderer c
 sample (Fm c) pins = Fm c
 sample (Psg c) pins = Psg c
 
@@ -206,13 +206,13 @@ five = record {
   sample = sample;
   writes = writes;
   gap = gap;
-  blank = Draw (record { chip = no_drawing; view = None });
+  blank = Renderer (record { chip = no_renderer_state; view = None });
 }
 
 -- the chips and the board that the code can have
 abbrev pub IsChip : Chip → Type 0
 IsChip (Main c) = IsMain c
 IsChip (Sub c) = IsSub c
-IsChip (Draw c) = IsDraw c
+IsChip (Renderer c) = IsRenderer c
 IsChip (Fm c) = IsFm c
 IsChip (Psg c) = IsPsg c

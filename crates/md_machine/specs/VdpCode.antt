@@ -4,8 +4,8 @@ use Rattle.md_word.specs.Coding.{Way, both, by_way, flag, many, maybe, number}
 use Rattle.vdp_ports.specs.Vdp.{Vdp}
 use Rattle.vdp_planes.specs.declared.view.LineView.{LineView}
 use Rattle.vdp_planes.specs.declared.view.SpriteNote.{SpriteNote}
-use Rattle.vdp_chip.specs.Drawing.{Drawing}
-use Rattle.md_machine.specs.Parts.{DrawValue}
+use Rattle.vdp_chip.specs.RendererState.{RendererState}
+use Rattle.md_machine.specs.Parts.{RendererValue}
 
 -- the way of the VDP
 abbrev pub vdp_way : Way Vdp
@@ -54,12 +54,12 @@ view_way =
     (λ p. record { registers = p.0.0; vram = p.0.1; cram = p.1.0.0; vsram = p.1.0.1; pal = p.1.1.0; tall = p.1.1.1 }) (λ v. refl)
 
 -- the way of the drawing half
-abbrev pub drawing_way : Way Drawing
-drawing_way =
+abbrev pub renderer_state_way : Way RendererState
+renderer_state_way =
     by_way (both (both number note_way) (both (both flag flag) (both (many number) (maybe (many number)))))
     (λ d. ((d.next, d.note), ((d.has_view, d.pal), (d.picture, d.frame))))
     (λ p. record { next = p.0.0; note = p.0.1; has_view = p.1.0.0; picture = p.1.1.0; frame = p.1.1.1; pal = p.1.0.1 }) (λ d. refl)
 
 -- the way of the drawing half with the view that was filled for it
-abbrev pub draw_way : Way DrawValue
-draw_way = by_way (both drawing_way (maybe view_way)) (λ c. (c.chip, c.view)) (λ p. record { chip = p.0; view = p.1 }) (λ c. refl)
+abbrev pub renderer_way : Way RendererValue
+renderer_way = by_way (both renderer_state_way (maybe view_way)) (λ c. (c.chip, c.view)) (λ p. record { chip = p.0; view = p.1 }) (λ c. refl)

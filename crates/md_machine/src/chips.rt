@@ -1,14 +1,14 @@
 pub(crate) mod ahead;
-pub(crate) mod draw;
 pub(crate) mod fm;
 pub(crate) mod main;
 pub(crate) mod psg;
+pub(crate) mod renderer;
 pub(crate) mod sub;
 
-use draw::DrawChip;
 use fm::FmChip;
 use main::MainChip;
 use psg::PsgChip;
+use renderer::RendererChip;
 use sub::SubChip;
 
 /// A chip of the machine.
@@ -19,7 +19,7 @@ pub enum Chip {
     /// The Z80, chip 1.
     Sub(SubChip),
     /// The drawing half of the VDP, chip 2.
-    Draw(DrawChip),
+    Renderer(RendererChip),
     /// The FM synthesis, chip 3.
     Fm(FmChip),
     /// The PSG synthesis, chip 4.

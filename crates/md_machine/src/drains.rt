@@ -1,6 +1,6 @@
 ghost use Rattle.std.specs.Prelude.{◌≡◌, ◌<◌, ◌+◌, ◌*◌, ◌≤◌, ◌++◌, [], IfSome, drop, length, option_copied, vec_len, vec_capacity};
 ghost use Rattle.md_word.specs.Region.{picture_length};
-ghost use Rattle.md_machine.specs.Refinement.{draw_of};
+ghost use Rattle.md_machine.specs.Refinement.{renderer_of};
 ghost use Rattle.md_machine.specs.Lines.{frames_of};
 ghost use Rattle.md_machine.specs.Outputs.{first_sums, frame_length, frames_bytes, journal_bytes, mixed_bytes, sample_bytes, sound_bytes};
 ghost use Rattle.chip_core.specs.Cores.{CoreValue, IsCore};
@@ -42,7 +42,7 @@ impl Machine {
     {
         let pal = self.pal();
         put_frames(frame_in(&self.core().chips()[2]), pal, into);
-        self.empty_draw();
+        self.empty_renderer();
     }
 
     /// Appends the pairs of samples that were made since the machine was last drained.
@@ -65,7 +65,7 @@ impl Machine {
         ensures { self.new ≡ record self.old { entries = []; media = no_media } }
     {
         self.clear_journal();
-        self.empty_draw();
+        self.empty_renderer();
         self.empty_fm();
         self.empty_psg();
     }
@@ -91,7 +91,7 @@ impl Machine {
     }
 
     /// Drops the frame.
-    fn empty_draw(&mut self)
+    fn empty_renderer(&mut self)
         ensures { self.new ≡ record self.old { media = record self.old.media { frames = [] } } }
     {
         self.empty(2);
@@ -182,10 +182,10 @@ fn put_pair_of(sums: (i32, i32), level: &i32, into: &mut Vec<u8>)
 /// The frame that a chip keeps: another chip than the drawing half of the VDP has none.
 fn frame_in(chip: &Chip) -> Option<&[u8]>
     ensures value { option_copied result ≡ drained.frame_of chip.now }
-    ensures size { IfSome (option_copied result) (λ picture. length picture ≡ picture_length (draw_of chip.now).chip.pal) }
+    ensures size { IfSome (option_copied result) (λ picture. length picture ≡ picture_length (renderer_of chip.now).chip.pal) }
 {
     match chip {
-        Chip::Draw(draw) => draw.frame(),
+        Chip::Renderer(renderer) => renderer.frame(),
         Chip::Main(_) | Chip::Sub(_) | Chip::Fm(_) | Chip::Psg(_) => None,
     }
 }
@@ -196,7 +196,7 @@ fn sides_in(chip: &Chip) -> &[(i32, i32)]
 {
     match chip {
         Chip::Fm(fm) => fm.samples(),
-        Chip::Main(_) | Chip::Sub(_) | Chip::Draw(_) | Chip::Psg(_) => &[],
+        Chip::Main(_) | Chip::Sub(_) | Chip::Renderer(_) | Chip::Psg(_) => &[],
     }
 }
 
@@ -206,7 +206,7 @@ fn levels_in(chip: &Chip) -> &[i32]
 {
     match chip {
         Chip::Psg(psg) => psg.samples(),
-        Chip::Main(_) | Chip::Sub(_) | Chip::Draw(_) | Chip::Fm(_) => &[],
+        Chip::Main(_) | Chip::Sub(_) | Chip::Renderer(_) | Chip::Fm(_) => &[],
     }
 }
 
@@ -228,7 +228,7 @@ fn empty(chip: &mut Chip)
     match chip {
         Chip::Fm(fm) => fm.drain(),
         Chip::Psg(psg) => psg.drain(),
-        Chip::Draw(draw) => draw.drop_frame(),
+        Chip::Renderer(renderer) => renderer.drop_frame(),
         Chip::Main(_) | Chip::Sub(_) => {}
     }
 }

@@ -26,10 +26,10 @@ fn first_chips(alloc: Global, cart: Arc<Cart>, pal: bool) -> Result<Vec<Chip>, N
 {
     let sub = Chip80::power_on(alloc, cart.clone()?)?;
     let main = Chip68::power_on(alloc, cart)?;
-    let draw = ChipVdp::power_on(alloc, pal)?;
+    let renderer = ChipVdp::power_on(alloc, pal)?;
     let fm = FmSynth::power_on();
     let psg = PsgSynth::power_on();
-    chips_of(alloc, 0, main, sub, draw, fm, psg)
+    chips_of(alloc, 0, main, sub, renderer, fm, psg)
 }
 
 /// The bounds at power-on: each chip's key.

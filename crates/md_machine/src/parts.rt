@@ -11,10 +11,10 @@ ghost use Rattle.md_machine.specs.Rules.{IsChip, five};
 ghost use Rattle.md_machine.specs.Starts.{first_batch as batch_from};
 
 use crate::chips::Chip;
-use crate::chips::draw::DrawChip;
 use crate::chips::fm::FmChip;
 use crate::chips::main::MainChip;
 use crate::chips::psg::PsgChip;
+use crate::chips::renderer::RendererChip;
 use crate::chips::sub::SubChip;
 use crate::machine::{Machine, most_entries};
 use crate::set::MdChips;
@@ -48,10 +48,10 @@ impl Machine {
         let shared = Shared::power_on(alloc, recording, pal)?;
         let sub = Chip80::power_on(alloc, cart.clone()?)?;
         let main = Chip68::power_on(alloc, cart)?;
-        let draw = ChipVdp::power_on(alloc, pal)?;
+        let renderer = ChipVdp::power_on(alloc, pal)?;
         let fm = FmSynth::power_on();
         let psg = PsgSynth::power_on();
-        Machine::from_parts(alloc, 0, shared, main, sub, draw, fm, psg)
+        Machine::from_parts(alloc, 0, shared, main, sub, renderer, fm, psg)
     }
 
     /// The machine at a cycle that these parts make: chips without an answer that waits, the drawing
@@ -64,26 +64,26 @@ impl Machine {
         shared: Shared,
         main: Chip68,
         sub: Chip80,
-        draw: ChipVdp,
+        renderer: ChipVdp,
         fm: FmSynth,
         psg: PsgSynth,
     ) -> Result<Machine, NoMemory>
-        requires view { draw.has_view ≡ true }
-        requires region { draw.pal ≡ shared.vdp.pal }
+        requires view { renderer.has_view ≡ true }
+        requires region { renderer.pal ≡ shared.vdp.pal }
         requires main { at ≤ (next_of main.state).key.cycle }
         requires sub { at ≤ (sub_next_of sub.state).key.cycle }
-        requires line { at ≤ draw.next }
+        requires line { at ≤ renderer.next }
         requires far { at ≤ last_cycle }
         ensures { IfOk result (λ machine. machine ≡ record {
           at = at;
-          console = assembly.assembled (record { at = at; main = main; sub = sub; draw = draw; fm = fm; psg = psg }) shared;
+          console = assembly.assembled (record { at = at; main = main; sub = sub; renderer = renderer; fm = fm; psg = psg }) shared;
           entries = [];
           media = no_media;
         }) }
     {
         shared.known();
-        let pal = draw.pal();
-        let chips = chips_of(alloc, at, main, sub, draw, fm, psg)?;
+        let pal = renderer.pal();
+        let chips = chips_of(alloc, at, main, sub, renderer, fm, psg)?;
         let bounds = bounds_of(alloc, chips.as_slice())?;
         let journal = Vec::with_capacity(alloc, most_entries(pal))?;
         let core = Core::make(shared, chips, bounds, journal);
@@ -99,7 +99,7 @@ impl Machine {
 struct SilentChips {
     main: MainChip,
     sub: SubChip,
-    draw: DrawChip,
+    renderer: RendererChip,
 }
 
 /// The chips that make no samples, of these parts.
@@ -107,22 +107,26 @@ fn silent_chips(
     alloc: Global,
     main: Chip68,
     sub: Chip80,
-    draw: ChipVdp,
+    renderer: ChipVdp,
 ) -> Result<SilentChips, NoMemory>
-    requires { draw.has_view ≡ true }
+    requires { renderer.has_view ≡ true }
     ensures { IfOk result (λ chips. chips ≡ record {
       main = record { chip = main; answer = None };
       sub = record { chip = sub; answer = None };
-      draw = record { chip = record draw { frame = None }; view = None };
+      renderer = record { chip = record renderer { frame = None }; view = None };
     }) }
 {
     let main = MainChip::new(alloc, main)?;
-    let draw = DrawChip::new(alloc, draw)?;
+    let renderer = RendererChip::new(alloc, renderer)?;
     let sub = SubChip {
         chip: sub,
         answer: None,
     };
-    Ok(SilentChips { main, sub, draw })
+    Ok(SilentChips {
+        main,
+        sub,
+        renderer,
+    })
 }
 
 /// The chips that make samples.
@@ -155,20 +159,20 @@ pub(crate) fn chips_of(
     at: u64,
     main: Chip68,
     sub: Chip80,
-    draw: ChipVdp,
+    renderer: ChipVdp,
     fm: FmSynth,
     psg: PsgSynth,
 ) -> Result<Vec<Chip>, NoMemory>
-    requires view { draw.has_view ≡ true }
+    requires view { renderer.has_view ≡ true }
     requires far { at ≤ last_cycle }
-    ensures { IfOk result (λ chips. chips.items ≡ assembly.chips_of (record { at = at; main = main; sub = sub; draw = draw; fm = fm; psg = psg })) }
+    ensures { IfOk result (λ chips. chips.items ≡ assembly.chips_of (record { at = at; main = main; sub = sub; renderer = renderer; fm = fm; psg = psg })) }
 {
-    let silent = silent_chips(alloc, main, sub, draw)?;
+    let silent = silent_chips(alloc, main, sub, renderer)?;
     let sound = sound_chips(alloc, fm, psg, first_batch(at))?;
     let chips = [
         Chip::Main(silent.main),
         Chip::Sub(silent.sub),
-        Chip::Draw(silent.draw),
+        Chip::Renderer(silent.renderer),
         Chip::Fm(sound.fm),
         Chip::Psg(sound.psg),
     ];

@@ -11,7 +11,7 @@ use chip_core::ChipSet;
 use md_word::clock::{BATCH, LINE, MAIN_GAP, SUB_GAP};
 use md_word::{Entry, Key, Next};
 use std::sync::{Arc, Wait};
-use vdp_ahead::Tray;
+use vdp_ahead::DoubleBuffer;
 
 /// The five chips of the machine, as a set for the scheduler.
 pub struct MdChips;
@@ -23,7 +23,7 @@ impl ChipSet for MdChips {
 
     type Pins = Pins;
 
-    type Errands = Arc<Tray>;
+    type Jobs = Arc<DoubleBuffer>;
 
     ghost rules = { rules.five };
 
@@ -43,7 +43,7 @@ impl ChipSet for MdChips {
         match chip {
             Chip::Main(main) => main.next(),
             Chip::Sub(sub) => sub.next(),
-            Chip::Draw(draw) => draw.next(),
+            Chip::Renderer(renderer) => renderer.next(),
             Chip::Fm(fm) => fm.next(),
             Chip::Psg(psg) => psg.next(),
         }
@@ -54,7 +54,7 @@ impl ChipSet for MdChips {
         match chip {
             Chip::Main(main) => main.perform(shared),
             Chip::Sub(sub) => sub.perform(shared),
-            Chip::Draw(draw) => draw.perform(shared),
+            Chip::Renderer(renderer) => renderer.perform(shared),
             Chip::Fm(fm) => fm.perform(shared),
             Chip::Psg(psg) => psg.perform(shared),
         }
@@ -65,7 +65,7 @@ impl ChipSet for MdChips {
         match chip {
             Chip::Main(main) => main.advance(),
             Chip::Sub(sub) => sub.advance(),
-            Chip::Draw(draw) => draw.advance(),
+            Chip::Renderer(renderer) => renderer.advance(),
             Chip::Fm(fm) => fm.advance(),
             Chip::Psg(psg) => psg.advance(),
         }
@@ -76,7 +76,7 @@ impl ChipSet for MdChips {
     fn access(chip: &mut Chip, shared: &mut Shared) -> Entry {
         match chip {
             Chip::Main(main) => main.access(shared),
-            Chip::Draw(draw) => draw.access(shared),
+            Chip::Renderer(renderer) => renderer.access(shared),
             Chip::Sub(_) | Chip::Fm(_) | Chip::Psg(_) => {
                 let entry = Self::perform(chip, shared);
                 Self::advance(chip);
@@ -99,7 +99,7 @@ impl ChipSet for MdChips {
         match chip {
             Chip::Main(main) => main.sample(pins.main()),
             Chip::Sub(sub) => sub.sample(pins.sub()),
-            Chip::Draw(_) | Chip::Fm(_) | Chip::Psg(_) => {}
+            Chip::Renderer(_) | Chip::Fm(_) | Chip::Psg(_) => {}
         }
     }
 
@@ -109,7 +109,7 @@ impl ChipSet for MdChips {
         match chip {
             Chip::Main(main) => main.sample_ahead(pins.main(), end.cycle),
             Chip::Sub(sub) => sub.sample_ahead(pins.sub(), end.cycle),
-            Chip::Draw(_) | Chip::Fm(_) | Chip::Psg(_) => 1,
+            Chip::Renderer(_) | Chip::Fm(_) | Chip::Psg(_) => 1,
         }
     }
 
@@ -120,27 +120,27 @@ impl ChipSet for MdChips {
     /// Whether what the chip does after its next event is worth a hand-over: a batch of an FM chip that may be
     /// heard, which takes some microseconds, and for which nobody waits before the next one. What the others do
     /// takes less time than a hand-over, and a line to be drawn elsewhere would want a copy of the video memory.
-    fn is_dear(chip: &Chip) -> bool {
+    fn is_worth_offloading(chip: &Chip) -> bool {
         match chip {
-            Chip::Fm(fm) => fm.is_dear(),
-            Chip::Main(_) | Chip::Sub(_) | Chip::Draw(_) | Chip::Psg(_) => false,
+            Chip::Fm(fm) => fm.is_worth_offloading(),
+            Chip::Main(_) | Chip::Sub(_) | Chip::Renderer(_) | Chip::Psg(_) => false,
         }
     }
 
     /// Lines of the picture that are drawn ahead of their events.
-    fn errands(chips: &[Chip]) -> Option<Arc<Tray>> {
+    fn jobs(chips: &[Chip]) -> Option<Arc<DoubleBuffer>> {
         match chips.get(2) {
-            Some(Chip::Draw(draw)) => draw.tray(),
+            Some(Chip::Renderer(renderer)) => renderer.double_buffer(),
             _ => None,
         }
     }
 
-    fn has_errand(errands: &Arc<Tray>) -> bool {
-        errands.look()
+    fn has_job(jobs: &Arc<DoubleBuffer>) -> bool {
+        jobs.look()
     }
 
-    fn run_errand<R: Wait>(rt: &R, errands: &Arc<Tray>) {
-        errands.draw(rt);
+    fn run_job<R: Wait>(rt: &R, jobs: &Arc<DoubleBuffer>) {
+        jobs.draw(rt);
     }
 
     fn gap(chip: u8) -> u64 {

@@ -3,7 +3,7 @@ ghost use Rattle.m68k_chip.specs.Cases.{begins_at, case_of};
 ghost use Rattle.m68k_chip.specs.States.{next_of};
 ghost use Rattle.bus_shared.specs.Accesses.{level_of};
 ghost use Rattle.md_machine.specs.Console.{begins_in};
-ghost use Rattle.md_machine.specs.Refinement.{draw_of, fm_of, main_of, psg_of, sub_of};
+ghost use Rattle.md_machine.specs.Refinement.{renderer_of, fm_of, main_of, psg_of, sub_of};
 ghost use Rattle.md_machine.specs.Rules.{next};
 
 use crate::chips::Chip;
@@ -38,7 +38,7 @@ impl Machine {
         ensures picture { result.now.picture ≡ self.now.console.picture }
         ensures region { result.now.pal ≡ self.now.console.pal }
     {
-        draw_in(&self.core().chips()[2])
+        renderer_in(&self.core().chips()[2])
     }
 
     /// The FM synthesis.
@@ -99,7 +99,7 @@ fn main_in(chip: &Chip) -> &Chip68
 {
     match chip {
         Chip::Main(main) => main.chip(),
-        Chip::Sub(_) | Chip::Draw(_) | Chip::Fm(_) | Chip::Psg(_) => unreachable!(),
+        Chip::Sub(_) | Chip::Renderer(_) | Chip::Fm(_) | Chip::Psg(_) => unreachable!(),
     }
 }
 
@@ -111,18 +111,18 @@ fn sub_in(chip: &Chip) -> &Chip80
 {
     match chip {
         Chip::Sub(sub) => &sub.chip,
-        Chip::Main(_) | Chip::Draw(_) | Chip::Fm(_) | Chip::Psg(_) => unreachable!(),
+        Chip::Main(_) | Chip::Renderer(_) | Chip::Fm(_) | Chip::Psg(_) => unreachable!(),
     }
 }
 
 /// The drawing half of the VDP, of the chip whose number is 2.
 #[tactic(auto, unfolding(m68k_chip::specs::States::next_of, z80_chip::specs::States::next_of))]
-fn draw_in(chip: &Chip) -> &ChipVdp
+fn renderer_in(chip: &Chip) -> &ChipVdp
     requires { (next chip.now).key.chip ≡ 2 }
-    ensures { result.now ≡ (draw_of chip.now).chip }
+    ensures { result.now ≡ (renderer_of chip.now).chip }
 {
     match chip {
-        Chip::Draw(draw) => draw.chip(),
+        Chip::Renderer(renderer) => renderer.chip(),
         Chip::Main(_) | Chip::Sub(_) | Chip::Fm(_) | Chip::Psg(_) => unreachable!(),
     }
 }
@@ -135,7 +135,7 @@ fn fm_in(chip: &Chip) -> &FmSynth
 {
     match chip {
         Chip::Fm(fm) => fm.synth(),
-        Chip::Main(_) | Chip::Sub(_) | Chip::Draw(_) | Chip::Psg(_) => unreachable!(),
+        Chip::Main(_) | Chip::Sub(_) | Chip::Renderer(_) | Chip::Psg(_) => unreachable!(),
     }
 }
 
@@ -147,6 +147,6 @@ fn psg_in(chip: &Chip) -> &PsgSynth
 {
     match chip {
         Chip::Psg(psg) => psg.synth(),
-        Chip::Main(_) | Chip::Sub(_) | Chip::Draw(_) | Chip::Fm(_) => unreachable!(),
+        Chip::Main(_) | Chip::Sub(_) | Chip::Renderer(_) | Chip::Fm(_) => unreachable!(),
     }
 }

@@ -42,8 +42,8 @@ pub record SinkState : Type 0 where
 
 -- What a sink does with a text. It is written whole at Ok; at an error the count rose, and a prefix
 -- was written. It speaks of the bytes where they are observable.
-pub record PutsText {E : Type 0} (told : Type 0) (text : List ℕ) (old new : SinkState) (result : Result (Unit {0}) E) : Type 0 where
+pub record PutsText {E : Type 0} (observable : Type 0) (text : List ℕ) (old new : SinkState) (result : Result (Unit {0}) E) : Type 0 where
   pub later : old.faults ≤ new.faults
-  pub whole : OnOk result (told → new.bytes ≡ old.bytes ++ text)
+  pub whole : OnOk result (observable → new.bytes ≡ old.bytes ++ text)
   pub failed : OnErr result (Rose old.faults new.faults)
-  pub part : OnErr result (told → (part : List ℕ) × IsPrefix part text × (new.bytes ≡ old.bytes ++ part))
+  pub part : OnErr result (observable → (part : List ℕ) × IsPrefix part text × (new.bytes ≡ old.bytes ++ part))

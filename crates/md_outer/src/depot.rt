@@ -51,7 +51,7 @@ impl From<NoMemory> for Begin {
 pub trait Depot {
     /// Whether contracts observe what the files hold. They observe the names of begun numbers in
     /// each case.
-    ghost told: { Type 0 };
+    ghost observable: { Type 0 };
 
     /// The files, the names of the begun numbers, and both counts of faults.
     ghost state: { Self → DepotState };
@@ -63,16 +63,16 @@ pub trait Depot {
     /// memory is out.
     fn fetch(&mut self, alloc: Global, name: &str, limit: u64) -> Result<Vec<u8>, Fetch>
         ensures within { IfOk result (λ bytes. length bytes.items ≤ limit) }
-        ensures bytes { IfOk result (λ bytes. told → (state self.old).files name.now ≡ Some bytes.items) }
+        ensures bytes { IfOk result (λ bytes. observable → (state self.old).files name.now ≡ Some bytes.items) }
 
         ensures failed { IsErrOf result Fetch.Failed → Rose (state self.old).read_faults (state self.new).read_faults
-            ⊎ (told × ((state self.old).files name.now ≡ None)) }
-        ensures too_long { IsErrOf result Fetch.TooLong → told
+            ⊎ (observable × ((state self.old).files name.now ≡ None)) }
+        ensures too_long { IsErrOf result Fetch.TooLong → observable
             → IsSomeAnd ((state self.old).files name.now) (λ bytes. limit < length bytes) }
-        ensures missing { told → (state self.old).files name.now ≡ None → IsErrOf result Fetch.Failed
+        ensures missing { observable → (state self.old).files name.now ≡ None → IsErrOf result Fetch.Failed
             × ((state self.new).read_faults ≡ (state self.old).read_faults) }
 
-        ensures files { told → (state self.new).files ≡ (state self.old).files }
+        ensures files { observable → (state self.new).files ≡ (state self.old).files }
         ensures writes { (state self.new).write_faults ≡ (state self.old).write_faults }
         ensures goes_on { GoesOn (state self.old) (state self.new) };
 
@@ -82,10 +82,10 @@ pub trait Depot {
     /// memory is out. Either changes no file.
     fn begin(&mut self, alloc: Global, name: &str) -> Result<u32, Begin>
         ensures begun { IfOk result (λ file. (state self.new).begun file ≡ Some name.now) }
-        ensures emptied { OnOk result (told → (state self.new).files ≡ with_file (state self.old).files name.now []) }
+        ensures emptied { OnOk result (observable → (state self.new).files ≡ with_file (state self.old).files name.now []) }
 
         ensures failed { IsErrOf result Begin.Failed → Rose (state self.old).write_faults (state self.new).write_faults }
-        ensures files { OnErr result (told → (state self.new).files ≡ (state self.old).files) }
+        ensures files { OnErr result (observable → (state self.new).files ≡ (state self.old).files) }
 
         ensures reads { (state self.new).read_faults ≡ (state self.old).read_faults }
         ensures goes_on { GoesOn (state self.old) (state self.new) };
@@ -98,11 +98,11 @@ pub trait Depot {
     fn append(&mut self, file: u32, piece: &[u8]) -> Result<(), Failed>
         requires { IsSome ((state self.old).begun file) }
 
-        ensures appended { OnOk result (told → (name : List ℕ) → (state self.old).begun file ≡ Some name →
+        ensures appended { OnOk result (observable → (name : List ℕ) → (state self.old).begun file ≡ Some name →
             (state self.new).files ≡ with_file (state self.old).files name (bytes_of (state self.old).files name ++ piece.now)) }
 
         ensures failed { OnErr result (Rose (state self.old).write_faults (state self.new).write_faults) }
-        ensures part { OnErr result (told → (name : List ℕ) → (state self.old).begun file ≡ Some name →
+        ensures part { OnErr result (observable → (name : List ℕ) → (state self.old).begun file ≡ Some name →
             (part : List ℕ) × IsPrefix part piece.now × ((state self.new).files
             ≡ with_file (state self.old).files name (bytes_of (state self.old).files name ++ part))) }
 

@@ -49,7 +49,7 @@ impl<R: Files + Drop> Depot for FileDepot<R> {
     ghost use Rattle.md_outer.specs.FileDepot.{file_state, read_in};
     ghost use Rattle.md_outer.specs.Outside.{GoesOn, Rose};
 
-    ghost told = { ⊥ };
+    ghost observable = { ⊥ };
 
     ghost state = { file_state };
 

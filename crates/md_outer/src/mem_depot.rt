@@ -74,7 +74,7 @@ impl Depot for MemDepot {
     ghost use Rattle.md_outer.specs.MemDepot.{depot_state_of, depot_plan_of, IsNinth};
     ghost use Rattle.md_outer.specs.Outside.{GoesOn, Rose, IsPrefix, with_file, bytes_of};
 
-    ghost told = { Unit {0} };
+    ghost observable = { Unit {0} };
 
     ghost state = { depot_state_of };
 

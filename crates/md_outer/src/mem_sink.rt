@@ -44,7 +44,7 @@ impl Sink for MemSink {
     ghost use Rattle.md_outer.specs.Outside.{PutsText};
     ghost use Rattle.md_outer.specs.MemSink.{sink_state_of, sink_plan_of};
 
-    ghost told = { Unit {0} };
+    ghost observable = { Unit {0} };
 
     ghost state = { sink_state_of };
 

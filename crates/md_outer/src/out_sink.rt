@@ -25,7 +25,7 @@ impl<R: Print + Drop> OutSink<R> {
 impl<R: Print + Drop> Sink for OutSink<R> {
     ghost use Rattle.md_outer.specs.OutSink.{out_state};
 
-    ghost told = { ⊥ };
+    ghost observable = { ⊥ };
 
     ghost state = { out_state };
 

@@ -7,7 +7,7 @@ pub struct Failed;
 /// A stream of bytes that only grows, as standard output.
 pub trait Sink {
     /// Whether contracts observe the bytes.
-    ghost told: { Type 0 };
+    ghost observable: { Type 0 };
 
     /// The bytes that were written, and the count of faults.
     ghost state: { Self → SinkState };
@@ -17,5 +17,5 @@ pub trait Sink {
     /// It is `Failed` where the stream did not take the whole piece: then the count of faults rose,
     /// and a prefix of the piece was written, which may be empty.
     fn put(&mut self, piece: &[u8]) -> Result<(), Failed>
-        ensures { PutsText told piece.now (state self.old) (state self.new) result };
+        ensures { PutsText observable piece.now (state self.old) (state self.new) result };
 }

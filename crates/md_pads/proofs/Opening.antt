@@ -156,11 +156,11 @@ whole version xs bytes opened len =
     be_bytes_4 _ _ refl (four_bytes _ _ _ _ (bytes (start version) (omega arith)) (bytes (start version + 1) (omega arith)) (bytes (start version + 2) (omega arith)) (bytes (start version + 3) (omega arith))) refl in
     let taken = length-take (start version) xs in
     let led : take (start version) xs ≡ lead version = is_lead (take (start version) xs) version (omega arith) (λ i lt. get_or-take (start version) xs i 0 lt ∙ opened.marked i lt (omega arith)) in
-    let behind = four-on (start version) xs (omega arith) in
+    let following = four-on (start version) xs (omega arith) in
     record {
       recording = record { few = rw body.number opened.few; words = All-from_recursion (HasButtons version) (frames_in (drop (start version + 4) xs)) body.small };
       all = sym (take-append-drop (start version) xs)
-          ∙ (λ i. led i ++ behind i)
+          ∙ (λ i. led i ++ following i)
           ∙ (λ i. lead version ++ (sym written i ++ sym body.all i))
           ∙ sym (append_assoc (lead version) (to_be_bytes w32 count) (flat_map frame_bytes (frames_in (drop (start version + 4) xs))))
           ∙ ap (λ (n : ℕ). lead version ++ to_be_bytes w32 n ++ flat_map frame_bytes (frames_in (drop (start version + 4) xs))) (sym body.number);

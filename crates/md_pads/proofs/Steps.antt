@@ -39,8 +39,8 @@ kept version bytes place at more =
 len : (version : Version) (bytes : List ℕ) (place : ℕ) → At version bytes place → length (take place bytes) ≡ place
 len version bytes place at = let cut = length-take place bytes in let inside = at.within in omega arith
 
-pub mark_step : (version : Version) (bytes : List ℕ) (place : ℕ) → At version bytes place → place < start version → (eqb (byte bytes place) (get_or (lead version) place 0) ≡ true) ↔ BeginsIn version (take (place + 1) bytes)
-mark_step version bytes place at early =
+pub magic_step : (version : Version) (bytes : List ℕ) (place : ℕ) → At version bytes place → place < start version → (eqb (byte bytes place) (get_or (lead version) place 0) ≡ true) ↔ BeginsIn version (take (place + 1) bytes)
+magic_step version bytes place at early =
     let l = len version bytes place at in
     let opened = opening version (take place bytes) at.begun in
     let count = same_count (start version) (take place bytes) (byte bytes place) (λ i far near same. omega arith) in (

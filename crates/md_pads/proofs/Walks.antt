@@ -6,7 +6,7 @@ use Rattle.std.specs.Ordering.{nat_cmp, ord_max}
 use Rattle.std.proofs.Common.{Less, Equal, Greater}
 use Rattle.std.proofs.lemmas.Bool.{cases_lt, cases_eq}
 use Rattle.std.proofs.lemmas.List.Elements.{All-from_recursion}
-use Rattle.md_pads.specs.Recording.{BeginsRecording, GoesWrongAt, HasButtons, spelling}
+use Rattle.md_pads.specs.Recording.{BeginsRecording, InvalidAt, HasButtons, spelling}
 use Rattle.md_pads.specs.Reading.{BeginsIn, IsLongestIn, IsSpelledIn, versions}
 use Rattle.md_pads.specs.declared.version.Version.{Version}
 use Rattle.md_pads.specs.declared.version.Version.TheVariants.{First}
@@ -81,7 +81,7 @@ within-longest bytes place walked version n long begins_n =
     walked.longest l.place n l.within long (subst (λ (v : Version). BeginsIn v (take n bytes)) (sym l.here) begins_n)
 
 -- the end of the walk
-pub walked-all : (bytes : List ℕ) (place : ℕ) → Walked bytes 5 place → GoesWrongAt bytes place
+pub walked-all : (bytes : List ℕ) (place : ℕ) → Walked bytes 5 place → InvalidAt bytes place
 walked-all bytes place walked =
     record {
       none = λ spelled. found-in bytes place walked spelled.0.version (spelled.0.frames, spelled.1);

@@ -29,8 +29,8 @@ spelled_in version bytes (frames, spelled) = subst (λ (fs : List Frame). Spells
 
 -- what was read from the bytes after the header is what they spell
 pub read_spelled : (version : Version) (bytes body : List ℕ) (frames : List Frame) → IsSpelledIn version bytes → body ≡ drop (start version + 4) bytes → frames ≡ frames_in body → Spells bytes (of version frames)
-read_spelled version bytes body frames spelled behind read =
-    subst (λ (fs : List Frame). Spells bytes (of version fs)) (ap frames_in (sym behind) ∙ sym read) (spelled_in version bytes spelled)
+read_spelled version bytes body frames spelled following read =
+    subst (λ (fs : List Frame). Spells bytes (of version fs)) (ap frames_in (sym following) ∙ sym read) (spelled_in version bytes spelled)
 
 begins-with : (version : Version) (bytes : List ℕ) (frames : List Frame) → Spells bytes (of version frames) → (i : ℕ) → i < start version → get_or bytes i 0 ≡ get_or (lead version) i 0
 begins-with version bytes frames spelled i lt = ap (λ (xs : List ℕ). get_or xs i 0) spelled.all ∙ mark-spelling version frames i lt

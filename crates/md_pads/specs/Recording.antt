@@ -79,7 +79,7 @@ pub record IsLongestPrefix (bytes : List ℕ) (place : ℕ) : Type 0 where
   pub longest : (n : ℕ) → n ≤ length bytes → BeginsRecording (take n bytes) → n ≤ place
 
 -- the bytes spell no recording, and are invalid from this offset on
-pub record GoesWrongAt (bytes : List ℕ) (place : ℕ) : Type 0 where
+pub record InvalidAt (bytes : List ℕ) (place : ℕ) : Type 0 where
   pub none : ¬ IsSpelled bytes
   pub longest : IsLongestPrefix bytes place
 

@@ -1,5 +1,5 @@
 ghost use Rattle.std.specs.Prelude.{◌≡◌, ℕ, ◌+◌, ◌*◌, ◌<◌, ◌≤◌, ◌^◌, ◌↔◌, Bool, true, cond, length, take, slice_index, IsTrue, IfOk, IfErr};
-ghost use Rattle.md_pads.specs.Recording.{GoesWrongAt, lead, words};
+ghost use Rattle.md_pads.specs.Recording.{InvalidAt, lead, words};
 ghost use Rattle.md_pads.specs.Reading.{BeginsIn, HasByte, IsLongestIn, IsSpelledIn, least_count, whole_len, frames_in};
 
 use crate::buttons::Buttons;
@@ -130,7 +130,7 @@ fn is_spelled(version: Version, bytes: &[u8], prefix: usize) -> bool
 /// prefix that one begins with.
 pub(crate) fn version_of(bytes: &[u8]) -> Result<Version, usize>
     ensures found { IfOk result (λ version. IsSpelledIn version bytes.now) }
-    ensures wrong { IfErr result (λ place. GoesWrongAt bytes.now place) }
+    ensures invalid { IfErr result (λ place. InvalidAt bytes.now place) }
 {
     let mut longest = 0;
     for version in VERSIONS {

@@ -1,5 +1,5 @@
 ghost use Rattle.std.specs.Prelude.{◌≡◌, ◌≢◌, ℕ, ◌↔◌, Bool, IfOk, IsErrOf, Ok, Err};
-ghost use Rattle.md_pads.specs.Recording.{GoesWrongAt, IsFrame, IsRecording, IsSpelled, Recorded, Spells, no_frames, pads_of, recording_of, six};
+ghost use Rattle.md_pads.specs.Recording.{InvalidAt, IsFrame, IsRecording, IsSpelled, Recorded, Spells, no_frames, pads_of, recording_of, six};
 
 use crate::fault::RecFault;
 use crate::version::Version;
@@ -69,7 +69,7 @@ impl Recording {
         // What is spelled so is read, unless memory runs out.
         ensures only { (recorded : Recorded) → Spells bytes.now recorded → result ≢ Err RecFault.NoMemory → result ≡ Ok recorded }
         // Bytes are refused exactly where they spell no recording, at the end of what one begins with.
-        ensures form { (place : ℕ) → IsErrOf result (RecFault.Form place) ↔ GoesWrongAt bytes.now place }
+        ensures form { (place : ℕ) → IsErrOf result (RecFault.Form place) ↔ InvalidAt bytes.now place }
         ensures memory { IsErrOf result RecFault.NoMemory → IsSpelled bytes.now }
     {
         let version = match reading::version_of(bytes) {

@@ -8,7 +8,7 @@ use Rattle.md_machine.specs.Machines.{MachineValue}
 use Rattle.md_machine.specs.Media.{no_media}
 use Rattle.machine_laws.specs.Reached.{IsReached}
 use Rattle.md_rollback.specs.Images.{AreImagesBelow, Image, Kept, ReachBackTo, image_at}
-use Rattle.md_rollback.proofs.Below.{dropped-below, reach-behind, reach-dropped}
+use Rattle.md_rollback.proofs.Below.{dropped-below, reach-following, reach-dropped}
 use Rattle.md_rollback.specs.Inputs.{AreInputs, InputsValue, IsFixed, expected_frames, frame_at, most_frames}
 use Rattle.md_rollback.proofs.Expected.{frames-long, frames-small}
 use Rattle.md_rollback.proofs.FixedFrames.{back-within, fixed-next}
@@ -57,7 +57,7 @@ module _ (cart : List ℕ) (spelling : ℕ → Console → List ℕ) (is_ready i
     pub back-few : newer < length kept
     back-few =
         let reach = session.images.back (length played - window) (omega arith) (omega arith) in
-        omega (arith, reach.within, reach-behind (length played - window) newer kept too-late reach)
+        omega (arith, reach.within, reach-following (length played - window) newer kept too-late reach)
 
     pub images-here : (image_at kept newer).frames ≤ right → AreImagesBelow (IsImageOf cart spelling is_own expected) ((image_at kept newer).frames + 1) (drop newer kept)
     images-here early =

@@ -71,19 +71,19 @@ below-with one other right end (x ∷ xs) same less are =
     (are.0, same x.frames x.bytes (omega (arith, are.0, less)) are.1, below-with one other right x.frames xs same (omega (arith, are.0, less)) are.2)
 
 -- the images that are dropped are too new to reach there
-pub reach-behind : (f n : ℕ) (images : List Image) → ((j : ℕ) → j < n → f < (image_at images j).frames) → (reach : ReachBackTo f images) → n ≤ reach.place
-reach-behind f n images newer reach = elim (cases_lt reach.place n) [
+pub reach-following : (f n : ℕ) (images : List Image) → ((j : ℕ) → j < n → f < (image_at images j).frames) → (reach : ReachBackTo f images) → n ≤ reach.place
+reach-following f n images newer reach = elim (cases_lt reach.place n) [
   | inl less ↦ absurd (omega (arith, newer reach.place less, reach.early))
-  | inr behind ↦ behind
+  | inr following ↦ following
 ]
 
 pub reach-dropped : (f n : ℕ) (images : List Image) → ((j : ℕ) → j < n → f < (image_at images j).frames) → ReachBackTo f images → ReachBackTo f (drop n images)
 reach-dropped f n images newer reach =
-    let behind : n ≤ reach.place = reach-behind f n images newer reach in
-    let place : n + (reach.place - n) ≡ reach.place = omega (arith, behind) in
+    let following : n ≤ reach.place = reach-following f n images newer reach in
+    let place : n + (reach.place - n) ≡ reach.place = omega (arith, following) in
     record {
       place = reach.place - n;
-      within = omega (arith, behind, reach.within, length-drop n images);
+      within = omega (arith, following, reach.within, length-drop n images);
       early = subst (λ (x : Image). x.frames ≤ f) (sym (get_or-drop n images (reach.place - n) no_image))
           (subst (λ (j : ℕ). (image_at images j).frames ≤ f) (sym place) reach.early);
       near = subst (λ (x : Image). f ≤ x.frames + 3) (sym (get_or-drop n images (reach.place - n) no_image))

@@ -9,7 +9,7 @@ use Rattle.std.proofs.lemmas.List.Elements.{All-map}
 use Rattle.std.proofs.lemmas.List.FromFn.{fill_by_all, get_or-map-range_with_len, length-map-range_with_len, map-range_with_len_more}
 use Rattle.md_pads.specs.Recording.{Frame, HasButtons}
 use Rattle.md_pads.specs.declared.version.Version.TheVariants.{First}
-use Rattle.md_rollback.specs.Inputs.{AreButtons, AreGiven, AreInputs, IsConfirmed, IsExpected, IsMore, Words, expected, expected_frame, expected_frames, frame_at, given, held, latest, most_frames, no_words, none, told}
+use Rattle.md_rollback.specs.Inputs.{AreButtons, AreGiven, AreInputs, IsConfirmed, IsExpected, IsMore, Words, expected, expected_frame, expected_frames, frame_at, given, held, latest, most_frames, no_words, none, observable}
 
 pub latest-next : (w : Words) (n : ℕ) → latest w (n + 1) ≡ expected w n
 latest-next w n = ap (latest w) (add-one n)
@@ -108,7 +108,7 @@ latest-is w zero = inr (λ g less. absurd (omega arith), refl)
 latest-is w (suc n) = subst (λ (k : ℕ). IsLatest w k (latest w (suc n))) (add-one n) (step w n (latest w n) (given w n) refl (latest-is w n))
 
 expected-by : (w : Words) (f word : ℕ) (o : Option ℕ) → given w f ≡ o → IsLatest w f word → IsExpected w f (unwrap_or o word)
-expected-by w f word (Some x) is was = told x is
+expected-by w f word (Some x) is was = observable x is
 expected-by w f word None is (inl found) =
     held word found.0 found.1 found.2 (λ g past within. elim (at-or-below g f (omega arith)) [
       | inl below ↦ found.3 g past below

@@ -7,8 +7,8 @@ use Rattle.md_rollback.specs.declared.line.Line.TheVariants.{Advance, Press}
 use Rattle.md_rollback.specs.Scripts.{IsRefused, Obeys, ObeysAll, Script, begun}
 use Rattle.md_rollback.specs.declared.line_fault.LineFault.{LineFault}
 use Rattle.md_rollback.specs.declared.line_fault.LineFault.TheVariants as faults
-use Rattle.md_rollback.specs.Rolls.{ComesTo}
-use Rattle.md_rollback.specs.declared.rolled.Comes.TheVariants.{Done, Refused}
+use Rattle.md_rollback.specs.Rolls.{CompletesWith}
+use Rattle.md_rollback.specs.declared.rolled.Completion.TheVariants.{Done, Refused}
 use Rattle.md_rollback.specs.declared.rolled.Rolled.{Rolled}
 
 pub some_same : (a b : Line) → ◌≡◌ {A = Option Line} (Some a) (Some b) → a ≡ b
@@ -43,25 +43,25 @@ obeyed_line window (other ∷ before) line after old mid new all first =
 -- no line is both refused and obeyed
 pub not_both : (window : ℕ) (script next : Script) (line : List ℕ) (fault : LineFault) (asked : Line) → IsRefused window script line fault → line_of line ≡ Some asked → Obeys window script asked next → ⊥
 not_both window script next line faults.Unread asked refused is obeyed = cc
-not_both window script next line faults.Far asked (player, frame, buttons, told, far) is obeyed =
-    let done = subst (λ (l : Line). Obeys window script l next) (some_same asked (Press player frame buttons) (sym is ∙ told)) obeyed in
+not_both window script next line faults.Far asked (player, frame, buttons, observable, far) is obeyed =
+    let done = subst (λ (l : Line). Obeys window script l next) (some_same asked (Press player frame buttons) (sym is ∙ observable)) obeyed in
     omega (arith, far, done.0)
-not_both window script next line faults.Given asked (player, frame, buttons, kept, told, given) is obeyed =
-    let done = subst (λ (l : Line). Obeys window script l next) (some_same asked (Press player frame buttons) (sym is ∙ told)) obeyed in
+not_both window script next line faults.Given asked (player, frame, buttons, kept, observable, given) is obeyed =
+    let done = subst (λ (l : Line). Obeys window script l next) (some_same asked (Press player frame buttons) (sym is ∙ observable)) obeyed in
     let none = done.1 in
     cc
-not_both window script next line faults.Buttons asked (player, frame, buttons, told, within, none, big) is obeyed =
-    let done = subst (λ (l : Line). Obeys window script l next) (some_same asked (Press player frame buttons) (sym is ∙ told)) obeyed in
+not_both window script next line faults.Buttons asked (player, frame, buttons, observable, within, none, big) is obeyed =
+    let done = subst (λ (l : Line). Obeys window script l next) (some_same asked (Press player frame buttons) (sym is ∙ observable)) obeyed in
     omega (arith, big, done.2)
-not_both window script next line faults.Waiting asked (confirmed, told, some, known, late) is obeyed =
-    let done = subst (λ (l : Line). Obeys window script l next) (some_same asked Advance (sym is ∙ told)) obeyed in
+not_both window script next line faults.Waiting asked (confirmed, observable, some, known, late) is obeyed =
+    let done = subst (λ (l : Line). Obeys window script l next) (some_same asked Advance (sym is ∙ observable)) obeyed in
     omega (arith, late, done.3, one_confirmed script.local script.remote confirmed done.0 known done.1)
-not_both window script next line faults.Ended asked (told, ended) is obeyed =
-    let done = subst (λ (l : Line). Obeys window script l next) (some_same asked Advance (sym is ∙ told)) obeyed in
+not_both window script next line faults.Ended asked (observable, ended) is obeyed =
+    let done = subst (λ (l : Line). Obeys window script l next) (some_same asked Advance (sym is ∙ observable)) obeyed in
     omega (arith, ended, done.2)
 
 pub done_or_refused : (cart : List ℕ) (window : ℕ) (text : List ℕ) (rolled : Rolled) (line : ℕ) (fault : LineFault)
-    → ComesTo cart window text (Done rolled) → ComesTo cart window text (Refused line fault) → ⊥
+    → CompletesWith cart window text (Done rolled) → CompletesWith cart window text (Refused line fault) → ⊥
 done_or_refused cart window text rolled line fault done refused =
     let script = refused.0 in
     let before = refused.1.0 in

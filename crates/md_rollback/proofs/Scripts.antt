@@ -6,9 +6,9 @@ use Rattle.md_rollback.specs.Lines.{line_of}
 use Rattle.md_rollback.specs.declared.line.Line.{Line}
 use Rattle.md_rollback.specs.declared.line.Line.TheVariants.{Press}
 use Rattle.md_rollback.specs.declared.line.Player.{Player}
-use Rattle.md_rollback.specs.Scripts.{IsFault, IsRefused, IsRefusedInput, ObeysAll, ObeysFirst, Obeys, Plays, Script, ending_at, fault_of}
+use Rattle.md_rollback.specs.Scripts.{IsFault, IsRefused, IsRefusedInput, ObeysAll, ObeysFirst, Obeys, Plays, Script, session_outcome_at, fault_of}
 use Rattle.md_rollback.specs.declared.line_fault.LineFault.{LineFault}
-use Rattle.md_rollback.specs.declared.script.Ending.TheVariants.{Obeyed}
+use Rattle.md_rollback.specs.declared.script.SessionOutcome.TheVariants.{Obeyed}
 
 module _ (window : ℕ) where
   pub obeys_none : (script : Script) → ObeysAll window [] script script
@@ -37,7 +37,7 @@ module _ (window : ℕ) where
 
   -- a line is not obeyed
   pub plays_stopped : (lines before after : List (List ℕ)) (line : List ℕ) (old new : Script) (number : ℕ) (fault : Option LineFault)
-      → ObeysFirst window lines before (line ∷ after) old new → number ≡ length before + 1 → IsFault window new line fault → Plays window lines old new (ending_at number fault)
+      → ObeysFirst window lines before (line ∷ after) old new → number ≡ length before + 1 → IsFault window new line fault → Plays window lines old new (session_outcome_at number fault)
   plays_stopped lines before after line old new number (Some fault) so_far is refused = (before, line, after, so_far, is, refused)
   plays_stopped lines before after line old new number None so_far is refused = (before, line ∷ after, so_far)
 

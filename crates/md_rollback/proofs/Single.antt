@@ -19,9 +19,9 @@ use Rattle.md_rollback.specs.declared.line.Player.TheVariants.{Local, Remote}
 use Rattle.md_rollback.specs.Scripts.{IsRefused, Obeys, ObeysAll, Script, begun, words_of}
 use Rattle.md_rollback.specs.declared.line_fault.LineFault.{LineFault}
 use Rattle.md_rollback.specs.declared.line_fault.LineFault.TheVariants as faults
-use Rattle.md_rollback.specs.Rolls.{ComesTo, IsDigestOf}
-use Rattle.md_rollback.specs.declared.rolled.Comes.{Comes}
-use Rattle.md_rollback.specs.declared.rolled.Comes.TheVariants.{Done, NoMemory, Refused}
+use Rattle.md_rollback.specs.Rolls.{CompletesWith, IsDigestOf}
+use Rattle.md_rollback.specs.declared.rolled.Completion.{Completion}
+use Rattle.md_rollback.specs.declared.rolled.Completion.TheVariants.{Done, NoMemory, Refused}
 use Rattle.md_rollback.specs.declared.rolled.Rolled.{Rolled}
 use Rattle.md_rollback.proofs.Outcomes.{done_or_refused, not_both, obeys_one, one_confirmed, some_same}
 
@@ -73,40 +73,40 @@ given_or_free script player player2 f f2 buttons buttons2 kept same was free = c
 one_fault : (window : ℕ) (script : Script) (line : List ℕ) (fault other : LineFault) → HasPlaces script
     → IsRefused window script line fault → IsRefused window script line other → fault ≡ other
 one_fault window script line faults.Unread faults.Unread places first second = refl
-one_fault window script line faults.Unread faults.Far places none (player2, f2, buttons2, told2, far2) = absurd (none_and_some _ (sym none ∙ told2))
-one_fault window script line faults.Unread faults.Given places none (player2, f2, buttons2, kept2, told2, was2) = absurd (none_and_some _ (sym none ∙ told2))
-one_fault window script line faults.Unread faults.Buttons places none (player2, f2, buttons2, told2, within2, free2, big2) = absurd (none_and_some _ (sym none ∙ told2))
-one_fault window script line faults.Unread faults.Waiting places none (confirmed2, told2, more2, known2, late2) = absurd (none_and_some _ (sym none ∙ told2))
-one_fault window script line faults.Unread faults.Ended places none (told2, last2) = absurd (none_and_some _ (sym none ∙ told2))
-one_fault window script line faults.Far faults.Unread places (player, f, buttons, told, far) none2 = absurd (none_and_some _ (sym none2 ∙ told))
+one_fault window script line faults.Unread faults.Far places none (player2, f2, buttons2, observable2, far2) = absurd (none_and_some _ (sym none ∙ observable2))
+one_fault window script line faults.Unread faults.Given places none (player2, f2, buttons2, kept2, observable2, was2) = absurd (none_and_some _ (sym none ∙ observable2))
+one_fault window script line faults.Unread faults.Buttons places none (player2, f2, buttons2, observable2, within2, free2, big2) = absurd (none_and_some _ (sym none ∙ observable2))
+one_fault window script line faults.Unread faults.Waiting places none (confirmed2, observable2, more2, known2, late2) = absurd (none_and_some _ (sym none ∙ observable2))
+one_fault window script line faults.Unread faults.Ended places none (observable2, last2) = absurd (none_and_some _ (sym none ∙ observable2))
+one_fault window script line faults.Far faults.Unread places (player, f, buttons, observable, far) none2 = absurd (none_and_some _ (sym none2 ∙ observable))
 one_fault window script line faults.Far faults.Far places first second = refl
-one_fault window script line faults.Far faults.Given places (player, f, buttons, told, far) (player2, f2, buttons2, kept2, told2, was2) = absurd (far_or_given script player2 f2 kept2 places was2 (subst (λ (f : ℕ). most_frames ≤ f) (same_frame _ _ _ _ _ _ (sym told ∙ told2)) far))
-one_fault window script line faults.Far faults.Buttons places (player, f, buttons, told, far) (player2, f2, buttons2, told2, within2, free2, big2) = absurd (far_or_within f f2 (same_frame _ _ _ _ _ _ (sym told ∙ told2)) far within2)
-one_fault window script line faults.Far faults.Waiting places (player, f, buttons, told, far) (confirmed2, told2, more2, known2, late2) = absurd (press_or_advance _ _ _ (sym told ∙ told2))
-one_fault window script line faults.Far faults.Ended places (player, f, buttons, told, far) (told2, last2) = absurd (press_or_advance _ _ _ (sym told ∙ told2))
-one_fault window script line faults.Given faults.Unread places (player, f, buttons, kept, told, was) none2 = absurd (none_and_some _ (sym none2 ∙ told))
-one_fault window script line faults.Given faults.Far places (player, f, buttons, kept, told, was) (player2, f2, buttons2, told2, far2) = absurd (far_or_given script player f kept places was (subst (λ (f : ℕ). most_frames ≤ f) (same_frame _ _ _ _ _ _ (sym told2 ∙ told)) far2))
+one_fault window script line faults.Far faults.Given places (player, f, buttons, observable, far) (player2, f2, buttons2, kept2, observable2, was2) = absurd (far_or_given script player2 f2 kept2 places was2 (subst (λ (f : ℕ). most_frames ≤ f) (same_frame _ _ _ _ _ _ (sym observable ∙ observable2)) far))
+one_fault window script line faults.Far faults.Buttons places (player, f, buttons, observable, far) (player2, f2, buttons2, observable2, within2, free2, big2) = absurd (far_or_within f f2 (same_frame _ _ _ _ _ _ (sym observable ∙ observable2)) far within2)
+one_fault window script line faults.Far faults.Waiting places (player, f, buttons, observable, far) (confirmed2, observable2, more2, known2, late2) = absurd (press_or_advance _ _ _ (sym observable ∙ observable2))
+one_fault window script line faults.Far faults.Ended places (player, f, buttons, observable, far) (observable2, last2) = absurd (press_or_advance _ _ _ (sym observable ∙ observable2))
+one_fault window script line faults.Given faults.Unread places (player, f, buttons, kept, observable, was) none2 = absurd (none_and_some _ (sym none2 ∙ observable))
+one_fault window script line faults.Given faults.Far places (player, f, buttons, kept, observable, was) (player2, f2, buttons2, observable2, far2) = absurd (far_or_given script player f kept places was (subst (λ (f : ℕ). most_frames ≤ f) (same_frame _ _ _ _ _ _ (sym observable2 ∙ observable)) far2))
 one_fault window script line faults.Given faults.Given places first second = refl
-one_fault window script line faults.Given faults.Buttons places (player, f, buttons, kept, told, was) (player2, f2, buttons2, told2, within2, free2, big2) = absurd (given_or_free script _ _ _ _ _ _ kept (sym told ∙ told2) was free2)
-one_fault window script line faults.Given faults.Waiting places (player, f, buttons, kept, told, was) (confirmed2, told2, more2, known2, late2) = absurd (press_or_advance _ _ _ (sym told ∙ told2))
-one_fault window script line faults.Given faults.Ended places (player, f, buttons, kept, told, was) (told2, last2) = absurd (press_or_advance _ _ _ (sym told ∙ told2))
-one_fault window script line faults.Buttons faults.Unread places (player, f, buttons, told, within, free, big) none2 = absurd (none_and_some _ (sym none2 ∙ told))
-one_fault window script line faults.Buttons faults.Far places (player, f, buttons, told, within, free, big) (player2, f2, buttons2, told2, far2) = absurd (far_or_within f2 f (same_frame _ _ _ _ _ _ (sym told2 ∙ told)) far2 within)
-one_fault window script line faults.Buttons faults.Given places (player, f, buttons, told, within, free, big) (player2, f2, buttons2, kept2, told2, was2) = absurd (given_or_free script _ _ _ _ _ _ kept2 (sym told2 ∙ told) was2 free)
+one_fault window script line faults.Given faults.Buttons places (player, f, buttons, kept, observable, was) (player2, f2, buttons2, observable2, within2, free2, big2) = absurd (given_or_free script _ _ _ _ _ _ kept (sym observable ∙ observable2) was free2)
+one_fault window script line faults.Given faults.Waiting places (player, f, buttons, kept, observable, was) (confirmed2, observable2, more2, known2, late2) = absurd (press_or_advance _ _ _ (sym observable ∙ observable2))
+one_fault window script line faults.Given faults.Ended places (player, f, buttons, kept, observable, was) (observable2, last2) = absurd (press_or_advance _ _ _ (sym observable ∙ observable2))
+one_fault window script line faults.Buttons faults.Unread places (player, f, buttons, observable, within, free, big) none2 = absurd (none_and_some _ (sym none2 ∙ observable))
+one_fault window script line faults.Buttons faults.Far places (player, f, buttons, observable, within, free, big) (player2, f2, buttons2, observable2, far2) = absurd (far_or_within f2 f (same_frame _ _ _ _ _ _ (sym observable2 ∙ observable)) far2 within)
+one_fault window script line faults.Buttons faults.Given places (player, f, buttons, observable, within, free, big) (player2, f2, buttons2, kept2, observable2, was2) = absurd (given_or_free script _ _ _ _ _ _ kept2 (sym observable2 ∙ observable) was2 free)
 one_fault window script line faults.Buttons faults.Buttons places first second = refl
-one_fault window script line faults.Buttons faults.Waiting places (player, f, buttons, told, within, free, big) (confirmed2, told2, more2, known2, late2) = absurd (press_or_advance _ _ _ (sym told ∙ told2))
-one_fault window script line faults.Buttons faults.Ended places (player, f, buttons, told, within, free, big) (told2, last2) = absurd (press_or_advance _ _ _ (sym told ∙ told2))
-one_fault window script line faults.Waiting faults.Unread places (confirmed, told, more, known, late) none2 = absurd (none_and_some _ (sym none2 ∙ told))
-one_fault window script line faults.Waiting faults.Far places (confirmed, told, more, known, late) (player2, f2, buttons2, told2, far2) = absurd (press_or_advance _ _ _ (sym told2 ∙ told))
-one_fault window script line faults.Waiting faults.Given places (confirmed, told, more, known, late) (player2, f2, buttons2, kept2, told2, was2) = absurd (press_or_advance _ _ _ (sym told2 ∙ told))
-one_fault window script line faults.Waiting faults.Buttons places (confirmed, told, more, known, late) (player2, f2, buttons2, told2, within2, free2, big2) = absurd (press_or_advance _ _ _ (sym told2 ∙ told))
+one_fault window script line faults.Buttons faults.Waiting places (player, f, buttons, observable, within, free, big) (confirmed2, observable2, more2, known2, late2) = absurd (press_or_advance _ _ _ (sym observable ∙ observable2))
+one_fault window script line faults.Buttons faults.Ended places (player, f, buttons, observable, within, free, big) (observable2, last2) = absurd (press_or_advance _ _ _ (sym observable ∙ observable2))
+one_fault window script line faults.Waiting faults.Unread places (confirmed, observable, more, known, late) none2 = absurd (none_and_some _ (sym none2 ∙ observable))
+one_fault window script line faults.Waiting faults.Far places (confirmed, observable, more, known, late) (player2, f2, buttons2, observable2, far2) = absurd (press_or_advance _ _ _ (sym observable2 ∙ observable))
+one_fault window script line faults.Waiting faults.Given places (confirmed, observable, more, known, late) (player2, f2, buttons2, kept2, observable2, was2) = absurd (press_or_advance _ _ _ (sym observable2 ∙ observable))
+one_fault window script line faults.Waiting faults.Buttons places (confirmed, observable, more, known, late) (player2, f2, buttons2, observable2, within2, free2, big2) = absurd (press_or_advance _ _ _ (sym observable2 ∙ observable))
 one_fault window script line faults.Waiting faults.Waiting places first second = refl
-one_fault window script line faults.Waiting faults.Ended places (confirmed, told, more, known, late) (told2, last2) = absurd (more last2)
-one_fault window script line faults.Ended faults.Unread places (told, last) none2 = absurd (none_and_some _ (sym none2 ∙ told))
-one_fault window script line faults.Ended faults.Far places (told, last) (player2, f2, buttons2, told2, far2) = absurd (press_or_advance _ _ _ (sym told2 ∙ told))
-one_fault window script line faults.Ended faults.Given places (told, last) (player2, f2, buttons2, kept2, told2, was2) = absurd (press_or_advance _ _ _ (sym told2 ∙ told))
-one_fault window script line faults.Ended faults.Buttons places (told, last) (player2, f2, buttons2, told2, within2, free2, big2) = absurd (press_or_advance _ _ _ (sym told2 ∙ told))
-one_fault window script line faults.Ended faults.Waiting places (told, last) (confirmed2, told2, more2, known2, late2) = absurd (more2 last)
+one_fault window script line faults.Waiting faults.Ended places (confirmed, observable, more, known, late) (observable2, last2) = absurd (more last2)
+one_fault window script line faults.Ended faults.Unread places (observable, last) none2 = absurd (none_and_some _ (sym none2 ∙ observable))
+one_fault window script line faults.Ended faults.Far places (observable, last) (player2, f2, buttons2, observable2, far2) = absurd (press_or_advance _ _ _ (sym observable2 ∙ observable))
+one_fault window script line faults.Ended faults.Given places (observable, last) (player2, f2, buttons2, kept2, observable2, was2) = absurd (press_or_advance _ _ _ (sym observable2 ∙ observable))
+one_fault window script line faults.Ended faults.Buttons places (observable, last) (player2, f2, buttons2, observable2, within2, free2, big2) = absurd (press_or_advance _ _ _ (sym observable2 ∙ observable))
+one_fault window script line faults.Ended faults.Waiting places (observable, last) (confirmed2, observable2, more2, known2, late2) = absurd (more2 last)
 one_fault window script line faults.Ended faults.Ended places first second = refl
 
 -- ---- one line is the first that is refused
@@ -126,9 +126,9 @@ refuses_at window (first ∷ before) after line old new fault so_far refused =
     inr (so_far.0, so_far.1, suc (length before), so_far.2, so_far.3, refuses_at window before after line so_far.1 new fault so_far.4 refused, refl)
 
 -- the scripts after a line that both obey
-one_behind : (window : ℕ) (line : List ℕ) (old one two : Script) (asked other : Line) → line_of line ≡ Some asked → line_of line ≡ Some other
+one_after : (window : ℕ) (line : List ℕ) (old one two : Script) (asked other : Line) → line_of line ≡ Some asked → line_of line ≡ Some other
     → Obeys window old asked one → Obeys window old other two → one ≡ two
-one_behind window line old one two asked other is is2 first second =
+one_after window line old one two asked other is is2 first second =
     obeys_one window old asked one two first (subst (λ (l : Line). Obeys window old l two) (some_same other asked (sym is2 ∙ is)) second)
 
 one_refused : (window : ℕ) (lines : List (List ℕ)) (old : Script) (n m : ℕ) (fault other : LineFault) → HasPlaces old
@@ -139,7 +139,7 @@ one_refused window (line ∷ lines) old n m fault other places (inl one) (inl tw
 one_refused window (line ∷ lines) old n m fault other places (inl one) (inr two) = absurd (not_both window old two.1 line fault two.0 one.0 two.3 two.4)
 one_refused window (line ∷ lines) old n m fault other places (inr one) (inl two) = absurd (not_both window old one.1 line other one.0 two.0 one.3 one.4)
 one_refused window (line ∷ lines) old n m fault other places (inr one) (inr two) =
-    let same : two.1 ≡ one.1 = one_behind window line old two.1 one.1 two.0 one.0 two.3 one.3 two.4 one.4 in
+    let same : two.1 ≡ one.1 = one_after window line old two.1 one.1 two.0 one.0 two.3 one.3 two.4 one.4 in
     let rest = one_refused window lines one.1 one.2 two.2 fault other (obeyed-places window old one.1 one.0 places one.4) one.5
     (subst (λ (s : Script). RefusesAt window lines s two.2 other) same two.5) in
     (one.6 ∙ ap suc rest.0 ∙ sym two.6, rest.1)
@@ -148,10 +148,10 @@ one_obeyed : (window : ℕ) (lines : List (List ℕ)) (old one two : Script) →
 unfolding ObeysAll
 one_obeyed window [] old one two first second = first ∙ sym second
 one_obeyed window (line ∷ lines) old one two first second =
-    let same : second.1 ≡ first.1 = one_behind window line old second.1 first.1 second.0 first.0 second.2 first.2 second.3 first.3 in
+    let same : second.1 ≡ first.1 = one_after window line old second.1 first.1 second.0 first.0 second.2 first.2 second.3 first.3 in
     one_obeyed window lines first.1 one two first.4 (subst (λ (s : Script). ObeysAll window lines s two) same second.4)
 
-refused_in : (cart : List ℕ) (window : ℕ) (text : List ℕ) (line : ℕ) (fault : LineFault) → ComesTo cart window text (Refused line fault)
+refused_in : (cart : List ℕ) (window : ℕ) (text : List ℕ) (line : ℕ) (fault : LineFault) → CompletesWith cart window text (Refused line fault)
     → RefusesAt window (lines_of text) begun line fault
 refused_in cart window text number fault (script, (before, line, after, first, at, refused)) =
     let here = refuses_at window before after line begun script fault first.obeyed refused in
@@ -171,16 +171,16 @@ one_digest cart script first second runs one two =
     let same = runs (power_on cart (recording_of script.played) false) one.last two.last (frame * script.frames) one.entries two.entries one.output two.output one.run two.run in
     one.digest_is ∙ ap (λ (m : Console). sha256 (state_bytes (frame * script.frames) m)) same.0 ∙ sym two.digest_is
 
-one_done : (cart : List ℕ) (window : ℕ) (text : List ℕ) (first second : Rolled) → RunsAreOne → ComesTo cart window text (Done first) → ComesTo cart window text (Done second) → first ≡ second
+one_done : (cart : List ℕ) (window : ℕ) (text : List ℕ) (first second : Rolled) → RunsAreOne → CompletesWith cart window text (Done first) → CompletesWith cart window text (Done second) → first ≡ second
 one_done cart window text first second runs (script, all, frames, confirmed, digest) (script2, all2, frames2, confirmed2, digest2) =
     let same : script2 ≡ script = one_obeyed window (lines_of text) begun script2 script all2 all in
     let made : first.frames ≡ second.frames = frames ∙ ap (λ (s : Script). s.frames) (sym same) ∙ sym frames2 in
     let known : first.confirmed ≡ second.confirmed =
     one_confirmed script.local script.remote first.confirmed second.confirmed confirmed (subst (λ (s : Script). IsConfirmed s.local s.remote second.confirmed) same confirmed2) in
-    let told : first.digest ≡ second.digest = one_digest cart script first.digest second.digest runs digest (subst (λ (s : Script). IsDigestOf cart s second.digest) same digest2) in
-    λ i. record { frames = made i; confirmed = known i; digest = told i }
+    let observable : first.digest ≡ second.digest = one_digest cart script first.digest second.digest runs digest (subst (λ (s : Script). IsDigestOf cart s second.digest) same digest2) in
+    λ i. record { frames = made i; confirmed = known i; digest = observable i }
 
-pub one_outcome : RunsAreOne → (cart : List ℕ) (window : ℕ) (text : List ℕ) (first second : Comes) → ComesTo cart window text first → ComesTo cart window text second
+pub one_outcome : RunsAreOne → (cart : List ℕ) (window : ℕ) (text : List ℕ) (first second : Completion) → CompletesWith cart window text first → CompletesWith cart window text second
     → first ≢ NoMemory → second ≢ NoMemory → first ≡ second
 one_outcome runs cart window text (Done first) (Done second) one two there there2 = ap Done (one_done cart window text first second runs one two)
 one_outcome runs cart window text (Done first) (Refused line fault) one two there there2 = absurd (done_or_refused cart window text first line fault one two)

@@ -172,7 +172,7 @@ reached-with at m recording reached buttons parts valid = record {
     one_owner = reached.processors.one_owner;
     resets = reached.processors.resets;
   };
-  video = record { rules = reached.video.rules; drawing = reached.video.drawing; near = reached.video.near };
+  video = record { rules = reached.video.rules; renderer_state = reached.video.renderer_state; near = reached.video.near };
   lines = record { resets = reached.lines.resets; recording = buttons; pads = reached.lines.pads; falls1 = reached.lines.falls1; falls2 = reached.lines.falls2 };
   writes = record { fm = reached.writes.fm; psg = reached.writes.psg; fm_early = reached.writes.fm_early; psg_early = reached.writes.psg_early };
   timers = reached.timers;

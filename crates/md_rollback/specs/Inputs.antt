@@ -74,7 +74,7 @@ IsMore words more = (f word : ℕ) → given words f ≡ Some word → given mor
 
 -- the word that is expected in a frame, from what was given
 pub data IsExpected (words : Words) (f : ℕ) : ℕ → Type 0 where
-  told : (word : ℕ) → given words f ≡ Some word → IsExpected words f word
+  observable : (word : ℕ) → given words f ≡ Some word → IsExpected words f word
   held : (word earlier : ℕ) → earlier < f → given words earlier ≡ Some word
       → ((g : ℕ) → earlier < g → g ≤ f → given words g ≡ None) → IsExpected words f word
   none : ((g : ℕ) → g ≤ f → given words g ≡ None) → IsExpected words f 0

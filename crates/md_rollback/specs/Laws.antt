@@ -3,13 +3,13 @@ use Rattle.std.specs.Prelude.{◌≡◌, ◌≢◌, ℕ, ◌≤◌, List}
 use Rattle.md_machine.specs.Machines.{MachineValue}
 use Rattle.md_rollback.specs.Inputs.{IsConfirmed, IsExpected, IsMore, Words, expected, expected_frames}
 use Rattle.md_rollback.specs.Played.{IsMachineOf}
-use Rattle.md_rollback.specs.Rolls.{ComesTo}
-use Rattle.md_rollback.specs.declared.rolled.Comes.{Comes}
-use Rattle.md_rollback.specs.declared.rolled.Comes.TheVariants.{NoMemory}
+use Rattle.md_rollback.specs.Rolls.{CompletesWith}
+use Rattle.md_rollback.specs.declared.rolled.Completion.{Completion}
+use Rattle.md_rollback.specs.declared.rolled.Completion.TheVariants.{NoMemory}
 
 pub record RollbackLaws : Type 0 where
   -- a script has one outcome alone, where memory suffices
-  pub one : (cart : List ℕ) (window : ℕ) (text : List ℕ) (first second : Comes) → ComesTo cart window text first → ComesTo cart window text second
+  pub one : (cart : List ℕ) (window : ℕ) (text : List ℕ) (first second : Completion) → CompletesWith cart window text first → CompletesWith cart window text second
       → first ≢ NoMemory → second ≢ NoMemory → first ≡ second
   -- the expected word of a frame is its own, or that of the latest frame before it whose word was given, or 0
   pub latest : (words : Words) (f : ℕ) → IsExpected words f (expected words f)

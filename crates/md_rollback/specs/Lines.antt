@@ -3,7 +3,7 @@ use Rattle.std.specs.Prelude.{ℕ, ◌^◌, nat_le, nat_lt, ◌&&◌, ◌||◌, 
 use Rattle.std.specs.Char.{is_ascii_digit}
 use Rattle.std.specs.List.{list_all}
 use Rattle.std.specs.Str.Parse.{digits_value}
-use Rattle.debug_text.specs.Commands.{behind, is_seven_bit, word_in}
+use Rattle.debug_text.specs.Commands.{following, is_seven_bit, word_in}
 use Rattle.debug_text.specs.Numbers.{decimal_of}
 use Rattle.md_rollback.specs.declared.line.Line.{Line}
 use Rattle.md_rollback.specs.declared.line.Line.TheVariants.{Press, Advance}
@@ -25,7 +25,7 @@ buttons_of word = if are_hexadecimal word && nat_lt (digits_value 16 word) (2 ^ 
 -- a frame, and after a blank the buttons that a player has in it
 abbrev pub press_of : Player → List ℕ → Option Line
 press_of player numbers =
-    option_and_then (λ frame. option_map (Press player frame) (option_and_then buttons_of (behind numbers))) (decimal_of (word_in numbers))
+    option_and_then (λ frame. option_map (Press player frame) (option_and_then buttons_of (following numbers))) (decimal_of (word_in numbers))
 
 -- `l` is player 1, `r` player 2
 abbrev pub player_of : List ℕ → Option Player
@@ -35,7 +35,7 @@ player_of word = if bytes_eq word (codes "l") then Some Local else (if bytes_eq 
 abbrev pub line_in : List ℕ → Option Line
 line_in line =
     if bytes_eq line (codes "a") then Some Advance
-    else option_and_then (λ player. option_and_then (press_of player) (behind line)) (player_of (word_in line))
+    else option_and_then (λ player. option_and_then (press_of player) (following line)) (player_of (word_in line))
 
 -- what a line asks for, which has ASCII alone
 abbrev pub line_of : List ℕ → Option Line

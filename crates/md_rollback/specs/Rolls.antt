@@ -11,9 +11,9 @@ use Rattle.text_lines.specs.Lines.{lines_of}
 use Rattle.md_rollback.specs.Inputs.{IsConfirmed}
 use Rattle.md_rollback.specs.Sessions.{SessionValue}
 use Rattle.md_rollback.specs.Scripts.{Plays, Script, begun}
-use Rattle.md_rollback.specs.declared.script.Ending.TheVariants as endings
-use Rattle.md_rollback.specs.declared.rolled.Comes.{Comes}
-use Rattle.md_rollback.specs.declared.rolled.Comes.TheVariants.{Done, Refused, NoMemory}
+use Rattle.md_rollback.specs.declared.script.SessionOutcome.TheVariants as session_outcomes
+use Rattle.md_rollback.specs.declared.rolled.Completion.{Completion}
+use Rattle.md_rollback.specs.declared.rolled.Completion.TheVariants.{Done, Refused, NoMemory}
 use Rattle.md_rollback.specs.declared.rolled.Rolled.{Rolled}
 
 -- the digest is that of the state that a run from power-on saves at a cycle, with these words on the pads
@@ -32,9 +32,9 @@ pub record IsRolled (session : SessionValue) (rolled : Rolled) : Type 0 where
 
 -- the outcome of a script: all lines were obeyed, with how many frames were made, how many are confirmed, and
 -- the digest of the state; or its first refused line
-abbrev pub ComesTo : List ℕ → ℕ → List ℕ → Comes → Type 0
-ComesTo cart window text (Done rolled) =
-    (script : Script) × Plays window (lines_of text) begun script endings.Obeyed × (rolled.frames ≡ script.frames)
+abbrev pub CompletesWith : List ℕ → ℕ → List ℕ → Completion → Type 0
+CompletesWith cart window text (Done rolled) =
+    (script : Script) × Plays window (lines_of text) begun script session_outcomes.Obeyed × (rolled.frames ≡ script.frames)
     × IsConfirmed script.local script.remote rolled.confirmed × IsDigestOf cart script rolled.digest
-ComesTo cart window text (Refused line fault) = (script : Script) × Plays window (lines_of text) begun script (endings.Refused line fault)
-ComesTo cart window text NoMemory = Unit {0}
+CompletesWith cart window text (Refused line fault) = (script : Script) × Plays window (lines_of text) begun script (session_outcomes.Refused line fault)
+CompletesWith cart window text NoMemory = Unit {0}

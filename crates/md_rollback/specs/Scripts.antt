@@ -11,8 +11,8 @@ use Rattle.md_rollback.specs.declared.line.Player.{Player}
 use Rattle.md_rollback.specs.declared.line.Player.TheVariants.{Local, Remote}
 use Rattle.md_rollback.specs.declared.line_fault.LineFault.{LineFault}
 use Rattle.md_rollback.specs.declared.line_fault.LineFault.TheVariants as faults
-use Rattle.md_rollback.specs.declared.script.Ending.{Ending}
-use Rattle.md_rollback.specs.declared.script.Ending.TheVariants.{Obeyed, Refused, OutOfMemory}
+use Rattle.md_rollback.specs.declared.script.SessionOutcome.{SessionOutcome}
+use Rattle.md_rollback.specs.declared.script.SessionOutcome.TheVariants.{Obeyed, Refused, OutOfMemory}
 
 -- the outcome of the lines so far: the words that they gave of both players, how many frames were made, and
 -- with which words the machine made them
@@ -78,9 +78,9 @@ fault_of (inputs.Given kept) = faults.Given
 fault_of inputs.Buttons = faults.Buttons
 
 -- how a script ends at a line that is not obeyed
-abbrev pub ending_at : ℕ → Option LineFault → Ending
-ending_at number (Some fault) = Refused number fault
-ending_at number None = OutOfMemory
+abbrev pub session_outcome_at : ℕ → Option LineFault → SessionOutcome
+session_outcome_at number (Some fault) = Refused number fault
+session_outcome_at number None = OutOfMemory
 
 -- all lines were obeyed, one after another
 unfoldable pub ObeysAll : ℕ → List (List ℕ) → Script → Script → Type 0
@@ -94,7 +94,7 @@ pub record ObeysFirst (window : ℕ) (lines before after : List (List ℕ)) (old
 
 -- how a script ends: each line was obeyed; or the line of a number, from 1 on, is the first that is refused, and
 -- those before it were obeyed; or memory ran out after lines that were obeyed
-abbrev pub Plays : ℕ → List (List ℕ) → Script → Script → Ending → Type 0
+abbrev pub Plays : ℕ → List (List ℕ) → Script → Script → SessionOutcome → Type 0
 Plays window lines old new Obeyed = ObeysAll window lines old new
 Plays window lines old new (Refused number fault) =
     (before : List (List ℕ)) × (line : List ℕ) × (after : List (List ℕ)) × ObeysFirst window lines before (line ∷ after) old new

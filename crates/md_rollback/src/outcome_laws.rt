@@ -5,9 +5,9 @@ ghost use Rattle.std.specs.Prelude.{◌≡◌, ◌≢◌, ℕ, List};
 ghost use Rattle.state_laws.specs.Kept.{MayBeKept};
 ghost use Rattle.md_rollback.specs.Played.{KeepsReached};
 ghost use Rattle.md_rollback.specs.Laws.{RollbackLaws};
-ghost use Rattle.md_rollback.specs.Rolls.{ComesTo};
-ghost use Rattle.md_rollback.specs.declared.rolled.Comes.{Comes};
-ghost use Rattle.md_rollback.specs.declared.rolled.Comes.TheVariants.{NoMemory};
+ghost use Rattle.md_rollback.specs.Rolls.{CompletesWith};
+ghost use Rattle.md_rollback.specs.declared.rolled.Completion.{Completion};
+ghost use Rattle.md_rollback.specs.declared.rolled.Completion.TheVariants.{NoMemory};
 
 use crate::input_laws::expected_is_latest;
 use crate::laws::confirmed_machines_stay;
@@ -23,7 +23,7 @@ pub fn states_may_be_kept()
 
 /// A script has one outcome alone, where memory suffices.
 pub fn scripts_have_one_outcome()
-    ensures { (cart : List ℕ) (window : ℕ) (text : List ℕ) (first second : Comes) → ComesTo cart window text first → ComesTo cart window text second
+    ensures { (cart : List ℕ) (window : ℕ) (text : List ℕ) (first second : Completion) → CompletesWith cart window text first → CompletesWith cart window text second
         → first ≢ NoMemory → second ≢ NoMemory → first ≡ second }
 {
     laws::one_run();

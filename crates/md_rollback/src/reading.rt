@@ -1,12 +1,12 @@
 ghost use Rattle.std.specs.Prelude.{◌≡◌, option_map, option_and_then};
 ghost use Rattle.std.specs.Option.{option_copied};
-ghost use Rattle.debug_text.specs.Commands.{behind, word_in};
+ghost use Rattle.debug_text.specs.Commands.{following, word_in};
 ghost use Rattle.debug_text.specs.Numbers.{decimal_of};
 ghost use Rattle.md_rollback.specs.Lines as meaning;
 
 use crate::line::{Line, Player};
 use crate::number::read_buttons;
-use debug_text::{behind, is_ascii, read_decimal, word_in};
+use debug_text::{following, is_ascii, read_decimal, word_in};
 use std::str::from_utf8;
 
 /// Reads a line of a script, without its line feed; `None` where it asks for nothing that there is.
@@ -35,7 +35,7 @@ fn read_text(line: &str) -> Option<Line>
     if line == "a" {
         return Some(Line::Advance);
     }
-    let numbers = behind(line);
+    let numbers = following(line);
     match read_player(word_in(line)) {
         Some(player) => press(player, numbers),
         None => None,
@@ -69,7 +69,7 @@ fn press_in(player: Player, numbers: &str) -> Option<Line>
     ensures { result ≡ meaning.press_of player numbers.now }
 {
     match read_decimal(word_in(numbers)) {
-        Some(frame) => match buttons_in(behind(numbers)) {
+        Some(frame) => match buttons_in(following(numbers)) {
             Some(buttons) => Some(Line::Press(player, frame, buttons)),
             None => None,
         },

@@ -13,7 +13,7 @@ pub struct Rolled {
 
 /// The outcome of a script.
 #[derive(Clone, Copy)]
-pub enum Comes {
+pub enum Completion {
     /// Each of its lines was obeyed.
     Done(Rolled),
     /// The line of this number, from 1 on, is refused.

@@ -1,10 +1,10 @@
 ghost use Rattle.std.specs.Prelude.{◌≤◌, IfOk};
 ghost use Rattle.std.specs.Arc.{arc_value};
-ghost use Rattle.md_rollback.specs.Rolls.{ComesTo, IsRolled};
+ghost use Rattle.md_rollback.specs.Rolls.{CompletesWith, IsRolled};
 
 use crate::opening::session;
-use crate::rolled::{Comes, Rolled};
-use crate::{Ending, Session, play};
+use crate::rolled::{Completion, Rolled};
+use crate::{Session, SessionOutcome, play};
 use md_word::NoMemory;
 use rom_header::Cart;
 use save_state::write;
@@ -15,22 +15,22 @@ use std::sync::Arc;
 
 /// Obeys a script with a cartridge, from power-on of NTSC on. Its outcome is the first refused line, or what is
 /// reported of the last frame, or that memory ran out.
-pub fn run_script(alloc: Global, cart: Arc<Cart>, window: u32, script: &[u8]) -> Comes
+pub fn run_script(alloc: Global, cart: Arc<Cart>, window: u32, script: &[u8]) -> Completion
     requires some { 1 ≤ window }
     requires most { window ≤ 16 }
-    ensures { ComesTo (arc_value cart) window script.now result }
+    ensures { CompletesWith (arc_value cart) window script.now result }
 {
     let mut session = match session(alloc, cart, window) {
         Ok(session) => session,
-        Err(NoMemory) => return Comes::NoMemory,
+        Err(NoMemory) => return Completion::NoMemory,
     };
     match play(&mut session, script) {
-        Ending::Obeyed => match last_frame(alloc, &session) {
-            Ok(rolled) => Comes::Done(rolled),
-            Err(NoMemory) => Comes::NoMemory,
+        SessionOutcome::Obeyed => match last_frame(alloc, &session) {
+            Ok(rolled) => Completion::Done(rolled),
+            Err(NoMemory) => Completion::NoMemory,
         },
-        Ending::Refused(line, fault) => Comes::Refused(line, fault),
-        Ending::OutOfMemory => Comes::NoMemory,
+        SessionOutcome::Refused(line, fault) => Completion::Refused(line, fault),
+        SessionOutcome::OutOfMemory => Completion::NoMemory,
     }
 }
 

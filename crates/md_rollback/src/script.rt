@@ -6,7 +6,7 @@ ghost use Rattle.md_rollback.specs.declared.line.Line.TheVariants as asked;
 ghost use Rattle.md_rollback.specs.declared.line.Player.TheVariants as players;
 ghost use Rattle.md_rollback.specs.Following.{Follows};
 ghost use Rattle.md_rollback.specs.Following as following;
-ghost use Rattle.md_rollback.specs.Scripts.{IsFault, IsRefusedInput, Obeys, Plays, Script, ending_at};
+ghost use Rattle.md_rollback.specs.Scripts.{IsFault, IsRefusedInput, Obeys, Plays, Script, session_outcome_at};
 ghost use Rattle.md_rollback.specs.Scripts as scripts;
 
 use crate::line_fault::LineFault;
@@ -16,7 +16,7 @@ use text_lines::first_line;
 
 /// The outcome of a script.
 #[derive(Clone, Copy)]
-pub enum Ending {
+pub enum SessionOutcome {
     /// Each of its lines was obeyed.
     Obeyed,
     /// The line of this number, from 1 on, is refused.
@@ -26,7 +26,7 @@ pub enum Ending {
 }
 
 /// Obeys the lines of a script one after another, up to the first one that is refused.
-pub fn play<R: Replays>(session: &mut Session<R>, script: &[u8]) -> Ending
+pub fn play<R: Replays>(session: &mut Session<R>, script: &[u8]) -> SessionOutcome
     ensures { (cart : List ℕ) (old : Script) → Follows cart session.old old
         → (new : Script) × Plays session.old.window (lines_of script.now) old new result × Follows cart session.new new }
 {
@@ -37,19 +37,19 @@ pub fn play<R: Replays>(session: &mut Session<R>, script: &[u8]) -> Ending
         number += 1;
         match obey(session, line) {
             Ok(()) => rest = after,
-            Err(fault) => return ending_of(number, fault),
+            Err(fault) => return session_outcome_of(number, fault),
         }
     }
-    Ending::Obeyed
+    SessionOutcome::Obeyed
 }
 
 /// The outcome of a script at a line that is not obeyed.
-fn ending_of(number: u64, fault: Option<LineFault>) -> Ending
-    ensures { result ≡ ending_at number fault }
+fn session_outcome_of(number: u64, fault: Option<LineFault>) -> SessionOutcome
+    ensures { result ≡ session_outcome_at number fault }
 {
     match fault {
-        Some(fault) => Ending::Refused(number, fault),
-        None => Ending::OutOfMemory,
+        Some(fault) => SessionOutcome::Refused(number, fault),
+        None => SessionOutcome::OutOfMemory,
     }
 }
 

@@ -6,7 +6,7 @@ use Rattle.md_top.specs.Outputs.{Adds, AddsParts, Holds, LeavesParts, Pieces, le
 use Rattle.md_args.specs.Files.{run_output}
 use Rattle.md_args.specs.Words.{Run}
 use Rattle.md_args.specs.declared.files.Output.{Output}
-use Rattle.md_top.proofs.Writes.{Apart, AreFront, front-behind, named, no-longer, only-front, output-longer, output-unasked, parts_left, parts-longer, prefix-front}
+use Rattle.md_top.proofs.Writes.{Apart, ArePrefixes, front-following, named, no-longer, only-front, output-longer, output-unasked, parts_left, parts-longer, prefix-front}
 
 -- APPENDS
 
@@ -31,7 +31,7 @@ parts-piece run apart which begun file old new piece (some, is) appended first h
     let part = appended name.0 (is ∙ name.1) in
     parts_left run first new (lengthened held (only which part.0)) (lengthened held (only which piece))
     (output-longer run apart which first old new held name.0 part.0 name.1 holds part.2)
-    (front-behind held (only which part.0) (only which piece) (only-front which part.0 piece part.1))
+    (front-following held (only which part.0) (only which piece) (only-front which part.0 piece part.1))
 
 -- to an output that is not asked for
 pub adds-none : (run : Run) → Apart run → (which : Output) (files : Files) (piece : List ℕ) → run_output run which ≡ None → Adds run files files (only which piece)
@@ -56,7 +56,7 @@ pub parts-on : (run : Run) (old mid new : Files) (more rest : Pieces) → Adds r
 parts-on run old mid new more rest one two first held holds =
     subst (LeavesParts run first new) (lengthened-assoc held more rest) (two first (lengthened held more) (one first held holds))
 
-front-longer : (more rest : Pieces) → AreFront more (lengthened more rest)
+front-longer : (more rest : Pieces) → ArePrefixes more (lengthened more rest)
 front-longer more rest = record { frames = prefix-front more.frames rest.frames; sound = prefix-front more.sound rest.sound; journal = prefix-front more.journal rest.journal; state = prefix-front more.state rest.state }
 
 -- no second piece after a part of one

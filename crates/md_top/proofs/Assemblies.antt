@@ -10,23 +10,23 @@ use Rattle.md_args.specs.declared.files.Input.TheVariants.{First}
 use Rattle.md_args.specs.declared.files.Output.TheVariants.{Listing, Target}
 use Rattle.file_commands.specs.Assemblies as files
 use Rattle.file_commands.specs.Assemblies.{HoldsParts, IsFound, LeavesEmpty, LeavesParts, limit, with_list}
-use Rattle.file_commands.proofs.AssemblyEndings.{right}
-use Rattle.file_commands.specs.declared.comes.Comes.{Comes}
-use Rattle.file_commands.specs.declared.comes.Comes.TheVariants as comes
-use Rattle.md_top.specs.Assemblies.{AsmEnds, AsmFiles, as_ending, asm_ending}
-use Rattle.md_top.specs.Endings.{status_of}
-use Rattle.md_top.specs.declared.ending.Ending.{Ending}
-use Rattle.md_top.specs.declared.ending.Ending.TheVariants.{Converted, Memory, ReadFault, SourceRefused, TooLong, WriteFault}
+use Rattle.file_commands.proofs.AssemblyCompletions.{right}
+use Rattle.file_commands.specs.declared.completion.Completion.{Completion}
+use Rattle.file_commands.specs.declared.completion.Completion.TheVariants as completion
+use Rattle.md_top.specs.Assemblies.{AsmEnds, AsmFiles, as_command_outcome, asm_command_outcome}
+use Rattle.md_top.specs.CommandOutcomes.{status_of}
+use Rattle.md_top.specs.declared.command_outcome.CommandOutcome.{CommandOutcome}
+use Rattle.md_top.specs.declared.command_outcome.CommandOutcome.TheVariants.{Converted, Memory, ReadFault, SourceRefused, TooLong, WriteFault}
 use Rattle.md_top.proofs.Statuses.{Says, missing}
 
-module _ (told : Type 0) (words : Assembling) (old new : DepotState) where
-  abbrev Ends : Ending → Type 0
-  Ends ending = AsmEnds told words old new ending
+module _ (observable : Type 0) (words : Assembling) (old new : DepotState) where
+  abbrev Ends : CommandOutcome → Type 0
+  Ends command_outcome = AsmEnds observable words old new command_outcome
 
   -- what its endings say
-  pub asm_says : (ending : Ending) → Ends ending → Says told (Assemble words) old new ending
+  pub asm_says : (command_outcome : CommandOutcome) → Ends command_outcome → Says observable (Assemble words) old new command_outcome
   asm_says (Converted size) cause = tt
-  asm_says (ReadFault First) cause = missing told (Assemble words) old.files (λ none. (First, none)) cause
+  asm_says (ReadFault First) cause = missing observable (Assemble words) old.files (λ none. (First, none)) cause
   asm_says (TooLong First) cause = tt
   asm_says (SourceRefused line kind) cause = (line, kind, cause)
   asm_says (WriteFault Target) cause = cause.0
@@ -35,18 +35,18 @@ module _ (told : Type 0) (words : Assembling) (old new : DepotState) where
   asm_says _ cause = absurd cause
 
   -- without a fault the ending is the right one, or memory runs out
-  as_right : (ends : Comes) → (ends ≡ files.right_ending (old.files words.source)) ⊎ (ends ≡ comes.NoMemory)
-      → (status_of (as_ending ends) ≡ status_of (asm_ending words old.files)) ⊎ (status_of (as_ending ends) ≡ 10)
-  as_right ends (inl is) = inl (ap (λ (c : Comes). status_of (as_ending c)) is)
-  as_right ends (inr is) = inr (ap (λ (c : Comes). status_of (as_ending c)) is)
+  as_right : (ends : Completion) → (ends ≡ files.right_completion (old.files words.source)) ⊎ (ends ≡ completion.NoMemory)
+      → (status_of (as_command_outcome ends) ≡ status_of (asm_command_outcome words old.files)) ⊎ (status_of (as_command_outcome ends) ≡ 10)
+  as_right ends (inl is) = inl (ap (λ (c : Completion). status_of (as_command_outcome c)) is)
+  as_right ends (inr is) = inr (ap (λ (c : Completion). status_of (as_command_outcome c)) is)
 
-  pub asm_right : (ending : Ending) → Ends ending → ¬ Rose old.read_faults new.read_faults → ¬ Rose old.write_faults new.write_faults → told
-      → (status_of ending ≡ status_of (asm_ending words old.files)) ⊎ (status_of ending ≡ 10)
-  asm_right (Converted size) cause reads writes t = as_right (comes.Made size) (right told words old new (comes.Made size) t reads writes cause)
-  asm_right (ReadFault First) cause reads writes t = as_right comes.Unread (right told words old new comes.Unread t reads writes cause)
-  asm_right (TooLong First) cause reads writes t = as_right comes.TooLong (right told words old new comes.TooLong t reads writes cause)
+  pub asm_right : (command_outcome : CommandOutcome) → Ends command_outcome → ¬ Rose old.read_faults new.read_faults → ¬ Rose old.write_faults new.write_faults → observable
+      → (status_of command_outcome ≡ status_of (asm_command_outcome words old.files)) ⊎ (status_of command_outcome ≡ 10)
+  asm_right (Converted size) cause reads writes t = as_right (completion.Made size) (right observable words old new (completion.Made size) t reads writes cause)
+  asm_right (ReadFault First) cause reads writes t = as_right completion.Unread (right observable words old new completion.Unread t reads writes cause)
+  asm_right (TooLong First) cause reads writes t = as_right completion.TooLong (right observable words old new completion.TooLong t reads writes cause)
   asm_right (SourceRefused line kind) cause reads writes t =
-      as_right (comes.Refused line kind) (right told words old new (comes.Refused line kind) t reads writes cause)
+      as_right (completion.Refused line kind) (right observable words old new (completion.Refused line kind) t reads writes cause)
   asm_right (WriteFault Target) cause reads writes t = absurd (writes cause.0)
   asm_right (WriteFault Listing) cause reads writes t = absurd (writes cause.0)
   asm_right Memory cause reads writes t = inr refl
@@ -54,11 +54,11 @@ module _ (told : Type 0) (words : Assembling) (old new : DepotState) where
 
 -- a source at no fault
 pub asm_done : (source : Option (List ℕ)) (image : List ℕ) (lines : List Placed) → IsFound source (assembly.Done image lines)
-    → status_of (as_ending (files.right_ending source)) ≡ 0
+    → status_of (as_command_outcome (files.right_completion source)) ≡ 0
 asm_done None image lines found = absurd found
 asm_done (Some bytes) image lines found =
-    ap (λ (long : Bool). status_of (as_ending (cond long comes.TooLong (files.made_ending (assembly.assembly bytes))))) (le-ltb limit (length bytes) found.0)
-    ∙ ap (λ (outcome : assembly.AssemblyOutcome). status_of (as_ending (files.made_ending outcome))) found.1
+    ap (λ (long : Bool). status_of (as_command_outcome (cond long completion.TooLong (files.made_completion (assembly.assembly bytes))))) (le-ltb limit (length bytes) found.0)
+    ∙ ap (λ (outcome : assembly.AssemblyOutcome). status_of (as_command_outcome (files.made_completion outcome))) found.1
 
 -- the files of other names than the outputs'
 list_other : (held : Files) (list : Option (List ℕ)) (bytes name : List ℕ) → list ≢ Some name → with_list list held bytes name ≡ held name
@@ -85,7 +85,7 @@ emptied_other : (words : Assembling) (old new : Files) → LeavesEmpty words old
 emptied_other words old new (inl same) name differ = ap (λ (held : Files). held name) same
 emptied_other words old new (inr (image, lines, found, is)) name differ = ap (λ (held : Files). held name) is ∙ with_file-other old words.output [] name differ
 
-pub assembled_other : (words : Assembling) (old new : Files) (ending : Ending) → AsmFiles words old new ending
+pub assembled_other : (words : Assembling) (old new : Files) (command_outcome : CommandOutcome) → AsmFiles words old new command_outcome
     → (name : List ℕ) → words.output ≢ name → words.list ≢ Some name → new name ≡ old name
 assembled_other words old new (Converted size) (image, lines, found, long, leaves, said) name differ apart =
     ap (λ (held : Files). held name) leaves ∙ both_other words old image _ name differ apart

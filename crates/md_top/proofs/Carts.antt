@@ -13,13 +13,13 @@ held : (file : Option (List ℕ)) (bytes : List ℕ) (fault : CartFault) → fil
     → IsSomeAnd file (λ bytes. (length bytes ≤ cart_limit) × (fault_of bytes ≡ Some fault))
 held file bytes fault is within why = rw is (within, why)
 
-pub refusal_cause : (told : Type 0) (rom : List ℕ) (old new : DepotState) (bytes : List ℕ) (fault : CartFault)
-    → (told → old.files rom ≡ Some bytes) → length bytes ≤ cart_limit → (fault_of bytes ≡ Some fault) ⊎ (fault ≡ NoMemory)
-    → CartCause told rom old new (refusal_of fault)
-refusal_cause told rom old new bytes Short is within (inl why) = λ t. held (old.files rom) bytes Short (is t) within why
-refusal_cause told rom old new bytes Long is within (inl why) = absurd (long_is_long bytes within why)
-refusal_cause told rom old new bytes NoMark is within (inl why) = λ t. held (old.files rom) bytes NoMark (is t) within why
-refusal_cause told rom old new bytes NoMemory is within why = tt
-refusal_cause told rom old new bytes Short is within (inr same) = absurd (cc)
-refusal_cause told rom old new bytes Long is within (inr same) = absurd (cc)
-refusal_cause told rom old new bytes NoMark is within (inr same) = absurd (cc)
+pub refusal_cause : (observable : Type 0) (rom : List ℕ) (old new : DepotState) (bytes : List ℕ) (fault : CartFault)
+    → (observable → old.files rom ≡ Some bytes) → length bytes ≤ cart_limit → (fault_of bytes ≡ Some fault) ⊎ (fault ≡ NoMemory)
+    → CartCause observable rom old new (refusal_of fault)
+refusal_cause observable rom old new bytes Short is within (inl why) = λ t. held (old.files rom) bytes Short (is t) within why
+refusal_cause observable rom old new bytes Long is within (inl why) = absurd (long_is_long bytes within why)
+refusal_cause observable rom old new bytes NoMark is within (inl why) = λ t. held (old.files rom) bytes NoMark (is t) within why
+refusal_cause observable rom old new bytes NoMemory is within why = tt
+refusal_cause observable rom old new bytes Short is within (inr same) = absurd (cc)
+refusal_cause observable rom old new bytes Long is within (inr same) = absurd (cc)
+refusal_cause observable rom old new bytes NoMark is within (inr same) = absurd (cc)

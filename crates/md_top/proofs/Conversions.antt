@@ -10,23 +10,23 @@ use Rattle.md_args.specs.declared.files.Input.TheVariants.{First}
 use Rattle.md_args.specs.declared.files.Output.TheVariants.{Target}
 use Rattle.file_commands.specs.Conversions as files
 use Rattle.file_commands.specs.Conversions.{IsFound, IsOutcome, limit}
-use Rattle.file_commands.proofs.ConversionEndings.{right}
-use Rattle.file_commands.specs.declared.converted.Converted.{Converted as Comes}
+use Rattle.file_commands.proofs.ConversionCompletions.{right}
+use Rattle.file_commands.specs.declared.converted.Converted.{Converted as Completion}
 use Rattle.file_commands.specs.declared.converted.Converted.TheVariants as converted
-use Rattle.md_top.specs.Conversions.{ConvertEnds, ConvertFiles, as_ending, convert_ending}
-use Rattle.md_top.specs.Endings.{status_of}
-use Rattle.md_top.specs.declared.ending.Ending.{Ending}
-use Rattle.md_top.specs.declared.ending.Ending.TheVariants.{Converted, InputRefused, Memory, ReadFault, TooLong, WriteFault}
+use Rattle.md_top.specs.Conversions.{ConvertEnds, ConvertFiles, as_command_outcome, convert_command_outcome}
+use Rattle.md_top.specs.CommandOutcomes.{status_of}
+use Rattle.md_top.specs.declared.command_outcome.CommandOutcome.{CommandOutcome}
+use Rattle.md_top.specs.declared.command_outcome.CommandOutcome.TheVariants.{Converted, InputRefused, Memory, ReadFault, TooLong, WriteFault}
 use Rattle.md_top.proofs.Statuses.{Says, missing}
 
-module _ (told : Type 0) (conversion : Conversion) (old new : DepotState) where
-  abbrev Ends : Ending → Type 0
-  Ends ending = ConvertEnds told conversion old new ending
+module _ (observable : Type 0) (conversion : Conversion) (old new : DepotState) where
+  abbrev Ends : CommandOutcome → Type 0
+  Ends command_outcome = ConvertEnds observable conversion old new command_outcome
 
   -- what its endings say
-  pub convert_says : (ending : Ending) → Ends ending → Says told (Convert conversion) old new ending
+  pub convert_says : (command_outcome : CommandOutcome) → Ends command_outcome → Says observable (Convert conversion) old new command_outcome
   convert_says (Converted size) cause = tt
-  convert_says (ReadFault First) cause = missing told (Convert conversion) old.files (λ none. (First, none)) cause
+  convert_says (ReadFault First) cause = missing observable (Convert conversion) old.files (λ none. (First, none)) cause
   convert_says (TooLong First) cause = tt
   convert_says (InputRefused fault) cause = (fault, cause)
   convert_says (WriteFault Target) cause = cause.0
@@ -34,20 +34,20 @@ module _ (told : Type 0) (conversion : Conversion) (old new : DepotState) where
   convert_says _ cause = absurd cause
 
   -- without a fault the ending is the right one, or memory runs out
-  as_right : (outcome : Outcome) (comes : Comes) → (comes ≡ files.right_ending (old.files conversion.input) outcome) ⊎ (comes ≡ converted.NoMemory)
-      → (status_of (as_ending comes) ≡ status_of (convert_ending conversion old.files outcome)) ⊎ (status_of (as_ending comes) ≡ 10)
-  as_right outcome comes (inl is) = inl (ap (λ (c : Comes). status_of (as_ending c)) is)
-  as_right outcome comes (inr is) = inr (ap (λ (c : Comes). status_of (as_ending c)) is)
+  as_right : (outcome : Outcome) (completion : Completion) → (completion ≡ files.right_completion (old.files conversion.input) outcome) ⊎ (completion ≡ converted.NoMemory)
+      → (status_of (as_command_outcome completion) ≡ status_of (convert_command_outcome conversion old.files outcome)) ⊎ (status_of (as_command_outcome completion) ≡ 10)
+  as_right outcome completion (inl is) = inl (ap (λ (c : Completion). status_of (as_command_outcome c)) is)
+  as_right outcome completion (inr is) = inr (ap (λ (c : Completion). status_of (as_command_outcome c)) is)
 
-  pub convert_right : (outcome : Outcome) (ending : Ending) → Ends ending → IsOutcome conversion (unwrap_or (old.files conversion.input) []) outcome
-      → ¬ Rose old.read_faults new.read_faults → ¬ Rose old.write_faults new.write_faults → told
-      → (status_of ending ≡ status_of (convert_ending conversion old.files outcome)) ⊎ (status_of ending ≡ 10)
+  pub convert_right : (outcome : Outcome) (command_outcome : CommandOutcome) → Ends command_outcome → IsOutcome conversion (unwrap_or (old.files conversion.input) []) outcome
+      → ¬ Rose old.read_faults new.read_faults → ¬ Rose old.write_faults new.write_faults → observable
+      → (status_of command_outcome ≡ status_of (convert_command_outcome conversion old.files outcome)) ⊎ (status_of command_outcome ≡ 10)
   convert_right outcome (Converted size) cause known reads writes t =
-      as_right outcome (converted.Made size) (right told conversion old new (converted.Made size) outcome t reads writes cause known)
-  convert_right outcome (ReadFault First) cause known reads writes t = as_right outcome converted.Unread (right told conversion old new converted.Unread outcome t reads writes cause known)
-  convert_right outcome (TooLong First) cause known reads writes t = as_right outcome converted.TooLong (right told conversion old new converted.TooLong outcome t reads writes cause known)
+      as_right outcome (converted.Made size) (right observable conversion old new (converted.Made size) outcome t reads writes cause known)
+  convert_right outcome (ReadFault First) cause known reads writes t = as_right outcome converted.Unread (right observable conversion old new converted.Unread outcome t reads writes cause known)
+  convert_right outcome (TooLong First) cause known reads writes t = as_right outcome converted.TooLong (right observable conversion old new converted.TooLong outcome t reads writes cause known)
   convert_right outcome (InputRefused fault) cause known reads writes t =
-      as_right outcome (converted.Refused fault) (right told conversion old new (converted.Refused fault) outcome t reads writes cause known)
+      as_right outcome (converted.Refused fault) (right observable conversion old new (converted.Refused fault) outcome t reads writes cause known)
   convert_right outcome (WriteFault Target) cause known reads writes t = absurd (writes cause.0)
   convert_right outcome Memory cause known reads writes t = inr refl
   convert_right outcome _ cause known reads writes t = absurd cause
@@ -59,13 +59,13 @@ made_outcome conversion None made found = absurd found
 made_outcome conversion (Some bytes) made found = found.1
 
 pub convert_done : (conversion : Conversion) (input : Option (List ℕ)) (made : List ℕ) → IsFound conversion input (Made made)
-    → status_of (as_ending (files.right_ending input (Made made))) ≡ 0
+    → status_of (as_command_outcome (files.right_completion input (Made made))) ≡ 0
 convert_done conversion None made found = absurd found
 convert_done conversion (Some bytes) made found =
-    ap (λ (long : Bool). status_of (as_ending (cond long converted.TooLong (converted.Made (length made))))) (le-ltb limit (length bytes) found.0)
+    ap (λ (long : Bool). status_of (as_command_outcome (cond long converted.TooLong (converted.Made (length made))))) (le-ltb limit (length bytes) found.0)
 
 -- the files of other names than the output's
-pub converted_other : (conversion : Conversion) (old new : Files) (ending : Ending) → ConvertFiles conversion old new ending → (name : List ℕ) → conversion.output ≢ name → new name ≡ old name
+pub converted_other : (conversion : Conversion) (old new : Files) (command_outcome : CommandOutcome) → ConvertFiles conversion old new command_outcome → (name : List ℕ) → conversion.output ≢ name → new name ≡ old name
 converted_other conversion old new (Converted size) leaves name differ =
     ap (λ (held : Files). held name) leaves.3 ∙ with_file-other old conversion.output leaves.0 name differ
 converted_other conversion old new (WriteFault Target) (inl same) name differ = ap (λ (held : Files). held name) same

@@ -2,7 +2,7 @@
 use Rattle.std.proofs.Common.{◌≡◌, ◌≢◌, ℕ, ◌^◌, ◌<◌, ◌≤◌, List, [], Result, Ok, Err, Option, Some, None, append-nil, refl, subst, sym, ◌∙◌, arith}
 use Rattle.std.specs.Prelude.{IfErr, IsSome, OnOk, OnErr}
 use Rattle.md_outer.specs.Outside.{DepotState, Files, GoesOn}
-use Rattle.md_top.specs.Endings.{HoldsUntil, RunCause, RunEnds, RunFiles, RunLeaves, RunsFrom}
+use Rattle.md_top.specs.CommandOutcomes.{HoldsUntil, RunCause, RunEnds, RunFiles, RunLeaves, RunsFrom}
 use Rattle.md_word.specs.Clock.{last_cycle}
 use Rattle.md_top.specs.Limits.{IsEnd}
 use Rattle.md_top.specs.Loads.{Begins, LoadCause, MayBeginAt}
@@ -13,8 +13,8 @@ use Rattle.md_args.specs.Files.{run_output}
 use Rattle.md_args.specs.Words.{Run}
 use Rattle.md_args.specs.declared.files.Input.TheVariants.{State}
 use Rattle.md_args.specs.declared.files.Output.TheVariants.{Frames, Journal, Listing, Save, Sound, Target}
-use Rattle.md_top.specs.declared.ending.Ending.{Ending}
-use Rattle.md_top.specs.declared.ending.Ending.TheVariants.{Done, Memory, OtherCart, ReadFault, StateWrong, TooLong, WriteFault}
+use Rattle.md_top.specs.declared.command_outcome.CommandOutcome.{CommandOutcome}
+use Rattle.md_top.specs.declared.command_outcome.CommandOutcome.TheVariants.{Done, Memory, OtherCart, ReadFault, StateInvalid, TooLong, WriteFault}
 use Rattle.md_top.specs.declared.outputs.Outputs.{Outputs}
 use Rattle.md_top.proofs.Puts.{rose_later}
 use Rattle.md_top.proofs.Segments.{pieces-first, pieces-front}
@@ -85,38 +85,38 @@ state-parts run start first old new state is adds holds =
 
 -- WHY IT STOPS
 
-pub fault-cause : (start : Start) (run : Run) (old new : DepotState) (ending : Ending) → IsWriteFault run old new ending → RunCause start run old new ending
+pub fault-cause : (start : Start) (run : Run) (old new : DepotState) (command_outcome : CommandOutcome) → IsWriteFault run old new command_outcome → RunCause start run old new command_outcome
 fault-cause start run old new (WriteFault which) fault = fault
 fault-cause start run old new _ fault = absurd fault
 
-pub unwritten-cause : (start : Start) (run : Run) (old new : DepotState) (ending : Ending) → IsUnwritten run old new ending → RunCause start run old new ending
+pub unwritten-cause : (start : Start) (run : Run) (old new : DepotState) (command_outcome : CommandOutcome) → IsUnwritten run old new command_outcome → RunCause start run old new command_outcome
 unwritten-cause start run old new (WriteFault which) fault = fault
 unwritten-cause start run old new Memory fault = tt
 unwritten-cause start run old new _ fault = absurd fault
 
 -- a cause from later on is one from before
-pub cause-before : (start : Start) (run : Run) (old mid new : DepotState) (ending : Ending) → GoesOn old mid → RunCause start run mid new ending → RunCause start run old new ending
+pub cause-before : (start : Start) (run : Run) (old mid new : DepotState) (command_outcome : CommandOutcome) → GoesOn old mid → RunCause start run mid new command_outcome → RunCause start run old new command_outcome
 cause-before start run old mid new (Done from frames accesses halted) on cause = cause
 cause-before start run old mid new Memory on cause = tt
 cause-before start run old mid new (WriteFault which) on cause = (cause.0, rose_later old.write_faults mid.write_faults new.write_faults on.writes cause.1)
 cause-before start run old mid new _ on cause = absurd cause
 
-pub unwritten-before : (run : Run) (old mid new : DepotState) (ending : Ending) → GoesOn old mid → IsUnwritten run mid new ending → IsUnwritten run old new ending
+pub unwritten-before : (run : Run) (old mid new : DepotState) (command_outcome : CommandOutcome) → GoesOn old mid → IsUnwritten run mid new command_outcome → IsUnwritten run old new command_outcome
 unwritten-before run old mid new Memory on cause = tt
 unwritten-before run old mid new (WriteFault which) on cause = (cause.0, rose_later old.write_faults mid.write_faults new.write_faults on.writes cause.1)
 unwritten-before run old mid new _ on cause = absurd cause
 
 -- it is not out of memory
-pub fault-not_memory : (run : Run) (old new : DepotState) (ending : Ending) → IsWriteFault run old new ending → ending ≢ Memory
-fault-not_memory run old new ending fault is = subst (IsWriteFault run old new) is fault
+pub fault-not_memory : (run : Run) (old new : DepotState) (command_outcome : CommandOutcome) → IsWriteFault run old new command_outcome → command_outcome ≢ Memory
+fault-not_memory run old new command_outcome fault is = subst (IsWriteFault run old new) is fault
 
-pub fault-leaves : (start : Start) (run : Run) (first files : Files) (old new : DepotState) (ending : Ending) → IsWriteFault run old new ending
-    → LeavesParts run first files (pieces_of start run.cycles) → RunLeaves start run first files ending
+pub fault-leaves : (start : Start) (run : Run) (first files : Files) (old new : DepotState) (command_outcome : CommandOutcome) → IsWriteFault run old new command_outcome
+    → LeavesParts run first files (pieces_of start run.cycles) → RunLeaves start run first files command_outcome
 fault-leaves start run first files old new (WriteFault which) fault leaves = leaves
 fault-leaves start run first files old new _ fault leaves = absurd fault
 
-pub unwritten-leaves : (start : Start) (run : Run) (first files : Files) (old new : DepotState) (ending : Ending) → IsUnwritten run old new ending
-    → LeavesParts run first files nothing → RunLeaves start run first files ending
+pub unwritten-leaves : (start : Start) (run : Run) (first files : Files) (old new : DepotState) (command_outcome : CommandOutcome) → IsUnwritten run old new command_outcome
+    → LeavesParts run first files nothing → RunLeaves start run first files command_outcome
 unwritten-leaves start run first files old new (WriteFault which) fault leaves = parts-longer run first files nothing (pieces_of start run.cycles) leaves (nothing-front (pieces_of start run.cycles))
 unwritten-leaves start run first files old new Memory fault leaves = leaves
 unwritten-leaves start run first files old new _ fault leaves = absurd fault
@@ -135,7 +135,7 @@ untouched run old new same = record {
   files = same;
 }
 
-pub unchanged : (run : Run) (old new : Files) (ending : Ending) → new ≡ old → RunFiles run old new ending
+pub unchanged : (run : Run) (old new : Files) (command_outcome : CommandOutcome) → new ≡ old → RunFiles run old new command_outcome
 unchanged run old new (Done from frames accesses halted) same = (no_part, same)
 unchanged run old new (WriteFault which) same = (no_part, same)
 unchanged run old new Memory same = untouched run old new same
@@ -145,41 +145,41 @@ unchanged run old new _ same = same
 abbrev pub AreOne : Type 0
 AreOne = (run : Run) (files : Files) (a b : Start) → Begins run files a → Begins run files b → a ≡ b
 
-run-from : (run : Run) (start : Start) (old mid new : DepotState) (ending : Ending) → AreOne → Begins run old.files start → start.at < run.cycles → GoesOn old mid
-    → RunCause start run mid new ending → RunLeaves start run old.files new.files ending → RunsFrom run old new ending
-run-from run start old mid new ending one begins ahead on cause leaves = record {
+run-from : (run : Run) (start : Start) (old mid new : DepotState) (command_outcome : CommandOutcome) → AreOne → Begins run old.files start → start.at < run.cycles → GoesOn old mid
+    → RunCause start run mid new command_outcome → RunLeaves start run old.files new.files command_outcome → RunsFrom run old new command_outcome
+run-from run start old mid new command_outcome one begins ahead on cause leaves = record {
   start = start;
   begins = begins;
   alone = λ other also. one run old.files other start also begins;
   above = ahead;
-  cause = cause-before start run old mid new ending on cause;
+  cause = cause-before start run old mid new command_outcome on cause;
   files = leaves;
 }
 
-pub end-of-run : (told : Type 0) (run : Run) (start : Start) (old mid new : DepotState) (ending : Ending) → AreOne → IsEnd run.cycles → MayBeginAt run start.at
-    → (told → Begins run old.files start) → start.at < run.cycles → GoesOn old mid → RunCause start run mid new ending
-    → (told → RunLeaves start run old.files new.files ending) → RunEnds told run old new ending
-end-of-run told run start old mid new (Done from frames accesses halted) one end may begins ahead on cause leaves =
+pub end-of-run : (observable : Type 0) (run : Run) (start : Start) (old mid new : DepotState) (command_outcome : CommandOutcome) → AreOne → IsEnd run.cycles → MayBeginAt run start.at
+    → (observable → Begins run old.files start) → start.at < run.cycles → GoesOn old mid → RunCause start run mid new command_outcome
+    → (observable → RunLeaves start run old.files new.files command_outcome) → RunEnds observable run old new command_outcome
+end-of-run observable run start old mid new (Done from frames accesses halted) one end may begins ahead on cause leaves =
     (end, (λ none. cause.from ∙ may none), λ t. run-from run start old mid new (Done from frames accesses halted) one (begins t) ahead on cause (leaves t))
-end-of-run told run start old mid new Memory one end may begins ahead on cause leaves = tt
-end-of-run told run start old mid new (WriteFault which) one end may begins ahead on cause leaves =
+end-of-run observable run start old mid new Memory one end may begins ahead on cause leaves = tt
+end-of-run observable run start old mid new (WriteFault which) one end may begins ahead on cause leaves =
     (end, (λ t. run-from run start old mid new (WriteFault which) one (begins t) ahead on cause (leaves t)), cause-before start run old mid new (WriteFault which) on cause)
-end-of-run told run start old mid new _ one end may begins ahead on cause leaves = absurd cause
+end-of-run observable run start old mid new _ one end may begins ahead on cause leaves = absurd cause
 
-pub files-of-run : (run : Run) (start : Start) (old new : Files) (ending : Ending) → RunLeaves start run old new ending → RunFiles run old new ending
+pub files-of-run : (run : Run) (start : Start) (old new : Files) (command_outcome : CommandOutcome) → RunLeaves start run old new command_outcome → RunFiles run old new command_outcome
 files-of-run run start old new (Done from frames accesses halted) leaves = (all_of (pieces_of start run.cycles), leaves)
 files-of-run run start old new (WriteFault which) leaves = (leaves.parts, leaves.files)
 files-of-run run start old new Memory leaves = leaves
 files-of-run run start old new _ leaves = leaves
 
 -- a run that found no machine
-pub load-ends : (told : Type 0) (run : Run) (old new : DepotState) (ending : Ending) → run.cycles ≤ last_cycle → LoadCause told run old new ending → RunEnds told run old new ending
-load-ends told run old new (ReadFault State) near cause = (near, cause)
-load-ends told run old new (TooLong State) near cause = (near, cause)
-load-ends told run old new (StateWrong place) near cause = (near, cause)
-load-ends told run old new (OtherCart kept given) near cause = (near, cause)
-load-ends told run old new Memory near cause = tt
-load-ends told run old new _ near cause = absurd cause.2
+pub load-ends : (observable : Type 0) (run : Run) (old new : DepotState) (command_outcome : CommandOutcome) → run.cycles ≤ last_cycle → LoadCause observable run old new command_outcome → RunEnds observable run old new command_outcome
+load-ends observable run old new (ReadFault State) near cause = (near, cause)
+load-ends observable run old new (TooLong State) near cause = (near, cause)
+load-ends observable run old new (StateInvalid place) near cause = (near, cause)
+load-ends observable run old new (OtherCart kept given) near cause = (near, cause)
+load-ends observable run old new Memory near cause = tt
+load-ends observable run old new _ near cause = absurd cause.2
 
 -- an output that is begun and empty
 pub empty-parts : (run : Run) (old new : Files) → Holds run old new nothing → LeavesParts run old new nothing
@@ -193,15 +193,15 @@ empty-parts run old new holds = record {
 }
 
 -- a run that found its start, and did not begin
-pub unbegun-run : (told : Type 0) (run : Run) (start : Start) (old mid new : DepotState) (ending : Ending) → AreOne → IsEnd run.cycles → MayBeginAt run start.at
-    → (told → Begins run old.files start) → start.at < run.cycles → GoesOn old mid → (told → mid.files ≡ old.files) → IsUnwritten run mid new ending
-    → (told → LeavesParts run mid.files new.files nothing) → RunEnds told run old new ending
-unbegun-run told run start old mid new ending one end may begins ahead on same unwritten leaves =
-    end-of-run told run start old mid new ending one end may begins ahead on (unwritten-cause start run mid new ending unwritten)
-    (λ t. subst (λ (files : Files). RunLeaves start run files new.files ending) (same t)
-    (unwritten-leaves start run mid.files new.files mid new ending unwritten (leaves t)))
+pub unbegun-run : (observable : Type 0) (run : Run) (start : Start) (old mid new : DepotState) (command_outcome : CommandOutcome) → AreOne → IsEnd run.cycles → MayBeginAt run start.at
+    → (observable → Begins run old.files start) → start.at < run.cycles → GoesOn old mid → (observable → mid.files ≡ old.files) → IsUnwritten run mid new command_outcome
+    → (observable → LeavesParts run mid.files new.files nothing) → RunEnds observable run old new command_outcome
+unbegun-run observable run start old mid new command_outcome one end may begins ahead on same unwritten leaves =
+    end-of-run observable run start old mid new command_outcome one end may begins ahead on (unwritten-cause start run mid new command_outcome unwritten)
+    (λ t. subst (λ (files : Files). RunLeaves start run files new.files command_outcome) (same t)
+    (unwritten-leaves start run mid.files new.files mid new command_outcome unwritten (leaves t)))
 
-pub unbegun-files : (run : Run) (old new : DepotState) (first files : Files) (ending : Ending) → IsUnwritten run old new ending → LeavesParts run first files nothing → RunFiles run first files ending
+pub unbegun-files : (run : Run) (old new : DepotState) (first files : Files) (command_outcome : CommandOutcome) → IsUnwritten run old new command_outcome → LeavesParts run first files nothing → RunFiles run first files command_outcome
 unbegun-files run old new first files (WriteFault which) unwritten leaves = (leaves.parts, leaves.files)
 unbegun-files run old new first files Memory unwritten leaves = leaves
 unbegun-files run old new first files _ unwritten leaves = absurd unwritten

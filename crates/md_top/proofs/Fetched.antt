@@ -2,18 +2,18 @@
 use Rattle.std.proofs.Common.{◌≡◌, ℕ, ◌≤◌, List, length, Option, Some, Result, Ok, Err, refl, sym, subst, ◌↔◌}
 use Rattle.std.specs.Prelude.{IfOk, IsErrOf, IsSomeAnd}
 use Rattle.md_outer.specs.Outside.{DepotState}
-use Rattle.md_pads.specs.Recording.{GoesWrongAt, IsSpelled, Recorded, Spells}
+use Rattle.md_pads.specs.Recording.{InvalidAt, IsSpelled, Recorded, Spells}
 use Rattle.md_pads.specs.declared.fault.RecFault.{RecFault}
 use Rattle.md_pads.specs.declared.fault.RecFault.TheVariants.{Form}
 use Rattle.md_pads.specs.declared.fault.RecFault.TheVariants as fault
-use Rattle.md_top.specs.Inputs.{IsVerdict, Spelled, RecordingCause, Verdict, WrongAt, recording_limit}
-use Rattle.md_top.specs.declared.ending.Ending.TheVariants.{RecordingWrong}
+use Rattle.md_top.specs.Inputs.{IsVerdict, Spelled, RecordingCause, Verdict, InvalidAt, recording_limit}
+use Rattle.md_top.specs.declared.command_outcome.CommandOutcome.TheVariants.{RecordingInvalid}
 
 -- there is a verdict on all bytes
 pub verdict_of : (bytes : List ℕ) (read : Result Recorded RecFault) → IfOk read (λ recording. Spells bytes recording)
-    → ((place : ℕ) → IsErrOf read (Form place) ↔ GoesWrongAt bytes place) → (IsErrOf read fault.NoMemory → IsSpelled bytes) → (verdict : Verdict) × IsVerdict bytes verdict
+    → ((place : ℕ) → IsErrOf read (Form place) ↔ InvalidAt bytes place) → (IsErrOf read fault.NoMemory → IsSpelled bytes) → (verdict : Verdict) × IsVerdict bytes verdict
 verdict_of bytes (Ok recording) found form memory = (Spelled recording, found)
-verdict_of bytes (Err (Form place)) found form memory = (WrongAt place, (form place).0 refl)
+verdict_of bytes (Err (Form place)) found form memory = (InvalidAt place, (form place).0 refl)
 verdict_of bytes (Err fault.NoMemory) found form memory = (Spelled (memory refl).0, (memory refl).1)
 
 -- the bytes are those of a file
@@ -21,7 +21,7 @@ pub held : (P : List ℕ → Type 0) (file : Option (List ℕ)) (bytes : List �
 held P file bytes is p = subst (λ (found : Option (List ℕ)). IsSomeAnd found P) (sym is) p
 
 -- where they go wrong, and the depot tells them, the recording has its cause
-pub wrong_cause : (told : Type 0) (name : List ℕ) (old new : DepotState) (bytes : List ℕ) (place : ℕ) → (told → old.files name ≡ Some bytes)
-    → length bytes ≤ recording_limit → GoesWrongAt bytes place → RecordingCause told (Some name) old new (RecordingWrong place)
-wrong_cause told name old new bytes place is within wrong =
-    λ t. held (λ found. (length found ≤ recording_limit) × GoesWrongAt found place) (old.files name) bytes (is t) (within, wrong)
+pub invalid_cause : (observable : Type 0) (name : List ℕ) (old new : DepotState) (bytes : List ℕ) (place : ℕ) → (observable → old.files name ≡ Some bytes)
+    → length bytes ≤ recording_limit → InvalidAt bytes place → RecordingCause observable (Some name) old new (RecordingInvalid place)
+invalid_cause observable name old new bytes place is within invalid =
+    λ t. held (λ found. (length found ≤ recording_limit) × InvalidAt found place) (old.files name) bytes (is t) (within, invalid)

@@ -77,7 +77,7 @@ ends-here : (start : Start) (machine : MachineValue) (accesses finished : ℕ) �
     → (IsReady machine.at machine.console → IsState machine.console.cart (state_bytes machine.at machine.console) (record { at = machine.at; console = settled_console machine.at machine.console }))
     → RunsWell start machine.at start.at finished accesses machine.console.main.halted
 unfolding halted_from
-ends-here start machine accesses finished came told states lists end saved =
+ends-here start machine accesses finished came observable states lists end saved =
     let small : machine.at ≤ 2 ^ 50 = omega (arith, end.1) in
     let made : IsRunTo start.console machine.at (run_from start machine.at) (entries_from start machine.at) (media_from start machine.at) = run-made start machine.at came.laws small in
     let found : Found start machine.at machine.console (entries_from start machine.at) (media_from start machine.at) = run-found start machine.at came.laws small came.run in
@@ -87,7 +87,7 @@ ends-here start machine accesses finished came told states lists end saved =
       least = made;
       lists = lists;
       from = refl;
-      frames = told ∙ sym (came.laws.frames_counted (run_from start machine.at) machine.at (entries_from start machine.at) (media_from start machine.at) came.from made ∙ frames-left start.console.pal start.at machine.at);
+      frames = observable ∙ sym (came.laws.frames_counted (run_from start machine.at) machine.at (entries_from start machine.at) (media_from start machine.at) came.from made ∙ frames-left start.console.pal start.at machine.at);
       samples = sym (came.laws.levels_counted (run_from start machine.at) machine.at (entries_from start machine.at) (media_from start machine.at) came.from made ∙ pairs-counted start.at machine.at);
       accesses = came.counted;
       halted = ap (λ (m : Console). m.main.halted) found.console;
@@ -99,6 +99,6 @@ ends-here start machine accesses finished came told states lists end saved =
 pub ends-well : (start : Start) (end : ℕ) (machine : MachineValue) (accesses finished : ℕ) → machine.at ≡ end → CameTo start machine accesses → finished ≡ frames_between start.console.pal start.at end → StateLaws → ListsEndAsRun start.at start.console → IsEnd end
     → (IsReady machine.at machine.console → IsState machine.console.cart (state_bytes machine.at machine.console) (record { at = machine.at; console = settled_console machine.at machine.console }))
     → RunsWell start end start.at finished accesses machine.console.main.halted
-ends-well start end machine accesses finished at came told states lists ends saved =
+ends-well start end machine accesses finished at came observable states lists ends saved =
     subst (λ (n : ℕ). RunsWell start n start.at finished accesses machine.console.main.halted) at
-    (ends-here start machine accesses finished came (told ∙ ap (frames_between start.console.pal start.at) (sym at)) states lists (subst IsEnd (sym at) ends) saved)
+    (ends-here start machine accesses finished came (observable ∙ ap (frames_between start.console.pal start.at) (sym at)) states lists (subst IsEnd (sym at) ends) saved)

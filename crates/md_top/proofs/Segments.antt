@@ -20,7 +20,7 @@ use Rattle.md_top.specs.Counts.{pairs_between}
 use Rattle.md_top.specs.Limits.{IsEnd}
 use Rattle.md_top.specs.Outputs.{Pieces, lengthened, nothing}
 use Rattle.md_top.specs.Runs.{RunLaws, entries_from, frames_to, halted_from, journal_to, media_from, moves_from, pieces_of, pieces_until, run_from, sound_until, state_to}
-use Rattle.md_top.proofs.Writes.{AreFront}
+use Rattle.md_top.proofs.Writes.{ArePrefixes}
 use Rattle.md_top.proofs.LeastRuns.{Found, Later, later_run, moves-found, run-found, run-made}
 
 -- where a level has its sums, the pairs of samples stand one after the other
@@ -129,7 +129,7 @@ journal-grows start s t laws small within =
     let more : Later start s t = later_run start s t laws small within in
     (journal_bytes more.entries, sym (journal_bytes-append (entries_from start s) more.entries) ∙ ap journal_bytes (sym more.more_entries))
 
-pub pieces-front : (start : Start) (end s : ℕ) → IsStart start → RunLaws start → end ≤ 2 ^ 50 → s ≤ end → AreFront (pieces_until start end s) (pieces_of start end)
+pub pieces-front : (start : Start) (end s : ℕ) → IsStart start → RunLaws start → end ≤ 2 ^ 50 → s ≤ end → ArePrefixes (pieces_until start end s) (pieces_of start end)
 pieces-front start end s is laws small within = record {
   frames = frames-grow start s end laws small within;
   sound = sound-grows start end s end is laws small within;

@@ -6,13 +6,13 @@ use Rattle.md_args.specs.Words.{Command, Demo, Run, RunCart, RunDemo, Info, Conv
 use Rattle.md_top.specs.Answers.{PutsAll, PutsPart, Reports, Shows}
 use Rattle.md_top.specs.Courses.{start_in}
 use Rattle.md_top.specs.Demos.{IsSummary, demo_start}
-use Rattle.md_top.specs.Endings.{HasCause, LeavesFiles, RunCause, RunLeaves, status_of}
+use Rattle.md_top.specs.CommandOutcomes.{HasCause, LeavesFiles, RunCause, RunLeaves, status_of}
 use Rattle.md_top.specs.Outputs.{Holds, nothing}
 use Rattle.md_top.specs.Stages.{IsAboutToRun, IsAboutToRunDemo, IsAnswered, LeavesBegun}
 use Rattle.md_top.specs.declared.begun_run.BegunRun.{BegunRun}
 use Rattle.md_top.specs.declared.course.Course.{Course}
-use Rattle.md_top.specs.declared.ending.Ending.{Ending}
-use Rattle.md_top.specs.declared.ending.Ending.TheVariants.{Done, DemoDone, Memory, Usage, WriteFault}
+use Rattle.md_top.specs.declared.command_outcome.CommandOutcome.{CommandOutcome}
+use Rattle.md_top.specs.declared.command_outcome.CommandOutcome.TheVariants.{Done, DemoDone, Memory, Usage, WriteFault}
 use Rattle.md_top.specs.declared.summary.Summary.{Summary}
 use Rattle.md_machine.specs.Starts.{Start}
 use Rattle.md_top.proofs.Ends.{AreOne, end-of-run, files-of-run, untouched}
@@ -36,76 +36,76 @@ unbegun (Some (Rollback words)) old new same = tt
 -- BEHIND THE LAST
 
 -- words that ask for nothing
-pub usage_answered : (told sink : Type 0) (command : Option Command) (old now : DepotState) (out out' : SinkState) (status : ℕ) → command ≡ None → now ≡ old → status ≡ 2
-    → PutsAll sink (codes "refused: usage\n") out out' ⊎ PutsPart sink (codes "refused: usage\n") out out' → IsAnswered told sink command old now out out' status
-usage_answered told sink command old now out out' status none same two put =
-    subst (λ (asked : Option Command). IsAnswered told sink asked old now out out' status) (sym none)
-    (subst (λ (new : DepotState). IsAnswered told sink None old new out out' status) (sym same)
-    (record { ending = Usage; cause = tt; files = λ t. refl; between = out; shown = refl; reports = line_of sink (codes "refused: usage\n") 2 out out' status two refl put }, none_causes told old out out' status (inl two)))
+pub usage_answered : (observable sink : Type 0) (command : Option Command) (old now : DepotState) (out out' : SinkState) (status : ℕ) → command ≡ None → now ≡ old → status ≡ 2
+    → PutsAll sink (codes "refused: usage\n") out out' ⊎ PutsPart sink (codes "refused: usage\n") out out' → IsAnswered observable sink command old now out out' status
+usage_answered observable sink command old now out out' status none same two put =
+    subst (λ (asked : Option Command). IsAnswered observable sink asked old now out out' status) (sym none)
+    (subst (λ (new : DepotState). IsAnswered observable sink None old new out out' status) (sym same)
+    (record { command_outcome = Usage; cause = tt; files = λ t. refl; between = out; shown = refl; reports = line_of sink (codes "refused: usage\n") 2 out out' status two refl put }, none_causes observable old out out' status (inl two)))
 
 -- out of memory for the words
-pub memory_answered : (told sink : Type 0) (command : Option Command) (old now : DepotState) (out out' : SinkState) (status : ℕ) → now ≡ old → status ≡ 10
-    → PutsAll sink (codes "refused: memory\n") out out' ⊎ PutsPart sink (codes "refused: memory\n") out out' → IsAnswered told sink command old now out out' status
-memory_answered told sink command old now out out' status same ten put =
-    subst (λ (new : DepotState). IsAnswered told sink command old new out out' status) (sym same)
-    (memory_answers told sink command old out out' status ten put, memory_causes told sink command old out out' status ten put)
+pub memory_answered : (observable sink : Type 0) (command : Option Command) (old now : DepotState) (out out' : SinkState) (status : ℕ) → now ≡ old → status ≡ 10
+    → PutsAll sink (codes "refused: memory\n") out out' ⊎ PutsPart sink (codes "refused: memory\n") out out' → IsAnswered observable sink command old now out out' status
+memory_answered observable sink command old now out out' status same ten put =
+    subst (λ (new : DepotState). IsAnswered observable sink command old new out out' status) (sym same)
+    (memory_answers observable sink command old out out' status ten put, memory_causes observable sink command old out out' status ten put)
 
 -- a command that resulted in an ending
-pub ended_answered : (told sink : Type 0) (command : Option Command) (asked : Command) (old new : DepotState) (out between out' : SinkState) (status : ℕ) (ending : Ending)
-    → Some asked ≡ command → HasCause told (Some asked) old new ending → (told → LeavesFiles (Some asked) old.files new.files ending)
-    → Shows told sink (Some asked) old.files ending out between → Reports sink (Some asked) ending between out' status → IsAnswered told sink command old new out out' status
-ended_answered told sink command asked old new out between out' status ending same cause leaves shown reports =
-    subst (λ (words : Option Command). IsAnswered told sink words old new out out' status) same (
-      record { ending = ending; cause = cause; files = leaves; between = between; shown = shown; reports = reports },
-      causes_of told sink asked old new out between out' status ending cause leaves shown reports,
+pub ended_answered : (observable sink : Type 0) (command : Option Command) (asked : Command) (old new : DepotState) (out between out' : SinkState) (status : ℕ) (command_outcome : CommandOutcome)
+    → Some asked ≡ command → HasCause observable (Some asked) old new command_outcome → (observable → LeavesFiles (Some asked) old.files new.files command_outcome)
+    → Shows observable sink (Some asked) old.files command_outcome out between → Reports sink (Some asked) command_outcome between out' status → IsAnswered observable sink command old new out out' status
+ended_answered observable sink command asked old new out between out' status command_outcome same cause leaves shown reports =
+    subst (λ (words : Option Command). IsAnswered observable sink words old new out out' status) same (
+      record { command_outcome = command_outcome; cause = cause; files = leaves; between = between; shown = shown; reports = reports },
+      causes_of observable sink asked old new out between out' status command_outcome cause leaves shown reports,
     )
 
 -- a run
-pub run_answered : (told sink : Type 0) (run : Run) (begun : BegunRun) (first now new : DepotState) (out out' : SinkState) (status : ℕ) (ending : Ending) → AreOne
-    → IsAboutToRun told run first now begun → RunCause (start_in begun.course) run now new ending
-    → (told → (files : Files) → Holds run files now.files nothing → RunLeaves (start_in begun.course) run files new.files ending)
-    → Reports sink (Some (RunCart run)) ending out out' status → IsAnswered told sink (Some (RunCart run)) first new out out' status
-run_answered told sink run begun first now new out out' status ending one about cause leaves reports =
+pub run_answered : (observable sink : Type 0) (run : Run) (begun : BegunRun) (first now new : DepotState) (out out' : SinkState) (status : ℕ) (command_outcome : CommandOutcome) → AreOne
+    → IsAboutToRun observable run first now begun → RunCause (start_in begun.course) run now new command_outcome
+    → (observable → (files : Files) → Holds run files now.files nothing → RunLeaves (start_in begun.course) run files new.files command_outcome)
+    → Reports sink (Some (RunCart run)) command_outcome out out' status → IsAnswered observable sink (Some (RunCart run)) first new out out' status
+run_answered observable sink run begun first now new out out' status command_outcome one about cause leaves reports =
     let start : Start = start_in begun.course in
-    let left : told → RunLeaves start run first.files new.files ending = λ t. leaves t first.files (about.empty t) in
-    ended_answered told sink (Some (RunCart run)) (RunCart run) first new out out out' status ending refl
-    (end-of-run told run start first now new ending one about.has.end about.has.may about.has.begins about.has.above about.later cause left)
-    (λ t. files-of-run run start first.files new.files ending (left t)) refl reports
+    let left : observable → RunLeaves start run first.files new.files command_outcome = λ t. leaves t first.files (about.empty t) in
+    ended_answered observable sink (Some (RunCart run)) (RunCart run) first new out out out' status command_outcome refl
+    (end-of-run observable run start first now new command_outcome one about.has.end about.has.may about.has.begins about.has.above about.later cause left)
+    (λ t. files-of-run run start first.files new.files command_outcome (left t)) refl reports
 
 -- a run of a demonstration cartridge
-pub demo_answered : (told sink : Type 0) (demo : Demo) (course : Course) (now : DepotState) (out out' : SinkState) (status : ℕ) → IsAboutToRunDemo demo course
+pub demo_answered : (observable sink : Type 0) (demo : Demo) (course : Course) (now : DepotState) (out out' : SinkState) (status : ℕ) → IsAboutToRunDemo demo course
     → (summary : Summary) × IsSummary (start_in course) demo.cycles summary × Reports sink (Some (RunDemo demo)) (DemoDone summary) out out' status
-    → IsAnswered told sink (Some (RunDemo demo)) now now out out' status
-demo_answered told sink demo course now out out' status about (summary, is, reports) =
-    ended_answered told sink (Some (RunDemo demo)) (RunDemo demo) now now out out out' status (DemoDone summary) refl
+    → IsAnswered observable sink (Some (RunDemo demo)) now now out out' status
+demo_answered observable sink demo course now out out' status about (summary, is, reports) =
+    ended_answered observable sink (Some (RunDemo demo)) (RunDemo demo) now now out out out' status (DemoDone summary) refl
     (refl, (about.end, subst (λ (start : Start). IsSummary start demo.cycles summary) about.start is)) (λ t. refl) refl reports
 
 -- the same with the words that asked for it, and the depot as it was before
-pub asked_answered : (told sink : Type 0) (command : Option Command) (asked : Command) (old new : DepotState) (out out' : SinkState) (status : ℕ)
-    → Some asked ≡ command → IsAnswered told sink (Some asked) old new out out' status → IsAnswered told sink command old new out out' status
-asked_answered told sink command asked old new out out' status same is = subst (λ (words : Option Command). IsAnswered told sink words old new out out' status) same is
+pub asked_answered : (observable sink : Type 0) (command : Option Command) (asked : Command) (old new : DepotState) (out out' : SinkState) (status : ℕ)
+    → Some asked ≡ command → IsAnswered observable sink (Some asked) old new out out' status → IsAnswered observable sink command old new out out' status
+asked_answered observable sink command asked old new out out' status same is = subst (λ (words : Option Command). IsAnswered observable sink words old new out out' status) same is
 
-pub kept_answered : (told sink : Type 0) (command : Option Command) (old now : DepotState) (out out' : SinkState) (status : ℕ)
-    → now ≡ old → IsAnswered told sink command now now out out' status → IsAnswered told sink command old now out out' status
-kept_answered told sink command old now out out' status same is = subst (λ (before : DepotState). IsAnswered told sink command before now out out' status) same is
+pub kept_answered : (observable sink : Type 0) (command : Option Command) (old now : DepotState) (out out' : SinkState) (status : ℕ)
+    → now ≡ old → IsAnswered observable sink command now now out out' status → IsAnswered observable sink command old now out out' status
+kept_answered observable sink command old now out out' status same is = subst (λ (before : DepotState). IsAnswered observable sink command before now out out' status) same is
 
 -- and where nothing was put before
-pub shown_answered : (told sink : Type 0) (command : Option Command) (old new : DepotState) (before out out' : SinkState) (status : ℕ)
-    → out ≡ before → IsAnswered told sink command old new out out' status → IsAnswered told sink command old new before out' status
-shown_answered told sink command old new before out out' status same is = subst (λ (first : SinkState). IsAnswered told sink command old new first out' status) same is
+pub shown_answered : (observable sink : Type 0) (command : Option Command) (old new : DepotState) (before out out' : SinkState) (status : ℕ)
+    → out ≡ before → IsAnswered observable sink command old new out out' status → IsAnswered observable sink command old new before out' status
+shown_answered observable sink command old new before out out' status same is = subst (λ (first : SinkState). IsAnswered observable sink command old new first out' status) same is
 
 -- NOT OUT OF MEMORY
 
-pub run_not_ten : (start : Start) (run : Run) (old new : DepotState) (ending : Ending) → RunCause start run old new ending → ending ≢ Memory → status_of ending ≡ 10 → ⊥
+pub run_not_ten : (start : Start) (run : Run) (old new : DepotState) (command_outcome : CommandOutcome) → RunCause start run old new command_outcome → command_outcome ≢ Memory → status_of command_outcome ≡ 10 → ⊥
 run_not_ten start run old new (Done from frames accesses halted) cause other is = omega (arith, is)
 run_not_ten start run old new (WriteFault which) cause other is = omega (arith, is)
 run_not_ten start run old new Memory cause other is = other refl
 run_not_ten start run old new _ cause other is = absurd cause
 
-pub not_ten : (sink : Type 0) (command : Option Command) (ending : Ending) (out out' : SinkState) (status : ℕ) → Reports sink command ending out out' status
-    → (status_of ending ≡ 10 → ⊥) → status ≡ 10 → ⊥
-not_ten sink command ending out out' status reports other ten = by (reported_then sink command ending out out' status reports)
+pub not_ten : (sink : Type 0) (command : Option Command) (command_outcome : CommandOutcome) (out out' : SinkState) (status : ℕ) → Reports sink command command_outcome out out' status
+    → (status_of command_outcome ≡ 10 → ⊥) → status ≡ 10 → ⊥
+not_ten sink command command_outcome out out' status reports other ten = by (reported_then sink command command_outcome out out' status reports)
   where
-    by : IsOf status ending out out' → ⊥
+    by : IsOf status command_outcome out out' → ⊥
     by (inl same) = other (sym same ∙ ten)
     by (inr part) = omega (arith, part.1, ten)

@@ -156,17 +156,17 @@ prefix-trans a b c first second =
     (first.0 ++ second.0, sym (append_assoc a first.0 second.0) ∙ ap (λ (l : List ℕ). l ++ second.0) first.1 ∙ second.1)
 
 -- each is a prefix
-pub record AreFront (front whole : Pieces) : Type 0 where
+pub record ArePrefixes (front whole : Pieces) : Type 0 where
   pub frames : IsPrefix front.frames whole.frames
   pub sound : IsPrefix front.sound whole.sound
   pub journal : IsPrefix front.journal whole.journal
   pub state : IsPrefix front.state whole.state
 
-pub nothing-front : (whole : Pieces) → AreFront nothing whole
+pub nothing-front : (whole : Pieces) → ArePrefixes nothing whole
 nothing-front whole =
     record { frames = (whole.frames, refl); sound = (whole.sound, refl); journal = (whole.journal, refl); state = (whole.state, refl) }
 
-pub only-front : (which : Output) (part piece : List ℕ) → IsPrefix part piece → AreFront (only which part) (only which piece)
+pub only-front : (which : Output) (part piece : List ℕ) → IsPrefix part piece → ArePrefixes (only which part) (only which piece)
 only-front Frames part piece is = record { frames = is; sound = ([], refl); journal = ([], refl); state = ([], refl) }
 only-front Sound part piece is = record { frames = ([], refl); sound = is; journal = ([], refl); state = ([], refl) }
 only-front Journal part piece is = record { frames = ([], refl); sound = ([], refl); journal = is; state = ([], refl) }
@@ -175,8 +175,8 @@ only-front Target part piece is = nothing-front nothing
 only-front Listing part piece is = nothing-front nothing
 
 -- after the same bytes
-pub front-behind : (held part whole : Pieces) → AreFront part whole → AreFront (lengthened held part) (lengthened held whole)
-front-behind held part whole front = record {
+pub front-following : (held part whole : Pieces) → ArePrefixes part whole → ArePrefixes (lengthened held part) (lengthened held whole)
+front-following held part whole front = record {
   frames = prefix-append held.frames part.frames whole.frames front.frames;
   sound = prefix-append held.sound part.sound whole.sound front.sound;
   journal = prefix-append held.journal part.journal whole.journal front.journal;
@@ -184,7 +184,7 @@ front-behind held part whole front = record {
 }
 
 -- the outputs hold their bytes, and so parts of longer ones
-pub parts_left : (run : Run) (first files : Files) (held whole : Pieces) → Holds run first files held → AreFront held whole → LeavesParts run first files whole
+pub parts_left : (run : Run) (first files : Files) (held whole : Pieces) → Holds run first files held → ArePrefixes held whole → LeavesParts run first files whole
 parts_left run first files held whole holds front = record {
   parts = all_of held;
   frames = front.frames;
@@ -199,7 +199,7 @@ part-of None whole longer more is = tt
 part-of (Some part) whole longer more is = prefix-trans part whole longer is more
 
 -- parts of bytes are parts of longer ones
-pub parts-longer : (run : Run) (first files : Files) (whole longer : Pieces) → LeavesParts run first files whole → AreFront whole longer → LeavesParts run first files longer
+pub parts-longer : (run : Run) (first files : Files) (whole longer : Pieces) → LeavesParts run first files whole → ArePrefixes whole longer → LeavesParts run first files longer
 parts-longer run first files whole longer leaves front = record {
   parts = leaves.parts;
   frames = part-of leaves.parts.frames whole.frames longer.frames front.frames leaves.frames;

@@ -10,9 +10,9 @@ use Rattle.md_args.specs.declared.files.Output.TheVariants.{Target}
 use Rattle.file_commands.specs.Conversions as files
 use Rattle.file_commands.specs.Conversions.{IsFound, IsMadeOf, IsOutcome}
 use Rattle.file_commands.specs.declared.converted.Converted.TheVariants as converted
-use Rattle.file_commands.specs.declared.converted.Converted.{Converted as Comes}
-use Rattle.md_top.specs.declared.ending.Ending.{Ending}
-use Rattle.md_top.specs.declared.ending.Ending.TheVariants.{Converted, InputRefused, Memory, ReadFault, TooLong, WriteFault}
+use Rattle.file_commands.specs.declared.converted.Converted.{Converted as Completion}
+use Rattle.md_top.specs.declared.command_outcome.CommandOutcome.{CommandOutcome}
+use Rattle.md_top.specs.declared.command_outcome.CommandOutcome.TheVariants.{Converted, InputRefused, Memory, ReadFault, TooLong, WriteFault}
 
 -- the line of an input that is refused, by the place of the fault
 abbrev pub fault_line : VgmFault → List ℕ
@@ -22,37 +22,37 @@ fault_line (Long place) = codes "refused: vgm long at " ++ decimal place ++ code
 fault_line NoMemory = codes "refused: memory\n"
 
 -- why a conversion ends
-abbrev pub ConvertEnds : Type 0 → Conversion → DepotState → DepotState → Ending → Type 0
-ConvertEnds told conversion old new (Converted size) = files.HasCause told conversion old new (converted.Made size)
-ConvertEnds told conversion old new (ReadFault First) = files.HasCause told conversion old new converted.Unread
-ConvertEnds told conversion old new (TooLong First) = files.HasCause told conversion old new converted.TooLong
-ConvertEnds told conversion old new (InputRefused fault) = files.HasCause told conversion old new (converted.Refused fault)
-ConvertEnds told conversion old new (WriteFault Target) = files.HasCause told conversion old new converted.Unwritten
-ConvertEnds told conversion old new Memory = Unit {0}
-ConvertEnds told conversion old new ending = ⊥
+abbrev pub ConvertEnds : Type 0 → Conversion → DepotState → DepotState → CommandOutcome → Type 0
+ConvertEnds observable conversion old new (Converted size) = files.HasCause observable conversion old new (converted.Made size)
+ConvertEnds observable conversion old new (ReadFault First) = files.HasCause observable conversion old new converted.Unread
+ConvertEnds observable conversion old new (TooLong First) = files.HasCause observable conversion old new converted.TooLong
+ConvertEnds observable conversion old new (InputRefused fault) = files.HasCause observable conversion old new (converted.Refused fault)
+ConvertEnds observable conversion old new (WriteFault Target) = files.HasCause observable conversion old new converted.Unwritten
+ConvertEnds observable conversion old new Memory = Unit {0}
+ConvertEnds observable conversion old new command_outcome = ⊥
 
 -- what the files hold once a conversion has ended, or was refused
-abbrev pub ConvertFiles : Conversion → Files → Files → Ending → Type 0
+abbrev pub ConvertFiles : Conversion → Files → Files → CommandOutcome → Type 0
 ConvertFiles conversion old new (Converted size) = files.LeavesFiles conversion old new (converted.Made size)
 ConvertFiles conversion old new (WriteFault Target) = files.LeavesFiles conversion old new converted.Unwritten
-ConvertFiles conversion old new ending = new ≡ old
+ConvertFiles conversion old new command_outcome = new ≡ old
 
 -- the input of a conversion is held, within its limit and accepted
 abbrev pub CanConvert : Conversion → Files → Type 0
 CanConvert conversion held = (made : List ℕ) × IsMadeOf conversion (held conversion.input) made
 
 -- what a conversion results in, as its ending
-abbrev pub as_ending : Comes → Ending
-as_ending (converted.Made size) = Converted size
-as_ending converted.Unread = ReadFault First
-as_ending converted.TooLong = TooLong First
-as_ending (converted.Refused fault) = InputRefused fault
-as_ending converted.Unwritten = WriteFault Target
-as_ending converted.NoMemory = Memory
+abbrev pub as_command_outcome : Completion → CommandOutcome
+as_command_outcome (converted.Made size) = Converted size
+as_command_outcome converted.Unread = ReadFault First
+as_command_outcome converted.TooLong = TooLong First
+as_command_outcome (converted.Refused fault) = InputRefused fault
+as_command_outcome converted.Unwritten = WriteFault Target
+as_command_outcome converted.NoMemory = Memory
 
 -- the ending where no fault comes between and memory suffices, with this outcome of the input
-abbrev pub convert_ending : Conversion → Files → Outcome → Ending
-convert_ending conversion held outcome = as_ending (files.right_ending (held conversion.input) outcome)
+abbrev pub convert_command_outcome : Conversion → Files → Outcome → CommandOutcome
+convert_command_outcome conversion held outcome = as_command_outcome (files.right_completion (held conversion.input) outcome)
 
 -- the input of a conversion results in this, if one is asked for
 abbrev pub IsInputOutcome : Option Conversion → Files → Outcome → Type 0
@@ -61,4 +61,4 @@ IsInputOutcome (Some conversion) held outcome = IsOutcome conversion (bytes_of h
 
 -- the input of a conversion is refused
 abbrev pub IsRefusedInput : Type 0 → Conversion → Files → Type 0
-IsRefusedInput told conversion held = (fault : VgmFault) × (told → IsFound conversion (held conversion.input) (Failed fault))
+IsRefusedInput observable conversion held = (fault : VgmFault) × (observable → IsFound conversion (held conversion.input) (Failed fault))

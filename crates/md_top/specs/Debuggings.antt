@@ -5,13 +5,13 @@ use Rattle.md_args.specs.Words.{Debugging}
 use Rattle.md_args.specs.declared.files.Input.TheVariants.{Script}
 use Rattle.md_debug.specs.declared.fault.DebugFault.{DebugFault}
 use Rattle.md_debug.specs.declared.fault.DebugFault.TheVariants.{BadNumber, NoMemory, NotKept, UnknownWord}
-use Rattle.md_debug.specs.declared.script.Ending.{Ending as ScriptEnding}
-use Rattle.md_debug.specs.declared.script.Ending.TheVariants.{Obeyed, OutOfMemory, Refused}
+use Rattle.md_debug.specs.declared.script.SessionOutcome.{SessionOutcome as ScriptOutcome}
+use Rattle.md_debug.specs.declared.script.SessionOutcome.TheVariants.{Obeyed, OutOfMemory, Refused}
 use Rattle.md_debug.specs.Scripts.{FailsWithin, PutsWhole}
 use Rattle.md_debug.specs.Opened.{PlaysScript, StopsScript}
 use Rattle.md_top.specs.Inputs.{CartCause, IsAccepted, IsTooLong, IsUnread, cart_of}
-use Rattle.md_top.specs.declared.ending.Ending.{Ending}
-use Rattle.md_top.specs.declared.ending.Ending.TheVariants.{Played, ReadFault, ReplyFault, ScriptMemory, ScriptRefused, TooLong}
+use Rattle.md_top.specs.declared.command_outcome.CommandOutcome.{CommandOutcome}
+use Rattle.md_top.specs.declared.command_outcome.CommandOutcome.TheVariants.{Played, ReadFault, ReplyFault, ScriptMemory, ScriptRefused, TooLong}
 
 -- the greatest length of a script
 abbrev pub script_limit : ℕ
@@ -29,41 +29,41 @@ abbrev pub script_line : ℕ → DebugFault → List ℕ
 script_line line fault = (codes "refused: script line " ++ decimal line) ++ fault_text fault
 
 -- what a script results in, as an ending
-abbrev pub played_ending : ScriptEnding → Ending
-played_ending Obeyed = Played
-played_ending (Refused line fault) = ScriptRefused line fault
-played_ending OutOfMemory = ScriptMemory
+abbrev pub played_outcome : ScriptOutcome → CommandOutcome
+played_outcome Obeyed = Played
+played_outcome (Refused line fault) = ScriptRefused line fault
+played_outcome OutOfMemory = ScriptMemory
 
 -- the cartridge is accepted and the script held, within its limit; its lines result in these replies and this ending
-abbrev pub IsPlayed : Debugging → Files → List ℕ → ScriptEnding → Type 0
-IsPlayed words held replies ending =
-    IsAccepted (held words.rom) × IsSomeAnd (held words.script) (λ script. (length script ≤ script_limit) × PlaysScript (cart_of words.rom held) script replies ending)
+abbrev pub IsPlayed : Debugging → Files → List ℕ → ScriptOutcome → Type 0
+IsPlayed words held replies command_outcome =
+    IsAccepted (held words.rom) × IsSomeAnd (held words.script) (λ script. (length script ≤ script_limit) × PlaysScript (cart_of words.rom held) script replies command_outcome)
 
 -- a reply to a line of the script could not be put
 abbrev pub IsStopped : Type 0 → Debugging → Files → SinkState → SinkState → Type 0
-IsStopped told words held out out' =
-    IsAccepted (held words.rom) × IsSomeAnd (held words.script) (λ script. (length script ≤ script_limit) × StopsScript told (cart_of words.rom held) script out out')
+IsStopped observable words held out out' =
+    IsAccepted (held words.rom) × IsSomeAnd (held words.script) (λ script. (length script ≤ script_limit) × StopsScript observable (cart_of words.rom held) script out out')
 
 -- What was put when a session ends so: the replies to the lines that were obeyed, each when its line was; where one
 -- of them could not be put, those before it and a prefix of it.
-abbrev pub ShowsReplies : Type 0 → Type 0 → Debugging → Files → Ending → SinkState → SinkState → Type 0
-ShowsReplies told sink words held Played out out' = (replies : List ℕ) × (told → IsPlayed words held replies Obeyed) × PutsWhole sink replies out out'
-ShowsReplies told sink words held (ScriptRefused line fault) out out' =
-    (replies : List ℕ) × (told → IsPlayed words held replies (Refused line fault)) × PutsWhole sink replies out out'
-ShowsReplies told sink words held ScriptMemory out out' = (replies : List ℕ) × (told → IsPlayed words held replies OutOfMemory) × PutsWhole sink replies out out'
-ShowsReplies told sink words held ReplyFault out out' = (replies : List ℕ) × (told → IsStopped sink words held out out') × FailsWithin sink replies out out'
-ShowsReplies told sink words held ending out out' = out' ≡ out
+abbrev pub ShowsReplies : Type 0 → Type 0 → Debugging → Files → CommandOutcome → SinkState → SinkState → Type 0
+ShowsReplies observable sink words held Played out out' = (replies : List ℕ) × (observable → IsPlayed words held replies Obeyed) × PutsWhole sink replies out out'
+ShowsReplies observable sink words held (ScriptRefused line fault) out out' =
+    (replies : List ℕ) × (observable → IsPlayed words held replies (Refused line fault)) × PutsWhole sink replies out out'
+ShowsReplies observable sink words held ScriptMemory out out' = (replies : List ℕ) × (observable → IsPlayed words held replies OutOfMemory) × PutsWhole sink replies out out'
+ShowsReplies observable sink words held ReplyFault out out' = (replies : List ℕ) × (observable → IsStopped sink words held out out') × FailsWithin sink replies out out'
+ShowsReplies observable sink words held command_outcome out out' = out' ≡ out
 
 -- Why a session ends. Each cause says that none of the earlier ones holds.
-abbrev pub DebugEnds : Type 0 → Debugging → DepotState → DepotState → Ending → Type 0
-DebugEnds told words old new Played = (replies : List ℕ) × (told → IsPlayed words old.files replies Obeyed)
-DebugEnds told words old new (ScriptRefused line fault) = (replies : List ℕ) × (told → IsPlayed words old.files replies (Refused line fault))
-DebugEnds told words old new ScriptMemory = (replies : List ℕ) × (told → IsPlayed words old.files replies OutOfMemory)
-DebugEnds told words old new ReplyFault =
-    told → IsAccepted (old.files words.rom) × IsSomeAnd (old.files words.script) (λ script. length script ≤ script_limit)
-DebugEnds told words old new (ReadFault Script) = (told → IsAccepted (old.files words.rom)) × IsUnread told words.script old new
-DebugEnds told words old new (TooLong Script) = (told → IsAccepted (old.files words.rom)) × IsTooLong told script_limit words.script old
-DebugEnds told words old new ending = CartCause told words.rom old new ending
+abbrev pub DebugEnds : Type 0 → Debugging → DepotState → DepotState → CommandOutcome → Type 0
+DebugEnds observable words old new Played = (replies : List ℕ) × (observable → IsPlayed words old.files replies Obeyed)
+DebugEnds observable words old new (ScriptRefused line fault) = (replies : List ℕ) × (observable → IsPlayed words old.files replies (Refused line fault))
+DebugEnds observable words old new ScriptMemory = (replies : List ℕ) × (observable → IsPlayed words old.files replies OutOfMemory)
+DebugEnds observable words old new ReplyFault =
+    observable → IsAccepted (old.files words.rom) × IsSomeAnd (old.files words.script) (λ script. length script ≤ script_limit)
+DebugEnds observable words old new (ReadFault Script) = (observable → IsAccepted (old.files words.rom)) × IsUnread observable words.script old new
+DebugEnds observable words old new (TooLong Script) = (observable → IsAccepted (old.files words.rom)) × IsTooLong observable script_limit words.script old
+DebugEnds observable words old new command_outcome = CartCause observable words.rom old new command_outcome
 
 -- the cartridge is accepted, the script is held, and each of its lines is obeyed
 abbrev pub CanDebug : Debugging → Files → Type 0
@@ -71,15 +71,15 @@ CanDebug words held = (replies : List ℕ) × IsPlayed words held replies Obeyed
 
 -- a line of the script is the first that is refused
 abbrev pub IsRefusedScript : Type 0 → Debugging → Files → Type 0
-IsRefusedScript told words held = (replies : List ℕ) × (line : ℕ) × (fault : DebugFault) × (told → IsPlayed words held replies (Refused line fault))
+IsRefusedScript observable words held = (replies : List ℕ) × (line : ℕ) × (fault : DebugFault) × (observable → IsPlayed words held replies (Refused line fault))
 
 -- what the lines of a script result in: the replies and the ending
 pub record Scripted : Type 0 where
   pub replies : List ℕ
-  pub ending : ScriptEnding
+  pub command_outcome : ScriptOutcome
 
 -- the lines of the script of a session result in this, if one is asked for, with memory for all of them
 abbrev pub IsScripted : Option Debugging → Files → Scripted → Type 0
 IsScripted None held script = Unit {0}
 IsScripted (Some words) held script =
-    PlaysScript (cart_of words.rom held) (bytes_of held words.script) script.replies script.ending × (script.ending ≢ OutOfMemory)
+    PlaysScript (cart_of words.rom held) (bytes_of held words.script) script.replies script.command_outcome × (script.command_outcome ≢ OutOfMemory)

@@ -4,13 +4,13 @@ use Rattle.rom_header.specs.Cartridge.{fault_of, image}
 use Rattle.rom_header.specs.declared.cart.CartFault.{CartFault}
 use Rattle.rom_header.specs.declared.cart.CartFault.TheVariants as fault
 use Rattle.md_outer.specs.Outside.{DepotState, Files, Rose, bytes_of}
-use Rattle.md_pads.specs.Recording.{GoesWrongAt, Recorded, Spells, no_frames}
+use Rattle.md_pads.specs.Recording.{InvalidAt, Recorded, Spells, no_frames}
 use Rattle.md_args.specs.Files.{input_of}
 use Rattle.md_args.specs.Words.{Command, Run}
 use Rattle.md_args.specs.declared.files.Input.{Input}
 use Rattle.md_args.specs.declared.files.Input.TheVariants.{First, Recording}
-use Rattle.md_top.specs.declared.ending.Ending.{Ending}
-use Rattle.md_top.specs.declared.ending.Ending.TheVariants.{ReadFault, Short, NoMark, RecordingWrong, Memory, TooLong}
+use Rattle.md_top.specs.declared.command_outcome.CommandOutcome.{CommandOutcome}
+use Rattle.md_top.specs.declared.command_outcome.CommandOutcome.TheVariants.{ReadFault, Short, NoMark, RecordingInvalid, Memory, TooLong}
 use Rattle.md_top.specs.declared.inputs.Inputs.{Inputs}
 
 -- Why each ending may come. What a file holds is spoken of where the depot's contents are observable. Each cause says
@@ -18,11 +18,11 @@ use Rattle.md_top.specs.declared.inputs.Inputs.{Inputs}
 
 -- the file of this name could not be read: a count of faults rose, or the depot tells its contents and holds no such file
 abbrev pub IsUnread : Type 0 → List ℕ → DepotState → DepotState → Type 0
-IsUnread told name old new = Rose old.read_faults new.read_faults ⊎ (told × (old.files name ≡ None))
+IsUnread observable name old new = Rose old.read_faults new.read_faults ⊎ (observable × (old.files name ≡ None))
 
 -- it is longer than the limit
 abbrev pub IsTooLong : Type 0 → ℕ → List ℕ → DepotState → Type 0
-IsTooLong told limit name old = told → IsSomeAnd (old.files name) (λ bytes. limit < length bytes)
+IsTooLong observable limit name old = observable → IsSomeAnd (old.files name) (λ bytes. limit < length bytes)
 
 -- THE CARTRIDGE
 
@@ -39,20 +39,20 @@ abbrev pub cart_of : List ℕ → Files → List ℕ
 cart_of rom files = image (bytes_of files rom)
 
 -- what a command results in whose cartridge is not accepted
-abbrev pub refusal_of : CartFault → Ending
+abbrev pub refusal_of : CartFault → CommandOutcome
 refusal_of fault.Short = Short
 refusal_of fault.Long = TooLong First
 refusal_of fault.NoMark = NoMark
 refusal_of fault.NoMemory = Memory
 
 -- why the cartridge of this name is not there
-abbrev pub CartCause : Type 0 → List ℕ → DepotState → DepotState → Ending → Type 0
-CartCause told rom old new (ReadFault First) = IsUnread told rom old new
-CartCause told rom old new (TooLong First) = IsTooLong told cart_limit rom old
-CartCause told rom old new Short = told → IsSomeAnd (old.files rom) (λ bytes. (length bytes ≤ cart_limit) × (fault_of bytes ≡ Some fault.Short))
-CartCause told rom old new NoMark = told → IsSomeAnd (old.files rom) (λ bytes. (length bytes ≤ cart_limit) × (fault_of bytes ≡ Some fault.NoMark))
-CartCause told rom old new Memory = Unit {0}
-CartCause told rom old new ending = ⊥
+abbrev pub CartCause : Type 0 → List ℕ → DepotState → DepotState → CommandOutcome → Type 0
+CartCause observable rom old new (ReadFault First) = IsUnread observable rom old new
+CartCause observable rom old new (TooLong First) = IsTooLong observable cart_limit rom old
+CartCause observable rom old new Short = observable → IsSomeAnd (old.files rom) (λ bytes. (length bytes ≤ cart_limit) × (fault_of bytes ≡ Some fault.Short))
+CartCause observable rom old new NoMark = observable → IsSomeAnd (old.files rom) (λ bytes. (length bytes ≤ cart_limit) × (fault_of bytes ≡ Some fault.NoMark))
+CartCause observable rom old new Memory = Unit {0}
+CartCause observable rom old new command_outcome = ⊥
 
 -- THE RECORDING
 
@@ -66,28 +66,28 @@ Records None files recording = recording ≡ no_frames
 Records (Some name) files recording = IsSomeAnd (files name) (λ bytes. (length bytes ≤ recording_limit) × Spells bytes recording)
 
 -- why the recording of this name is not there
-abbrev pub RecordingCause : Type 0 → Option (List ℕ) → DepotState → DepotState → Ending → Type 0
-RecordingCause told (Some name) old new (ReadFault Recording) = IsUnread told name old new
-RecordingCause told (Some name) old new (TooLong Recording) = IsTooLong told recording_limit name old
-RecordingCause told (Some name) old new (RecordingWrong place) = told → IsSomeAnd (old.files name) (λ bytes. (length bytes ≤ recording_limit) × GoesWrongAt bytes place)
-RecordingCause told (Some name) old new Memory = Unit {0}
-RecordingCause told name old new ending = ⊥
+abbrev pub RecordingCause : Type 0 → Option (List ℕ) → DepotState → DepotState → CommandOutcome → Type 0
+RecordingCause observable (Some name) old new (ReadFault Recording) = IsUnread observable name old new
+RecordingCause observable (Some name) old new (TooLong Recording) = IsTooLong observable recording_limit name old
+RecordingCause observable (Some name) old new (RecordingInvalid place) = observable → IsSomeAnd (old.files name) (λ bytes. (length bytes ≤ recording_limit) × InvalidAt bytes place)
+RecordingCause observable (Some name) old new Memory = Unit {0}
+RecordingCause observable name old new command_outcome = ⊥
 
 -- what the bytes of a recording's file are found to be: the spelling of this recording, or wrong from a
 -- place on
 pub data Verdict : Type 0 where
   Spelled : Recorded → Verdict
-  WrongAt : ℕ → Verdict
+  InvalidAt : ℕ → Verdict
 
 -- the bytes are so
 abbrev pub IsVerdict : List ℕ → Verdict → Type 0
 IsVerdict bytes (Spelled recording) = Spells bytes recording
-IsVerdict bytes (WrongAt place) = GoesWrongAt bytes place
+IsVerdict bytes (InvalidAt place) = InvalidAt bytes place
 
 -- the bytes of the recording of this name are so, if one is named
-abbrev pub IsJudged : Option (List ℕ) → Files → Verdict → Type 0
-IsJudged None files verdict = Unit {0}
-IsJudged (Some name) files verdict = IsVerdict (bytes_of files name) verdict
+abbrev pub IsValidated : Option (List ℕ) → Files → Verdict → Type 0
+IsValidated None files verdict = Unit {0}
+IsValidated (Some name) files verdict = IsVerdict (bytes_of files name) verdict
 
 -- BOTH
 
@@ -99,11 +99,11 @@ pub record AreInputs (run : Run) (files : Files) (inputs : Inputs) : Type 0 wher
   pub pal : inputs.pal ≡ run.pal
 
 -- why the inputs of a run are not there
-abbrev pub InputCause : Type 0 → Run → DepotState → DepotState → Ending → Type 0
-InputCause told run old new (ReadFault Recording) = (told → IsAccepted (old.files run.rom)) × RecordingCause told run.recording old new (ReadFault Recording)
-InputCause told run old new (TooLong Recording) = (told → IsAccepted (old.files run.rom)) × RecordingCause told run.recording old new (TooLong Recording)
-InputCause told run old new (RecordingWrong place) = (told → IsAccepted (old.files run.rom)) × RecordingCause told run.recording old new (RecordingWrong place)
-InputCause told run old new ending = CartCause told run.rom old new ending
+abbrev pub InputCause : Type 0 → Run → DepotState → DepotState → CommandOutcome → Type 0
+InputCause observable run old new (ReadFault Recording) = (observable → IsAccepted (old.files run.rom)) × RecordingCause observable run.recording old new (ReadFault Recording)
+InputCause observable run old new (TooLong Recording) = (observable → IsAccepted (old.files run.rom)) × RecordingCause observable run.recording old new (TooLong Recording)
+InputCause observable run old new (RecordingInvalid place) = (observable → IsAccepted (old.files run.rom)) × RecordingCause observable run.recording old new (RecordingInvalid place)
+InputCause observable run old new command_outcome = CartCause observable run.rom old new command_outcome
 
 -- an input of the command is not held
 abbrev pub IsMissing : Command → Files → Type 0

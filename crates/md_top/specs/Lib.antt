@@ -5,7 +5,7 @@ pub mod Counts
 pub mod Courses
 pub mod Debuggings
 pub mod Demos
-pub mod Endings
+pub mod CommandOutcomes
 pub mod Heard
 pub mod Inputs
 pub mod Laws

@@ -3,13 +3,13 @@ use Rattle.std.specs.Prelude.{◌≡◌, ℕ, ◌<◌, ◌≤◌, List, length, 
 use Rattle.md_outer.specs.Outside.{DepotState, Files, bytes_of}
 use Rattle.md_pads.specs.Recording.{Recorded, no_frames}
 use Rattle.md_machine.specs.Starts.{Start}
-use Rattle.state_laws.specs.Verdicts.{IsStateVerdict, Keeps, OfOther, StateVerdict, StateWrongAt}
+use Rattle.state_laws.specs.Verdicts.{IsStateVerdict, Keeps, OfOther, StateVerdict, StateInvalidAt}
 use Rattle.md_args.specs.Words.{Run}
 use Rattle.md_args.specs.declared.files.Input.TheVariants.{State}
 use Rattle.md_top.specs.Inputs.{AreInputs, IsTooLong, IsUnread, Spelled, Verdict, cart_of}
 use Rattle.md_top.specs.Runs.{powered_on}
-use Rattle.md_top.specs.declared.ending.Ending.{Ending}
-use Rattle.md_top.specs.declared.ending.Ending.TheVariants.{ReadFault, StateWrong, OtherCart, Memory, TooLong}
+use Rattle.md_top.specs.declared.command_outcome.CommandOutcome.{CommandOutcome}
+use Rattle.md_top.specs.declared.command_outcome.CommandOutcome.TheVariants.{ReadFault, StateInvalid, OtherCart, Memory, TooLong}
 use Rattle.md_top.specs.declared.inputs.Inputs.{Inputs}
 
 -- the greatest length of a saved state's file
@@ -44,29 +44,29 @@ abbrev pub CanRun : Run → Files → Type 0
 CanRun run files = (start : Start) × Begins run files start × (start.at < run.cycles)
 
 -- why no machine is made of these inputs and the saved state of this name
-abbrev pub StateCause : Type 0 → Option (List ℕ) → Inputs → DepotState → DepotState → Ending → Type 0
-StateCause told load inputs old new (ReadFault State) = IsSomeAnd load (λ name. IsUnread told name old new)
-StateCause told load inputs old new (TooLong State) = IsSomeAnd load (λ name. IsTooLong told state_limit name old)
-StateCause told load inputs old new (StateWrong place) = IsSomeAnd load (λ name. told → IsFoundIn (old.files name) inputs (StateWrongAt place))
-StateCause told load inputs old new (OtherCart kept given) = IsSomeAnd load (λ name. told → IsFoundIn (old.files name) inputs (OfOther kept given))
-StateCause told load inputs old new Memory = Unit {0}
-StateCause told load inputs old new ending = ⊥
+abbrev pub StateCause : Type 0 → Option (List ℕ) → Inputs → DepotState → DepotState → CommandOutcome → Type 0
+StateCause observable load inputs old new (ReadFault State) = IsSomeAnd load (λ name. IsUnread observable name old new)
+StateCause observable load inputs old new (TooLong State) = IsSomeAnd load (λ name. IsTooLong observable state_limit name old)
+StateCause observable load inputs old new (StateInvalid place) = IsSomeAnd load (λ name. observable → IsFoundIn (old.files name) inputs (StateInvalidAt place))
+StateCause observable load inputs old new (OtherCart kept given) = IsSomeAnd load (λ name. observable → IsFoundIn (old.files name) inputs (OfOther kept given))
+StateCause observable load inputs old new Memory = Unit {0}
+StateCause observable load inputs old new command_outcome = ⊥
 
 -- why the bytes of a saved state's file keep no machine for these inputs
-abbrev pub IsRefused : Inputs → List ℕ → Ending → Type 0
-IsRefused inputs bytes (StateWrong place) = IsFound inputs bytes (StateWrongAt place)
+abbrev pub IsRefused : Inputs → List ℕ → CommandOutcome → Type 0
+IsRefused inputs bytes (StateInvalid place) = IsFound inputs bytes (StateInvalidAt place)
 IsRefused inputs bytes (OtherCart kept given) = IsFound inputs bytes (OfOther kept given)
 IsRefused inputs bytes Memory = Unit {0}
-IsRefused inputs bytes ending = ⊥
+IsRefused inputs bytes command_outcome = ⊥
 
 -- why a run has no machine, with some inputs, which are those that its files hold
-abbrev pub LoadCause : Type 0 → Run → DepotState → DepotState → Ending → Type 0
-LoadCause told run old new ending = (inputs : Inputs) × (told → AreInputs run old.files inputs) × StateCause told run.load inputs old new ending
+abbrev pub LoadCause : Type 0 → Run → DepotState → DepotState → CommandOutcome → Type 0
+LoadCause observable run old new command_outcome = (inputs : Inputs) × (observable → AreInputs run old.files inputs) × StateCause observable run.load inputs old new command_outcome
 
 -- a saved state is named, and its bytes are found to be so
 abbrev pub IsLoadFound : Type 0 → Run → Files → StateVerdict → Type 0
-IsLoadFound told run files verdict =
-    (inputs : Inputs) × (told → AreInputs run files inputs) × IsSomeAnd run.load (λ name. told → IsFoundIn (files name) inputs verdict)
+IsLoadFound observable run files verdict =
+    (inputs : Inputs) × (observable → AreInputs run files inputs) × IsSomeAnd run.load (λ name. observable → IsFoundIn (files name) inputs verdict)
 
 -- the frames of a recording by a verdict on it: none, if none is named or it is invalid
 abbrev pub recording_by : Option (List ℕ) → Verdict → Recorded
@@ -78,11 +78,11 @@ abbrev pub inputs_by : Run → Files → Verdict → Inputs
 inputs_by run files verdict = record { cart = cart_of run.rom files; recording = recording_by run.recording verdict; pal = run.pal }
 
 -- with these inputs the bytes of the saved state of this name are so, if one is named
-abbrev pub IsLoadJudged : Option (List ℕ) → Inputs → Files → StateVerdict → Type 0
-IsLoadJudged None inputs files state = Unit {0}
-IsLoadJudged (Some name) inputs files state = IsFound inputs (bytes_of files name) state
+abbrev pub IsLoadValidated : Option (List ℕ) → Inputs → Files → StateVerdict → Type 0
+IsLoadValidated None inputs files state = Unit {0}
+IsLoadValidated (Some name) inputs files state = IsFound inputs (bytes_of files name) state
 
 -- the bytes of the saved state of a run are so, if one is named
-abbrev pub IsStateJudged : Option Run → Files → Verdict → StateVerdict → Type 0
-IsStateJudged None files verdict state = Unit {0}
-IsStateJudged (Some run) files verdict state = IsLoadJudged run.load (inputs_by run files verdict) files state
+abbrev pub IsStateValidated : Option Run → Files → Verdict → StateVerdict → Type 0
+IsStateValidated None files verdict state = Unit {0}
+IsStateValidated (Some run) files verdict state = IsLoadValidated run.load (inputs_by run files verdict) files state

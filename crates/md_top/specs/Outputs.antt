@@ -5,8 +5,8 @@ use Rattle.md_args.specs.Files.{run_output}
 use Rattle.md_args.specs.Words.{Run}
 use Rattle.md_args.specs.declared.files.Output.{Output}
 use Rattle.md_args.specs.declared.files.Output.TheVariants.{Frames, Journal, Listing, Save, Sound, Target}
-use Rattle.md_top.specs.declared.ending.Ending.{Ending}
-use Rattle.md_top.specs.declared.ending.Ending.TheVariants.{WriteFault, Memory}
+use Rattle.md_top.specs.declared.command_outcome.CommandOutcome.{CommandOutcome}
+use Rattle.md_top.specs.declared.command_outcome.CommandOutcome.TheVariants.{WriteFault, Memory}
 use Rattle.md_top.specs.declared.outputs.Outputs.{Outputs}
 
 -- bytes of the four outputs
@@ -85,14 +85,14 @@ abbrev pub LeavesOthers : Run → Files → Files → Type 0
 LeavesOthers run old new = (parts : Parts) × (new ≡ written run old parts)
 
 -- an output that is asked for could not be written: a count of faults rose
-abbrev pub IsWriteFault : Run → DepotState → DepotState → Ending → Type 0
+abbrev pub IsWriteFault : Run → DepotState → DepotState → CommandOutcome → Type 0
 IsWriteFault run old new (WriteFault which) = IsSome (run_output run which) × Rose old.write_faults new.write_faults
-IsWriteFault run old new ending = ⊥
+IsWriteFault run old new command_outcome = ⊥
 
 -- or out of memory
-abbrev pub IsUnwritten : Run → DepotState → DepotState → Ending → Type 0
+abbrev pub IsUnwritten : Run → DepotState → DepotState → CommandOutcome → Type 0
 IsUnwritten run old new Memory = Unit {0}
-IsUnwritten run old new ending = IsWriteFault run old new ending
+IsUnwritten run old new command_outcome = IsWriteFault run old new command_outcome
 
 -- an output that is asked for was begun, and this is its number
 abbrev pub IsBegun : (ℕ → Option (List ℕ)) → Option ℕ → Option (List ℕ) → Type 0

@@ -6,13 +6,13 @@ use Rattle.md_args.specs.Words.{Rolling}
 use Rattle.md_args.specs.declared.files.Input.TheVariants.{Script}
 use Rattle.md_rollback.specs.declared.line_fault.LineFault.{LineFault}
 use Rattle.md_rollback.specs.declared.line_fault.LineFault.TheVariants as faults
-use Rattle.md_rollback.specs.Rolls.{ComesTo}
-use Rattle.md_rollback.specs.declared.rolled.Comes.{Comes}
-use Rattle.md_rollback.specs.declared.rolled.Comes.TheVariants as comes
+use Rattle.md_rollback.specs.Rolls.{CompletesWith}
+use Rattle.md_rollback.specs.declared.rolled.Completion.{Completion}
+use Rattle.md_rollback.specs.declared.rolled.Completion.TheVariants as completion
 use Rattle.md_rollback.specs.declared.rolled.Rolled.{Rolled}
 use Rattle.md_top.specs.Inputs.{CartCause, IsAccepted, IsTooLong, IsUnread, cart_of}
-use Rattle.md_top.specs.declared.ending.Ending.{Ending}
-use Rattle.md_top.specs.declared.ending.Ending.TheVariants.{LineRefused, Memory, ReadFault, RolledBack, TooLong}
+use Rattle.md_top.specs.declared.command_outcome.CommandOutcome.{CommandOutcome}
+use Rattle.md_top.specs.declared.command_outcome.CommandOutcome.TheVariants.{LineRefused, Memory, ReadFault, RolledBack, TooLong}
 
 -- the greatest length of what two players press
 abbrev pub inputs_limit : ℕ
@@ -40,33 +40,33 @@ abbrev pub rolled_lines : Rolled → List ℕ
 rolled_lines rolled = counts_lines rolled ++ (codes "state sha256 " ++ encode_lower rolled.digest ++ codes "\n")
 
 -- what the lines result in, as an ending
-abbrev pub comes_ending : Comes → Ending
-comes_ending (comes.Done rolled) = RolledBack rolled
-comes_ending (comes.Refused line fault) = LineRefused line fault
-comes_ending comes.NoMemory = Memory
+abbrev pub completion_outcome : Completion → CommandOutcome
+completion_outcome (completion.Done rolled) = RolledBack rolled
+completion_outcome (completion.Refused line fault) = LineRefused line fault
+completion_outcome completion.NoMemory = Memory
 
 -- the cartridge is accepted and the file held, within its limit; its lines result in this
-abbrev pub IsRolledTo : Rolling → Files → Comes → Type 0
+abbrev pub IsRolledTo : Rolling → Files → Completion → Type 0
 IsRolledTo words held outcome =
-    IsAccepted (held words.rom) × IsSomeAnd (held words.inputs) (λ inputs. (length inputs ≤ inputs_limit) × ComesTo (cart_of words.rom held) words.window inputs outcome)
+    IsAccepted (held words.rom) × IsSomeAnd (held words.inputs) (λ inputs. (length inputs ≤ inputs_limit) × CompletesWith (cart_of words.rom held) words.window inputs outcome)
 
 -- Why a session ends. Each cause says that none of the earlier ones holds.
-abbrev pub RollEnds : Type 0 → Rolling → DepotState → DepotState → Ending → Type 0
-RollEnds told words old new (RolledBack rolled) = told → IsRolledTo words old.files (comes.Done rolled)
-RollEnds told words old new (LineRefused line fault) = told → IsRolledTo words old.files (comes.Refused line fault)
-RollEnds told words old new (ReadFault Script) = (told → IsAccepted (old.files words.rom)) × IsUnread told words.inputs old new
-RollEnds told words old new (TooLong Script) = (told → IsAccepted (old.files words.rom)) × IsTooLong told inputs_limit words.inputs old
-RollEnds told words old new ending = CartCause told words.rom old new ending
+abbrev pub RollEnds : Type 0 → Rolling → DepotState → DepotState → CommandOutcome → Type 0
+RollEnds observable words old new (RolledBack rolled) = observable → IsRolledTo words old.files (completion.Done rolled)
+RollEnds observable words old new (LineRefused line fault) = observable → IsRolledTo words old.files (completion.Refused line fault)
+RollEnds observable words old new (ReadFault Script) = (observable → IsAccepted (old.files words.rom)) × IsUnread observable words.inputs old new
+RollEnds observable words old new (TooLong Script) = (observable → IsAccepted (old.files words.rom)) × IsTooLong observable inputs_limit words.inputs old
+RollEnds observable words old new command_outcome = CartCause observable words.rom old new command_outcome
 
 -- the cartridge is accepted, the file is held, and each of its lines is obeyed
 abbrev pub CanRoll : Rolling → Files → Type 0
-CanRoll words held = (rolled : Rolled) × IsRolledTo words held (comes.Done rolled)
+CanRoll words held = (rolled : Rolled) × IsRolledTo words held (completion.Done rolled)
 
 -- a line is the first that is refused
 abbrev pub IsRefusedLine : Type 0 → Rolling → Files → Type 0
-IsRefusedLine told words held = (line : ℕ) × (fault : LineFault) × (told → IsRolledTo words held (comes.Refused line fault))
+IsRefusedLine observable words held = (line : ℕ) × (fault : LineFault) × (observable → IsRolledTo words held (completion.Refused line fault))
 
 -- the lines of a session result in this, if one is asked for, with memory for all of them
-abbrev pub IsRollFound : Option Rolling → Files → Comes → Type 0
+abbrev pub IsRollFound : Option Rolling → Files → Completion → Type 0
 IsRollFound None held outcome = Unit {0}
-IsRollFound (Some words) held outcome = ComesTo (cart_of words.rom held) words.window (bytes_of held words.inputs) outcome × (outcome ≢ comes.NoMemory)
+IsRollFound (Some words) held outcome = CompletesWith (cart_of words.rom held) words.window (bytes_of held words.inputs) outcome × (outcome ≢ completion.NoMemory)

@@ -6,7 +6,7 @@ use Rattle.md_args.specs.Words.{Command, Demo, Run, RunCart, RunDemo}
 use Rattle.md_top.specs.Answers.{Answers, Causes, Shows}
 use Rattle.md_top.specs.Courses.{IsAtStart, cycle_of, start_in}
 use Rattle.md_top.specs.Demos.{demo_start}
-use Rattle.md_top.specs.Endings.{HasCause, LeavesFiles}
+use Rattle.md_top.specs.CommandOutcomes.{HasCause, LeavesFiles}
 use Rattle.md_top.specs.Limits.{IsEnd}
 use Rattle.md_top.specs.Loads.{Begins, MayBeginAt}
 use Rattle.md_top.specs.Outputs.{AreBegun, Holds, LeavesParts, nothing}
@@ -18,19 +18,19 @@ use Rattle.md_top.specs.declared.prepared.Stage.{Stage}
 use Rattle.md_top.specs.declared.prepared.Stage.TheVariants as stage
 
 -- a run is at its start, which it found in the files, and its end lies above it
-pub record HasStart (told : Type 0) (run : Run) (old : DepotState) (course : Course) : Type 0 where
+pub record HasStart (observable : Type 0) (run : Run) (old : DepotState) (course : Course) : Type 0 where
   pub end : IsEnd run.cycles
   pub above : cycle_of course < run.cycles
   pub first : IsAtStart course
   pub may : MayBeginAt run (cycle_of course)
-  pub begins : told → Begins run old.files (start_in course)
+  pub begins : observable → Begins run old.files (start_in course)
 
 -- a run is about to begin: it is at its start, its outputs are begun and empty, and there is memory for its state
-pub record IsAboutToRun (told : Type 0) (run : Run) (old now : DepotState) (begun : BegunRun) : Type 0 where
-  pub has : HasStart told run old begun.course
+pub record IsAboutToRun (observable : Type 0) (run : Run) (old now : DepotState) (begun : BegunRun) : Type 0 where
+  pub has : HasStart observable run old begun.course
   pub outputs : AreBegun run now.begun begun.outputs
   pub buffers : CanSave run begun.buffers
-  pub empty : told → Holds run old.files now.files nothing
+  pub empty : observable → Holds run old.files now.files nothing
   pub later : GoesOn old now
 
 -- a run of a demonstration cartridge is about to begin
@@ -43,25 +43,25 @@ pub record IsAboutToRunDemo (demo : Demo) (course : Course) : Type 0 where
 -- So far came a command line. The depot was `old` before it, and is `now`; the sink was `out`, and is `shown`: a
 -- session of the debugger alone has put its replies.
 abbrev pub Stands : Type 0 → Type 0 → Option Command → DepotState → DepotState → SinkState → SinkState → Stage → Type 0
-Stands told sink command old now out shown stage.Usage = (command ≡ None) × (now ≡ old) × (shown ≡ out)
-Stands told sink command old now out shown stage.Memory = (now ≡ old) × (shown ≡ out)
-Stands told sink command old now out shown (stage.Ended words ending) =
-    (Some (shown_command words) ≡ command) × HasCause told (Some (shown_command words)) old now ending
-    × (told → LeavesFiles (Some (shown_command words)) old.files now.files ending)
-    × Shows told sink (Some (shown_command words)) old.files ending out shown
-Stands told sink command old now out shown (stage.Run words begun) =
-    (Some (RunCart (shown_run words)) ≡ command) × (shown ≡ out) × IsAboutToRun told (shown_run words) old now begun
-Stands told sink command old now out shown (stage.Demo words course) =
+Stands observable sink command old now out shown stage.Usage = (command ≡ None) × (now ≡ old) × (shown ≡ out)
+Stands observable sink command old now out shown stage.Memory = (now ≡ old) × (shown ≡ out)
+Stands observable sink command old now out shown (stage.Ended words command_outcome) =
+    (Some (shown_command words) ≡ command) × HasCause observable (Some (shown_command words)) old now command_outcome
+    × (observable → LeavesFiles (Some (shown_command words)) old.files now.files command_outcome)
+    × Shows observable sink (Some (shown_command words)) old.files command_outcome out shown
+Stands observable sink command old now out shown (stage.Run words begun) =
+    (Some (RunCart (shown_run words)) ≡ command) × (shown ≡ out) × IsAboutToRun observable (shown_run words) old now begun
+Stands observable sink command old now out shown (stage.Demo words course) =
     (Some (RunDemo (shown_demo words)) ≡ command) × (shown ≡ out) × (now ≡ old) × IsAboutToRunDemo (shown_demo words) course
 
 -- so it was prepared
 abbrev pub IsPrepared : Type 0 → Type 0 → Option Command → DepotState → DepotState → SinkState → SinkState → Prepared → Type 0
-IsPrepared told sink command old now out shown prepared = Stands told sink command old now out shown prepared.stage
+IsPrepared observable sink command old now out shown prepared = Stands observable sink command old now out shown prepared.stage
 
 -- it was prepared, and the depot and the sink are as that left them
 abbrev pub WasPrepared : Type 0 → Type 0 → DepotState → SinkState → Prepared → Type 0
-WasPrepared told sink now shown prepared =
-    (command : Option Command) × (old : DepotState) × (out : SinkState) × IsPrepared told sink command old now out shown prepared
+WasPrepared observable sink now shown prepared =
+    (command : Option Command) × (old : DepotState) × (out : SinkState) × IsPrepared observable sink command old now out shown prepared
 
 -- a run is about to begin
 abbrev pub Runs : Stage → Type 0
@@ -89,5 +89,5 @@ LeavesBegun command old new = Unit {0}
 
 -- the answer as a whole, and one by one
 abbrev pub IsAnswered : Type 0 → Type 0 → Option Command → DepotState → DepotState → SinkState → SinkState → ℕ → Type 0
-IsAnswered depot_told sink_told command old new out out' status =
-    Answers depot_told sink_told command old new out out' status × Causes depot_told command old new out out' status
+IsAnswered depot_observable sink_observable command old new out out' status =
+    Answers depot_observable sink_observable command old new out out' status × Causes depot_observable command old new out out' status

@@ -9,8 +9,8 @@ use Rattle.md_top.specs.Counts.{pairs_between}
 use Rattle.md_top.specs.Debuggings.{script_line}
 use Rattle.md_top.specs.Rollings.{inputs_line, rolled_lines}
 use Rattle.md_top.specs.declared.digests.Digests.{Digests}
-use Rattle.md_top.specs.declared.ending.Ending.{Ending}
-use Rattle.md_top.specs.declared.ending.Ending.TheVariants.{Behind, Converted, DemoDone, Done, InputRefused, LineRefused, Memory, NoMark, OtherCart, Played, ReadFault, RecordingWrong, ReplyFault, RolledBack, ScriptMemory, ScriptRefused, Short, Shown, SourceRefused, StateWrong, TooFar, TooLong, WriteFault}
+use Rattle.md_top.specs.declared.command_outcome.CommandOutcome.{CommandOutcome}
+use Rattle.md_top.specs.declared.command_outcome.CommandOutcome.TheVariants.{Following, Converted, DemoDone, Done, InputRefused, LineRefused, Memory, NoMark, OtherCart, Played, ReadFault, RecordingInvalid, ReplyFault, RolledBack, ScriptMemory, ScriptRefused, Short, Shown, SourceRefused, StateInvalid, TooFar, TooLong, WriteFault}
 
 -- a line of a word and a number
 abbrev pub number_line : List ℕ → ℕ → List ℕ
@@ -56,7 +56,7 @@ abbrev pub file_line : List ℕ → Option (List ℕ) → List ℕ → List ℕ
 file_line word name end = word ++ unwrap_or name [] ++ end
 
 -- what is put: the output, or the one line of a refusal; in a session after the replies, which were put before
-abbrev pub text_of : Option Command → Ending → List ℕ
+abbrev pub text_of : Option Command → CommandOutcome → List ℕ
 text_of (Some command) (Shown lines) = lines
 text_of (Some command) (Done from frames accesses halted) = lines_of from (end_of command) frames accesses halted
 text_of (Some command) (DemoDone summary) = lines_of 0 (end_of command) summary.frames summary.accesses summary.halted ++ digest_lines summary.digests
@@ -67,10 +67,10 @@ text_of (Some command) (ReadFault which) = file_line (codes "fault: reading ") (
 text_of (Some command) (WriteFault which) = file_line (codes "fault: writing ") (output_of command which) (codes "\n")
 text_of (Some command) Short = codes "refused: cartridge: short\n"
 text_of (Some command) NoMark = codes "refused: cartridge: no mark\n"
-text_of (Some command) (RecordingWrong place) = number_line (codes "refused: recording at ") place
-text_of (Some command) (StateWrong place) = number_line (codes "refused: state at ") place
+text_of (Some command) (RecordingInvalid place) = number_line (codes "refused: recording at ") place
+text_of (Some command) (StateInvalid place) = number_line (codes "refused: state at ") place
 text_of (Some command) (OtherCart kept given) = carts_line kept given
-text_of (Some command) (Behind from) = numbers_line (codes "refused: cycle ") (end_of command) (codes " is not above ") from
+text_of (Some command) (Following from) = numbers_line (codes "refused: cycle ") (end_of command) (codes " is not above ") from
 text_of (Some command) ScriptMemory = codes "refused: memory\n"
 text_of (Some command) TooFar = codes "refused: cycle " ++ decimal (end_of command) ++ codes " is too far\n"
 text_of (Some command) ReplyFault = []
@@ -80,4 +80,4 @@ text_of (Some command) (SourceRefused line kind) = source_line line kind
 text_of (Some command) (InputRefused fault) = fault_line fault
 text_of (Some command) (LineRefused line fault) = inputs_line line fault
 text_of command Memory = codes "refused: memory\n"
-text_of command ending = codes "refused: usage\n"
+text_of command command_outcome = codes "refused: usage\n"

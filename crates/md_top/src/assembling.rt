@@ -4,9 +4,9 @@ ghost use Rattle.md_outer.specs.Outside.{PutsText};
 ghost use Rattle.md_top.specs.Assemblies as assemblies;
 ghost use Rattle.md_top.specs.Assemblies.{AsmEnds, AsmFiles, source_line};
 
-use crate::ending::Ending;
+use crate::command_outcome::CommandOutcome;
 use crate::put::put_three;
-use file_commands::{Comes, assemble_file};
+use file_commands::{Completion, assemble_file};
 use itoa::Buffer;
 use md_args::{AsmWords, Input, Output};
 use md_outer::{Depot, Failed, Sink};
@@ -17,18 +17,18 @@ pub(crate) fn assemble_source<D: Depot>(
     alloc: Global,
     words: &AsmWords<'_>,
     depot: &mut D,
-) -> Ending
-    ensures cause { AsmEnds D.told (shown_assembling words.now) (D.state depot.old) (D.state depot.new) result }
-    ensures files { D.told → AsmFiles (shown_assembling words.now) (D.state depot.old).files (D.state depot.new).files result }
+) -> CommandOutcome
+    ensures cause { AsmEnds D.observable (shown_assembling words.now) (D.state depot.old) (D.state depot.new) result }
+    ensures files { D.observable → AsmFiles (shown_assembling words.now) (D.state depot.old).files (D.state depot.new).files result }
 {
     match assemble_file(alloc, words, depot) {
-        Comes::Made(size) => Ending::Converted(size),
-        Comes::Unread => Ending::ReadFault(Input::First),
-        Comes::TooLong => Ending::TooLong(Input::First),
-        Comes::Refused(line, kind) => Ending::SourceRefused(line, kind),
-        Comes::Unwritten => Ending::WriteFault(Output::Target),
-        Comes::Unlisted => Ending::WriteFault(Output::Listing),
-        Comes::NoMemory => Ending::Memory,
+        Completion::Made(size) => CommandOutcome::Converted(size),
+        Completion::Unread => CommandOutcome::ReadFault(Input::First),
+        Completion::TooLong => CommandOutcome::TooLong(Input::First),
+        Completion::Refused(line, kind) => CommandOutcome::SourceRefused(line, kind),
+        Completion::Unwritten => CommandOutcome::WriteFault(Output::Target),
+        Completion::Unlisted => CommandOutcome::WriteFault(Output::Listing),
+        Completion::NoMemory => CommandOutcome::Memory,
     }
 }
 
@@ -51,7 +51,7 @@ fn kind_text(kind: u8) -> &'static str
 
 /// Puts the line of a source that is refused, by its line and the kind of its fault.
 pub(crate) fn put_source_line<S: Sink>(out: &mut S, line: u32, kind: u8) -> Result<(), Failed>
-    ensures { PutsText S.told (source_line line kind) (S.state out.old) (S.state out.new) result }
+    ensures { PutsText S.observable (source_line line kind) (S.state out.old) (S.state out.new) result }
 {
     let mut digits = Buffer::new();
     put_three(

@@ -1,15 +1,15 @@
 ghost use Rattle.std.specs.Prelude.{◌≡◌};
 ghost use Rattle.md_args.specs.Shown.{shown_debugging};
 ghost use Rattle.md_outer.specs.Outside.{PutsText};
-ghost use Rattle.md_top.specs.Debuggings.{DebugEnds, ShowsReplies, fault_text, played_ending, script_line};
+ghost use Rattle.md_top.specs.Debuggings.{DebugEnds, ShowsReplies, fault_text, played_outcome, script_line};
 
-use crate::ending::Ending;
+use crate::command_outcome::CommandOutcome;
 use crate::put::put_two;
 use crate::reading::read_cart;
 use crate::report::put_number;
 use itoa::Buffer;
 use md_args::{DebugWords, Input};
-use md_debug::{DebugFault, Ending as ScriptEnding, play_script};
+use md_debug::{DebugFault, SessionOutcome as ScriptOutcome, play_script};
 use md_outer::{Depot, Failed, Fetch, Sink};
 use std::alloc::Global;
 
@@ -23,35 +23,35 @@ pub(crate) fn debug_cart<D: Depot, S: Sink>(
     words: &DebugWords<'_>,
     depot: &mut D,
     out: &mut S,
-) -> Ending
-    ensures cause { DebugEnds D.told (shown_debugging words.now) (D.state depot.old) (D.state depot.new) result }
-    ensures files { D.told → (D.state depot.new).files ≡ (D.state depot.old).files }
-    ensures shown { ShowsReplies D.told S.told (shown_debugging words.now) (D.state depot.old).files result (S.state out.old) (S.state out.new) }
+) -> CommandOutcome
+    ensures cause { DebugEnds D.observable (shown_debugging words.now) (D.state depot.old) (D.state depot.new) result }
+    ensures files { D.observable → (D.state depot.new).files ≡ (D.state depot.old).files }
+    ensures shown { ShowsReplies D.observable S.observable (shown_debugging words.now) (D.state depot.old).files result (S.state out.old) (S.state out.new) }
 {
     let cart = match read_cart(alloc, words.rom, depot) {
         Ok(cart) => cart,
-        Err(ending) => return ending,
+        Err(command_outcome) => return command_outcome,
     };
     let script = match depot.fetch(alloc, words.script, LONGEST_SCRIPT) {
         Ok(script) => script,
-        Err(Fetch::Failed) => return Ending::ReadFault(Input::Script),
-        Err(Fetch::TooLong) => return Ending::TooLong(Input::Script),
-        Err(Fetch::NoMemory) => return Ending::Memory,
+        Err(Fetch::Failed) => return CommandOutcome::ReadFault(Input::Script),
+        Err(Fetch::TooLong) => return CommandOutcome::TooLong(Input::Script),
+        Err(Fetch::NoMemory) => return CommandOutcome::Memory,
     };
     match play_script(alloc, cart, script.as_slice(), out) {
-        Ok(ending) => ended(ending),
-        Err(Failed) => Ending::ReplyFault,
+        Ok(command_outcome) => ended(command_outcome),
+        Err(Failed) => CommandOutcome::ReplyFault,
     }
 }
 
 /// What a script results in, as an ending.
-fn ended(ending: ScriptEnding) -> Ending
-    ensures { result ≡ played_ending ending }
+fn ended(command_outcome: ScriptOutcome) -> CommandOutcome
+    ensures { result ≡ played_outcome command_outcome }
 {
-    match ending {
-        ScriptEnding::Obeyed => Ending::Played,
-        ScriptEnding::Refused(line, fault) => Ending::ScriptRefused { line, fault },
-        ScriptEnding::OutOfMemory => Ending::ScriptMemory,
+    match command_outcome {
+        ScriptOutcome::Obeyed => CommandOutcome::Played,
+        ScriptOutcome::Refused(line, fault) => CommandOutcome::ScriptRefused { line, fault },
+        ScriptOutcome::OutOfMemory => CommandOutcome::ScriptMemory,
     }
 }
 
@@ -61,7 +61,7 @@ pub(crate) fn put_script_line<S: Sink>(
     line: u64,
     fault: DebugFault,
 ) -> Result<(), Failed>
-    ensures { PutsText S.told (script_line line fault) (S.state out.old) (S.state out.new) result }
+    ensures { PutsText S.observable (script_line line fault) (S.state out.old) (S.state out.new) result }
 {
     let mut digits = Buffer::new();
     match put_two(out, "refused: script line ", digits.format(line).as_bytes()) {
@@ -72,7 +72,7 @@ pub(crate) fn put_script_line<S: Sink>(
 
 /// Puts the end of such a line.
 fn put_fault<S: Sink>(out: &mut S, fault: DebugFault) -> Result<(), Failed>
-    ensures { PutsText S.told (fault_text fault) (S.state out.old) (S.state out.new) result }
+    ensures { PutsText S.observable (fault_text fault) (S.state out.old) (S.state out.new) result }
 {
     match fault {
         DebugFault::UnknownWord => out.put(b": unknown word\n"),

@@ -9,8 +9,8 @@ ghost use Rattle.md_top.specs.Workers.{CanGoOn, WentOn};
 ghost use Rattle.md_args.specs.Shown.{shown_demo};
 ghost use Rattle.md_demo.specs.Demo as meaning;
 
+use crate::command_outcome::CommandOutcome;
 use crate::course::Course;
-use crate::ending::Ending;
 use crate::hashers::Hashers;
 use crate::inputs::Inputs;
 use crate::laws::states_keep_laws;
@@ -31,24 +31,24 @@ use std::alloc::Global;
 
 /// The run of the demonstration cartridge that the words ask for, at power-on and with nothing pressed on the
 /// pads.
-pub(crate) fn begin_demo(alloc: Global, demo: &DemoWords) -> Result<Course, Ending>
+pub(crate) fn begin_demo(alloc: Global, demo: &DemoWords) -> Result<Course, CommandOutcome>
     ensures about { IfOk result (IsAboutToRunDemo (shown_demo demo.now)) }
     ensures err { IfErr result (DemoEnds (shown_demo demo.now)) }
 {
     let demo = *demo;
     if demo.cycles > LAST_CYCLE {
-        return Err(Ending::TooFar);
+        return Err(CommandOutcome::TooFar);
     }
     if demo.cycles == 0 {
-        return Err(Ending::Behind(0));
+        return Err(CommandOutcome::Following(0));
     }
     let machine = match demo_machine(alloc, &demo) {
         Ok(machine) => machine,
-        Err(NoMemory) => return Err(Ending::Memory),
+        Err(NoMemory) => return Err(CommandOutcome::Memory),
     };
     match begin(alloc, machine) {
         Ok(course) => Ok(course),
-        Err(NoMemory) => Err(Ending::Memory),
+        Err(NoMemory) => Err(CommandOutcome::Memory),
     }
 }
 

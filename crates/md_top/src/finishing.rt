@@ -5,15 +5,15 @@ ghost use Rattle.md_top.specs.Courses.{start_in};
 ghost use Rattle.md_top.specs.Demos.{IsSummary};
 ghost use Rattle.md_top.specs.Stages.{IsAboutToRun, IsAboutToRunDemo, IsAnswered, IsPrepared, IsRunning, Runs, Stands, WasPrepared};
 ghost use Rattle.md_top.specs.Workers.{CanGoOn, WentOn};
-ghost use Rattle.md_top.specs.declared.ending.Ending.TheVariants.{DemoDone};
+ghost use Rattle.md_top.specs.declared.command_outcome.CommandOutcome.TheVariants.{DemoDone};
 ghost use Rattle.md_top.specs.declared.summary.Summary.{Summary};
 ghost use Rattle.md_args.specs.Shown.{shown_demo, shown_run};
 ghost use Rattle.md_args.specs.Words.{Command, RunCart, RunDemo};
 
 use crate::begun_run::BegunRun;
+use crate::command_outcome::CommandOutcome;
 use crate::course::Course;
 use crate::demo::sum_up;
-use crate::ending::Ending;
 use crate::laws::runs_begin_once;
 use crate::prepared::{Prepared, Stage};
 use crate::report::{refuse, report};
@@ -38,13 +38,13 @@ pub fn finish<D: Depot, S: Sink, G: Gate, Rt: Threads + Wait + Sync>(
     out: &mut S,
     gate: &G,
 ) -> u8
-    requires { WasPrepared D.told S.told (D.state depot.old) (S.state out.old) prepared }
+    requires { WasPrepared D.observable S.observable (D.state depot.old) (S.state out.old) prepared }
     ensures answer { (command : Option Command) (first : DepotState) (before : SinkState)
-        → IsPrepared D.told S.told command first (D.state depot.old) before (S.state out.old) prepared.entry
-        → Answers D.told S.told command first (D.state depot.new) before (S.state out.new) result }
+        → IsPrepared D.observable S.observable command first (D.state depot.old) before (S.state out.old) prepared.entry
+        → Answers D.observable S.observable command first (D.state depot.new) before (S.state out.new) result }
     ensures causes { (command : Option Command) (first : DepotState) (before : SinkState)
-        → IsPrepared D.told S.told command first (D.state depot.old) before (S.state out.old) prepared.entry
-        → Causes D.told command first (D.state depot.new) before (S.state out.new) result }
+        → IsPrepared D.observable S.observable command first (D.state depot.old) before (S.state out.old) prepared.entry
+        → Causes D.observable command first (D.state depot.new) before (S.state out.new) result }
     ensures memory { IsRunning prepared.entry → result ≢ 10 }
 {
     let number = prepared.workers();
@@ -65,13 +65,13 @@ pub fn finish<D: Depot, S: Sink, G: Gate, Rt: Threads + Wait + Sync>(
 
 /// Does the same as `finish`, but whatever `--workers` asks for, one worker makes the run: it waits for nobody.
 pub fn finish_one<D: Depot, S: Sink>(prepared: Prepared<'_>, depot: &mut D, out: &mut S) -> u8
-    requires { WasPrepared D.told S.told (D.state depot.old) (S.state out.old) prepared }
+    requires { WasPrepared D.observable S.observable (D.state depot.old) (S.state out.old) prepared }
     ensures answer { (command : Option Command) (first : DepotState) (before : SinkState)
-        → IsPrepared D.told S.told command first (D.state depot.old) before (S.state out.old) prepared.entry
-        → Answers D.told S.told command first (D.state depot.new) before (S.state out.new) result }
+        → IsPrepared D.observable S.observable command first (D.state depot.old) before (S.state out.old) prepared.entry
+        → Answers D.observable S.observable command first (D.state depot.new) before (S.state out.new) result }
     ensures causes { (command : Option Command) (first : DepotState) (before : SinkState)
-        → IsPrepared D.told S.told command first (D.state depot.old) before (S.state out.old) prepared.entry
-        → Causes D.told command first (D.state depot.new) before (S.state out.new) result }
+        → IsPrepared D.observable S.observable command first (D.state depot.old) before (S.state out.old) prepared.entry
+        → Causes D.observable command first (D.state depot.new) before (S.state out.new) result }
     ensures memory { IsRunning prepared.entry → result ≢ 10 }
 {
     let alone = |machine: &mut Machine, to: u64|
@@ -93,16 +93,16 @@ fn finish_stage<F: Fn(&mut Machine, u64), D: Depot, S: Sink>(
     requires may { (m : _) (to : ℕ) → CanGoOn m.now to → F.pre go_on.now m to }
     requires goes { (m : _) (to : ℕ) (after : _) → F.post go_on.now m to tt after → WentOn m.now to after.now }
     requires stands { (command : Option Command) × (first : DepotState) × (before : SinkState)
-        × Stands D.told S.told command first (D.state depot.old) before (S.state out.old) stage }
+        × Stands D.observable S.observable command first (D.state depot.old) before (S.state out.old) stage }
     ensures answered { (command : Option Command) (first : DepotState) (before : SinkState)
-        → Stands D.told S.told command first (D.state depot.old) before (S.state out.old) stage.entry
-        → IsAnswered D.told S.told command first (D.state depot.new) before (S.state out.new) result }
+        → Stands D.observable S.observable command first (D.state depot.old) before (S.state out.old) stage.entry
+        → IsAnswered D.observable S.observable command first (D.state depot.new) before (S.state out.new) result }
     ensures memory { Runs stage.entry → result ≢ 10 }
 {
     match stage {
-        Stage::Usage => refuse(out, Ending::Usage, "refused: usage\n"),
-        Stage::Memory => refuse(out, Ending::Memory, "refused: memory\n"),
-        Stage::Ended(command, ending) => report(&command, ending, out),
+        Stage::Usage => refuse(out, CommandOutcome::Usage, "refused: usage\n"),
+        Stage::Memory => refuse(out, CommandOutcome::Memory, "refused: memory\n"),
+        Stage::Ended(command, command_outcome) => report(&command, command_outcome, out),
         Stage::Run(run, begun) => finish_run(go_on, &run, begun, depot, out),
         Stage::Demo(demo, course) => finish_demo(go_on, &demo, course, out),
     }
@@ -118,9 +118,9 @@ fn finish_run<F: Fn(&mut Machine, u64), D: Depot, S: Sink>(
 ) -> u8
     requires may { (m : _) (to : ℕ) → CanGoOn m.now to → F.pre go_on.now m to }
     requires goes { (m : _) (to : ℕ) (after : _) → F.post go_on.now m to tt after → WentOn m.now to after.now }
-    requires about { (first : DepotState) × IsAboutToRun D.told (shown_run run.now) first (D.state depot.old) begun }
-    ensures answered { (first : DepotState) → IsAboutToRun D.told (shown_run run.now) first (D.state depot.old) begun
-        → IsAnswered D.told S.told (Some (RunCart (shown_run run.now))) first (D.state depot.new) (S.state out.old) (S.state out.new) result }
+    requires about { (first : DepotState) × IsAboutToRun D.observable (shown_run run.now) first (D.state depot.old) begun }
+    ensures answered { (first : DepotState) → IsAboutToRun D.observable (shown_run run.now) first (D.state depot.old) begun
+        → IsAnswered D.observable S.observable (Some (RunCart (shown_run run.now))) first (D.state depot.new) (S.state out.old) (S.state out.new) result }
     ensures memory { result ≢ 10 }
 {
     let BegunRun {
@@ -129,8 +129,8 @@ fn finish_run<F: Fn(&mut Machine, u64), D: Depot, S: Sink>(
         buffers,
     } = begun;
     runs_begin_once();
-    let ending = write_all(go_on, run, &outputs, depot, course, buffers);
-    report(&CommandWords::Run(*run), ending, out)
+    let command_outcome = write_all(go_on, run, &outputs, depot, course, buffers);
+    report(&CommandWords::Run(*run), command_outcome, out)
 }
 
 /// Makes the run of a demonstration cartridge, and reports it. `go_on` makes each segment.
@@ -144,9 +144,13 @@ fn finish_demo<F: Fn(&mut Machine, u64), S: Sink>(
     requires goes { (m : _) (to : ℕ) (after : _) → F.post go_on.now m to tt after → WentOn m.now to after.now }
     requires about { IsAboutToRunDemo (shown_demo demo.now) course }
     ensures reported { (summary : Summary) × IsSummary (start_in course) demo.now.cycles summary
-        × Reports S.told (Some (RunDemo (shown_demo demo.now))) (DemoDone summary) (S.state out.old) (S.state out.new) result }
+        × Reports S.observable (Some (RunDemo (shown_demo demo.now))) (DemoDone summary) (S.state out.old) (S.state out.new) result }
     ensures memory { result ≢ 10 }
 {
     let summary = sum_up(go_on, demo.cycles, course);
-    report(&CommandWords::Demo(*demo), Ending::DemoDone(summary), out)
+    report(
+        &CommandWords::Demo(*demo),
+        CommandOutcome::DemoDone(summary),
+        out,
+    )
 }

@@ -12,10 +12,10 @@ ghost use Rattle.md_top.specs.Loads.{Begins};
 ghost use Rattle.md_top.specs.Resuming.{StateLaws};
 ghost use Rattle.md_top.specs.Runs.{RunLaws, is_quiet, media_from, run_from};
 
+use machine_laws::{saved, settling};
 use md_debug::session_laws::debug_laws;
 use md_machine::{Machine, laws};
 use md_pads::Recording;
-use machine_laws::{saved, settling};
 use md_rollback::outcome_laws::rollback_laws;
 use state_laws::verdicts::states_keep_one_machine;
 use std::alloc::Global;

@@ -3,12 +3,12 @@
 
 mod assembling;
 mod begun_run;
+mod command_outcome;
 mod converting;
 mod course;
 mod debugging;
 mod demo;
 mod digests;
-mod ending;
 mod finishing;
 mod hashers;
 mod inputs;

@@ -8,13 +8,13 @@ ghost use Rattle.md_top.specs.Loads.{BeginsWith, IsFound, IsRefused, StateCause}
 ghost use Rattle.state_laws.specs.Verdicts.{Keeps};
 ghost use Rattle.md_top.specs.Runs.{powered_on};
 
-use crate::ending::Ending;
+use crate::command_outcome::CommandOutcome;
 use crate::inputs::Inputs;
+use machine_laws::saved;
 use md_args::Input;
 use md_machine::{Machine, laws};
 use md_outer::{Depot, Fetch};
 use md_pads::Recording;
-use machine_laws::saved;
 use md_word::NoMemory;
 use rom_header::Cart;
 use save_state::{StateFault, read};
@@ -31,20 +31,20 @@ pub(crate) fn first_machine<D: Depot>(
     load: Option<&str>,
     inputs: Inputs,
     depot: &mut D,
-) -> Result<Machine, Ending>
+) -> Result<Machine, CommandOutcome>
     requires { All IsFrame inputs.recording.frames }
-    ensures begins { IfOk result (λ machine. D.told → BeginsWith (option_copied load.entry) (D.state depot.old).files inputs (start_at machine)) }
+    ensures begins { IfOk result (λ machine. D.observable → BeginsWith (option_copied load.entry) (D.state depot.old).files inputs (start_at machine)) }
     ensures at { IfOk result (λ machine. option_copied load.entry ≡ None → machine.at ≡ 0) }
     ensures fresh { IfOk result IsFresh }
-    ensures err { IfErr result (StateCause D.told (option_copied load.entry) inputs (D.state depot.old) (D.state depot.new)) }
-    ensures files { D.told → (D.state depot.new).files ≡ (D.state depot.old).files }
+    ensures err { IfErr result (StateCause D.observable (option_copied load.entry) inputs (D.state depot.old) (D.state depot.new)) }
+    ensures files { D.observable → (D.state depot.new).files ≡ (D.state depot.old).files }
     ensures goes_on { GoesOn (D.state depot.old) (D.state depot.new) }
 {
     match load {
         Some(name) => load_machine(alloc, name, inputs, depot),
         None => match power_on(alloc, inputs) {
             Ok(machine) => Ok(machine),
-            Err(NoMemory) => Err(Ending::Memory),
+            Err(NoMemory) => Err(CommandOutcome::Memory),
         },
     }
 }
@@ -55,24 +55,24 @@ fn load_machine<D: Depot>(
     name: &str,
     inputs: Inputs,
     depot: &mut D,
-) -> Result<Machine, Ending>
+) -> Result<Machine, CommandOutcome>
     requires { All IsFrame inputs.recording.frames }
-    ensures begins { IfOk result (λ machine. D.told → BeginsWith (Some name.now) (D.state depot.old).files inputs (start_at machine)) }
+    ensures begins { IfOk result (λ machine. D.observable → BeginsWith (Some name.now) (D.state depot.old).files inputs (start_at machine)) }
     ensures fresh { IfOk result IsFresh }
-    ensures err { IfErr result (StateCause D.told (Some name.now) inputs (D.state depot.old) (D.state depot.new)) }
-    ensures files { D.told → (D.state depot.new).files ≡ (D.state depot.old).files }
+    ensures err { IfErr result (StateCause D.observable (Some name.now) inputs (D.state depot.old) (D.state depot.new)) }
+    ensures files { D.observable → (D.state depot.new).files ≡ (D.state depot.old).files }
     ensures goes_on { GoesOn (D.state depot.old) (D.state depot.new) }
 {
     match depot.fetch(alloc, name, LONGEST_STATE) {
         Ok(bytes) => kept_machine(alloc, bytes.as_slice(), inputs),
-        Err(Fetch::Failed) => Err(Ending::ReadFault(Input::State)),
-        Err(Fetch::TooLong) => Err(Ending::TooLong(Input::State)),
-        Err(Fetch::NoMemory) => Err(Ending::Memory),
+        Err(Fetch::Failed) => Err(CommandOutcome::ReadFault(Input::State)),
+        Err(Fetch::TooLong) => Err(CommandOutcome::TooLong(Input::State)),
+        Err(Fetch::NoMemory) => Err(CommandOutcome::Memory),
     }
 }
 
 /// The machine that the bytes of a saved state keep.
-fn kept_machine(alloc: Global, bytes: &[u8], inputs: Inputs) -> Result<Machine, Ending>
+fn kept_machine(alloc: Global, bytes: &[u8], inputs: Inputs) -> Result<Machine, CommandOutcome>
     requires { All IsFrame inputs.recording.frames }
     ensures found { IfOk result (λ machine. IsFound inputs bytes.now (Keeps (start_at machine))) }
     ensures fresh { IfOk result IsFresh }
@@ -80,16 +80,19 @@ fn kept_machine(alloc: Global, bytes: &[u8], inputs: Inputs) -> Result<Machine, 
 {
     let (cart, recording) = match shared(alloc, inputs) {
         Ok(both) => both,
-        Err(NoMemory) => return Err(Ending::Memory),
+        Err(NoMemory) => return Err(CommandOutcome::Memory),
     };
     match read(alloc, bytes, cart, recording) {
         Ok(machine) => {
             saved::states_are_reached(&machine);
             Ok(machine)
         }
-        Err(StateFault::Form { place }) => Err(Ending::StateWrong(place)),
-        Err(StateFault::OtherCart { kept, given }) => Err(Ending::OtherCart { kept, given }),
-        Err(StateFault::NoMemory) => Err(Ending::Memory),
+        Err(StateFault::Form { place }) => Err(CommandOutcome::StateInvalid(place)),
+        Err(StateFault::OtherCart { kept, given }) => Err(CommandOutcome::OtherCart {
+            kept,
+            given,
+        }),
+        Err(StateFault::NoMemory) => Err(CommandOutcome::Memory),
     }
 }
 

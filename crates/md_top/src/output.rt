@@ -4,7 +4,7 @@ ghost use Rattle.md_top.specs.Outputs.{Adds, AddsParts, AreBegun, Holds, IsBegun
 ghost use Rattle.md_args.specs.Files.{run_output};
 ghost use Rattle.md_args.specs.Shown.{shown_run};
 
-use crate::ending::Ending;
+use crate::command_outcome::CommandOutcome;
 use crate::outputs::Outputs;
 use md_args::{Output, RunWords};
 use md_outer::{Begin, Depot, Failed};
@@ -15,24 +15,24 @@ pub(crate) fn begin_all<D: Depot>(
     alloc: Global,
     run: &RunWords<'_>,
     depot: &mut D,
-) -> Result<Outputs, Ending>
+) -> Result<Outputs, CommandOutcome>
     ensures begun { IfOk result (AreBegun (shown_run run.now) (D.state depot.new).begun) }
-    ensures files { OnOk result (D.told → Holds (shown_run run.now) (D.state depot.old).files (D.state depot.new).files nothing) }
+    ensures files { OnOk result (D.observable → Holds (shown_run run.now) (D.state depot.old).files (D.state depot.new).files nothing) }
     ensures err { IfErr result (IsUnwritten (shown_run run.now) (D.state depot.old) (D.state depot.new)) }
-    ensures err_files { OnErr result (D.told → LeavesParts (shown_run run.now) (D.state depot.old).files (D.state depot.new).files nothing) }
+    ensures err_files { OnErr result (D.observable → LeavesParts (shown_run run.now) (D.state depot.old).files (D.state depot.new).files nothing) }
     ensures goes_on { GoesOn (D.state depot.old) (D.state depot.new) }
 {
     let frames = match begin(alloc, run, Output::Frames, depot) {
         Ok(frames) => frames,
-        Err(ending) => return Err(ending),
+        Err(command_outcome) => return Err(command_outcome),
     };
     let sound = match begin(alloc, run, Output::Sound, depot) {
         Ok(sound) => sound,
-        Err(ending) => return Err(ending),
+        Err(command_outcome) => return Err(command_outcome),
     };
     let journal = match begin(alloc, run, Output::Journal, depot) {
         Ok(journal) => journal,
-        Err(ending) => return Err(ending),
+        Err(command_outcome) => return Err(command_outcome),
     };
     match begin(alloc, run, Output::Save, depot) {
         Ok(save) => Ok(Outputs {
@@ -41,7 +41,7 @@ pub(crate) fn begin_all<D: Depot>(
             journal,
             save,
         }),
-        Err(ending) => Err(ending),
+        Err(command_outcome) => Err(command_outcome),
     }
 }
 
@@ -51,18 +51,18 @@ fn begin<D: Depot>(
     run: &RunWords<'_>,
     which: Output,
     depot: &mut D,
-) -> Result<Option<u32>, Ending>
+) -> Result<Option<u32>, CommandOutcome>
     ensures begun { IfOk result (λ file. IsBegun (D.state depot.new).begun file (run_output (shown_run run.now) which)) }
-    ensures files { OnOk result (D.told → (D.state depot.new).files ≡ with_part (D.state depot.old).files (run_output (shown_run run.now) which) (Some [])) }
+    ensures files { OnOk result (D.observable → (D.state depot.new).files ≡ with_part (D.state depot.old).files (run_output (shown_run run.now) which) (Some [])) }
     ensures err { IfErr result (IsUnwritten (shown_run run.now) (D.state depot.old) (D.state depot.new)) }
-    ensures err_files { OnErr result (D.told → (D.state depot.new).files ≡ (D.state depot.old).files) }
+    ensures err_files { OnErr result (D.observable → (D.state depot.new).files ≡ (D.state depot.old).files) }
     ensures goes_on { GoesOn (D.state depot.old) (D.state depot.new) }
 {
     match run.output(which) {
         Some(name) => match depot.begin(alloc, name) {
             Ok(file) => Ok(Some(file)),
-            Err(Begin::Failed) => Err(Ending::WriteFault(which)),
-            Err(Begin::NoMemory) => Err(Ending::Memory),
+            Err(Begin::Failed) => Err(CommandOutcome::WriteFault(which)),
+            Err(Begin::NoMemory) => Err(CommandOutcome::Memory),
         },
         None => Ok(None),
     }
@@ -75,17 +75,17 @@ pub(crate) fn append<D: Depot>(
     depot: &mut D,
     which: Output,
     piece: &[u8],
-) -> Result<(), Ending>
+) -> Result<(), CommandOutcome>
     requires begun { AreBegun (shown_run run.now) (D.state depot.old).begun outputs.now }
-    ensures files { OnOk result (D.told → Adds (shown_run run.now) (D.state depot.old).files (D.state depot.new).files (only which piece.now)) }
+    ensures files { OnOk result (D.observable → Adds (shown_run run.now) (D.state depot.old).files (D.state depot.new).files (only which piece.now)) }
     ensures err { IfErr result (IsWriteFault (shown_run run.now) (D.state depot.old) (D.state depot.new)) }
-    ensures err_files { OnErr result (D.told → AddsParts (shown_run run.now) (D.state depot.old).files (D.state depot.new).files (only which piece.now)) }
+    ensures err_files { OnErr result (D.observable → AddsParts (shown_run run.now) (D.state depot.old).files (D.state depot.new).files (only which piece.now)) }
     ensures goes_on { GoesOn (D.state depot.old) (D.state depot.new) }
 {
     match outputs.number(which) {
         Some(file) => match depot.append(file, piece) {
             Ok(()) => Ok(()),
-            Err(Failed) => Err(Ending::WriteFault(which)),
+            Err(Failed) => Err(CommandOutcome::WriteFault(which)),
         },
         None => Ok(()),
     }
@@ -98,16 +98,16 @@ fn append_records<D: Depot>(
     depot: &mut D,
     pairs: &[u8],
     records: &[u8],
-) -> Result<(), Ending>
+) -> Result<(), CommandOutcome>
     requires begun { AreBegun (shown_run run.now) (D.state depot.old).begun outputs.now }
-    ensures files { OnOk result (D.told → Adds (shown_run run.now) (D.state depot.old).files (D.state depot.new).files (record nothing { sound = pairs.now; journal = records.now })) }
+    ensures files { OnOk result (D.observable → Adds (shown_run run.now) (D.state depot.old).files (D.state depot.new).files (record nothing { sound = pairs.now; journal = records.now })) }
     ensures err { IfErr result (IsWriteFault (shown_run run.now) (D.state depot.old) (D.state depot.new)) }
-    ensures err_files { OnErr result (D.told → AddsParts (shown_run run.now) (D.state depot.old).files (D.state depot.new).files (record nothing { sound = pairs.now; journal = records.now })) }
+    ensures err_files { OnErr result (D.observable → AddsParts (shown_run run.now) (D.state depot.old).files (D.state depot.new).files (record nothing { sound = pairs.now; journal = records.now })) }
     ensures goes_on { GoesOn (D.state depot.old) (D.state depot.new) }
 {
     match append(run, outputs, depot, Output::Sound, pairs) {
         Ok(()) => append(run, outputs, depot, Output::Journal, records),
-        Err(ending) => Err(ending),
+        Err(command_outcome) => Err(command_outcome),
     }
 }
 
@@ -119,15 +119,15 @@ pub(crate) fn append_all<D: Depot>(
     frames: &[u8],
     pairs: &[u8],
     records: &[u8],
-) -> Result<(), Ending>
+) -> Result<(), CommandOutcome>
     requires begun { AreBegun (shown_run run.now) (D.state depot.old).begun outputs.now }
-    ensures files { OnOk result (D.told → Adds (shown_run run.now) (D.state depot.old).files (D.state depot.new).files (record nothing { frames = frames.now; sound = pairs.now; journal = records.now })) }
+    ensures files { OnOk result (D.observable → Adds (shown_run run.now) (D.state depot.old).files (D.state depot.new).files (record nothing { frames = frames.now; sound = pairs.now; journal = records.now })) }
     ensures err { IfErr result (IsWriteFault (shown_run run.now) (D.state depot.old) (D.state depot.new)) }
-    ensures err_files { OnErr result (D.told → AddsParts (shown_run run.now) (D.state depot.old).files (D.state depot.new).files (record nothing { frames = frames.now; sound = pairs.now; journal = records.now })) }
+    ensures err_files { OnErr result (D.observable → AddsParts (shown_run run.now) (D.state depot.old).files (D.state depot.new).files (record nothing { frames = frames.now; sound = pairs.now; journal = records.now })) }
     ensures goes_on { GoesOn (D.state depot.old) (D.state depot.new) }
 {
     match append(run, outputs, depot, Output::Frames, frames) {
         Ok(()) => append_records(run, outputs, depot, pairs, records),
-        Err(ending) => Err(ending),
+        Err(command_outcome) => Err(command_outcome),
     }
 }

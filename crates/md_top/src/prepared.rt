@@ -2,8 +2,8 @@ ghost use Rattle.std.specs.Prelude.{◌≡◌, ◌≤◌};
 ghost use Rattle.md_top.specs.Stages.{workers_of};
 
 use crate::begun_run::BegunRun;
+use crate::command_outcome::CommandOutcome;
 use crate::course::Course;
-use crate::ending::Ending;
 use md_args::{CommandWords, DemoWords, RunWords};
 
 /// A command line up to the first segment of its run: what it came to, or a run that is about to begin.
@@ -20,7 +20,7 @@ pub(crate) enum Stage<'a> {
     /// Out of memory for its words.
     Memory,
     /// What it asks for resulted in this.
-    Ended(CommandWords<'a>, Ending),
+    Ended(CommandWords<'a>, CommandOutcome),
     /// A run is about to begin.
     Run(RunWords<'a>, BegunRun),
     /// A run of a demonstration cartridge is about to begin.

@@ -1,6 +1,6 @@
 ghost use Rattle.std.specs.Prelude.{◌≡◌, Some, IfOk, IfErr, map, string_bytes};
 ghost use Rattle.md_outer.specs.Outside.{GoesOn};
-ghost use Rattle.md_top.specs.Endings.{InfoEnds, RunEnds, RunFiles};
+ghost use Rattle.md_top.specs.CommandOutcomes.{InfoEnds, RunEnds, RunFiles};
 ghost use Rattle.md_top.specs.Outputs.{LeavesParts, nothing};
 ghost use Rattle.md_top.specs.Stages.{HasStart, IsAboutToRun, IsPrepared, LeavesBegun, Stands};
 ghost use Rattle.md_args.specs.Shown.{shown_command, shown_run};
@@ -8,11 +8,11 @@ ghost use Rattle.md_args.specs.Commands.{command_of};
 
 use crate::assembling::assemble_source;
 use crate::begun_run::BegunRun;
+use crate::command_outcome::CommandOutcome;
 use crate::converting::convert_file;
 use crate::course::Course;
 use crate::debugging::debug_cart;
 use crate::demo::begin_demo;
-use crate::ending::Ending;
 use crate::laws::runs_begin_once;
 use crate::loading::first_machine;
 use crate::output::begin_all;
@@ -40,9 +40,9 @@ pub fn prepare<'a, D: Depot, S: Sink>(
     depot: &mut D,
     out: &mut S,
 ) -> Prepared<'a>
-    ensures prepared { IsPrepared D.told S.told (command_of (map string_bytes words.now.items))
+    ensures prepared { IsPrepared D.observable S.observable (command_of (map string_bytes words.now.items))
         (D.state depot.old) (D.state depot.new) (S.state out.old) (S.state out.new) result }
-    ensures files { D.told → LeavesBegun (command_of (map string_bytes words.now.items)) (D.state depot.old).files (D.state depot.new).files }
+    ensures files { D.observable → LeavesBegun (command_of (map string_bytes words.now.items)) (D.state depot.old).files (D.state depot.new).files }
 {
     match read_words(alloc, words.as_slice()) {
         Ok(Some(command)) => Prepared {
@@ -64,19 +64,19 @@ fn prepare_command<'a, D: Depot, S: Sink>(
     depot: &mut D,
     out: &mut S,
 ) -> Stage<'a>
-    ensures stands { Stands D.told S.told (Some (shown_command command.entry))
+    ensures stands { Stands D.observable S.observable (Some (shown_command command.entry))
         (D.state depot.old) (D.state depot.new) (S.state out.old) (S.state out.new) result }
-    ensures files { D.told → LeavesBegun (Some (shown_command command.entry)) (D.state depot.old).files (D.state depot.new).files }
+    ensures files { D.observable → LeavesBegun (Some (shown_command command.entry)) (D.state depot.old).files (D.state depot.new).files }
 {
     match command {
         CommandWords::Info(rom) => Stage::Ended(command, show_header(alloc, rom, depot)),
         CommandWords::Run(run) => match begin_run(alloc, &run, depot) {
             Ok(begun) => Stage::Run(run, begun),
-            Err(ending) => Stage::Ended(command, ending),
+            Err(command_outcome) => Stage::Ended(command, command_outcome),
         },
         CommandWords::Demo(demo) => match begin_demo(alloc, &demo) {
             Ok(course) => Stage::Demo(demo, course),
-            Err(ending) => Stage::Ended(command, ending),
+            Err(command_outcome) => Stage::Ended(command, command_outcome),
         },
         CommandWords::Convert(words) => Stage::Ended(command, convert_file(alloc, &words, depot)),
         CommandWords::Assemble(words) => {
@@ -88,34 +88,38 @@ fn prepare_command<'a, D: Depot, S: Sink>(
 }
 
 /// Reads the header of the cartridge of this name.
-fn show_header<D: Depot>(alloc: Global, rom: &str, depot: &mut D) -> Ending
-    ensures cause { InfoEnds D.told rom.now (D.state depot.old) (D.state depot.new) result }
-    ensures files { D.told → (D.state depot.new).files ≡ (D.state depot.old).files }
+fn show_header<D: Depot>(alloc: Global, rom: &str, depot: &mut D) -> CommandOutcome
+    ensures cause { InfoEnds D.observable rom.now (D.state depot.old) (D.state depot.new) result }
+    ensures files { D.observable → (D.state depot.new).files ≡ (D.state depot.old).files }
 {
     let cart = match read_cart(alloc, rom, depot) {
         Ok(cart) => cart,
-        Err(ending) => return ending,
+        Err(command_outcome) => return command_outcome,
     };
     match cart.info(alloc) {
-        Ok(lines) => Ending::Shown(Text::new(lines)),
-        Err(_) => Ending::Memory,
+        Ok(lines) => CommandOutcome::Shown(Text::new(lines)),
+        Err(_) => CommandOutcome::Memory,
     }
 }
 
 /// Finds the start of the run that the words ask for, takes the memory for its state, and begins its outputs.
-fn begin_run<D: Depot>(alloc: Global, run: &RunWords<'_>, depot: &mut D) -> Result<BegunRun, Ending>
-    ensures about { IfOk result (IsAboutToRun D.told (shown_run run.now) (D.state depot.old) (D.state depot.new)) }
-    ensures cause { IfErr result (RunEnds D.told (shown_run run.now) (D.state depot.old) (D.state depot.new)) }
-    ensures left { IfErr result (λ ending. D.told → RunFiles (shown_run run.now) (D.state depot.old).files (D.state depot.new).files ending) }
-    ensures files { D.told → LeavesParts (shown_run run.now) (D.state depot.old).files (D.state depot.new).files nothing }
+fn begin_run<D: Depot>(
+    alloc: Global,
+    run: &RunWords<'_>,
+    depot: &mut D,
+) -> Result<BegunRun, CommandOutcome>
+    ensures about { IfOk result (IsAboutToRun D.observable (shown_run run.now) (D.state depot.old) (D.state depot.new)) }
+    ensures cause { IfErr result (RunEnds D.observable (shown_run run.now) (D.state depot.old) (D.state depot.new)) }
+    ensures left { IfErr result (λ command_outcome. D.observable → RunFiles (shown_run run.now) (D.state depot.old).files (D.state depot.new).files command_outcome) }
+    ensures files { D.observable → LeavesParts (shown_run run.now) (D.state depot.old).files (D.state depot.new).files nothing }
 {
     let course = match find_start(alloc, run, depot) {
         Ok(course) => course,
-        Err(ending) => return Err(ending),
+        Err(command_outcome) => return Err(command_outcome),
     };
     let buffers = match make_buffers(alloc, run) {
         Ok(buffers) => buffers,
-        Err(NoMemory) => return Err(Ending::Memory),
+        Err(NoMemory) => return Err(CommandOutcome::Memory),
     };
     runs_begin_once();
     match begin_all(alloc, run, depot) {
@@ -124,35 +128,39 @@ fn begin_run<D: Depot>(alloc: Global, run: &RunWords<'_>, depot: &mut D) -> Resu
             course,
             buffers,
         }),
-        Err(ending) => Err(ending),
+        Err(command_outcome) => Err(command_outcome),
     }
 }
 
 /// The run at its start: of the cartridge that the words name, with the recording and from the saved state if
 /// they name them.
-fn find_start<D: Depot>(alloc: Global, run: &RunWords<'_>, depot: &mut D) -> Result<Course, Ending>
-    ensures start { IfOk result (HasStart D.told (shown_run run.now) (D.state depot.old)) }
-    ensures cause { IfErr result (RunEnds D.told (shown_run run.now) (D.state depot.old) (D.state depot.new)) }
-    ensures files { D.told → (D.state depot.new).files ≡ (D.state depot.old).files }
+fn find_start<D: Depot>(
+    alloc: Global,
+    run: &RunWords<'_>,
+    depot: &mut D,
+) -> Result<Course, CommandOutcome>
+    ensures start { IfOk result (HasStart D.observable (shown_run run.now) (D.state depot.old)) }
+    ensures cause { IfErr result (RunEnds D.observable (shown_run run.now) (D.state depot.old) (D.state depot.new)) }
+    ensures files { D.observable → (D.state depot.new).files ≡ (D.state depot.old).files }
     ensures goes_on { GoesOn (D.state depot.old) (D.state depot.new) }
 {
     if run.cycles > LAST_CYCLE {
-        return Err(Ending::TooFar);
+        return Err(CommandOutcome::TooFar);
     }
     let inputs = match read_inputs(alloc, run, depot) {
         Ok(inputs) => inputs,
-        Err(ending) => return Err(ending),
+        Err(command_outcome) => return Err(command_outcome),
     };
     let machine = match first_machine(alloc, run.load, inputs, depot) {
         Ok(machine) => machine,
-        Err(ending) => return Err(ending),
+        Err(command_outcome) => return Err(command_outcome),
     };
     let from = machine.at();
     if run.cycles <= from {
-        return Err(Ending::Behind(from));
+        return Err(CommandOutcome::Following(from));
     }
     match begin(alloc, machine) {
         Ok(course) => Ok(course),
-        Err(NoMemory) => Err(Ending::Memory),
+        Err(NoMemory) => Err(CommandOutcome::Memory),
     }
 }

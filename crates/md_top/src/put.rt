@@ -5,7 +5,7 @@ use md_outer::{Failed, Sink};
 
 /// Puts a text and bytes after it.
 pub(crate) fn put_two<S: Sink>(out: &mut S, first: &str, second: &[u8]) -> Result<(), Failed>
-    ensures { PutsText S.told (first.now ++ second.now) (S.state out.old) (S.state out.new) result }
+    ensures { PutsText S.observable (first.now ++ second.now) (S.state out.old) (S.state out.new) result }
 {
     match out.put(first.as_bytes()) {
         Ok(()) => out.put(second),
@@ -20,7 +20,7 @@ pub(crate) fn put_three<S: Sink>(
     second: &[u8],
     third: &str,
 ) -> Result<(), Failed>
-    ensures { PutsText S.told (first.now ++ second.now ++ third.now) (S.state out.old) (S.state out.new) result }
+    ensures { PutsText S.observable (first.now ++ second.now ++ third.now) (S.state out.old) (S.state out.new) result }
 {
     match put_two(out, first, second) {
         Ok(()) => out.put(third.as_bytes()),

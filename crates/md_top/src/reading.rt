@@ -5,7 +5,7 @@ ghost use Rattle.md_pads.specs.Recording.{IsFrame};
 ghost use Rattle.md_top.specs.Inputs.{AreInputs, CartCause, InputCause, IsAccepted, RecordingCause, Records, cart_of, refusal_of};
 ghost use Rattle.md_args.specs.Shown.{shown_run};
 
-use crate::ending::Ending;
+use crate::command_outcome::CommandOutcome;
 use crate::inputs::Inputs;
 use md_args::{Input, RunWords};
 use md_outer::{Depot, Fetch};
@@ -21,16 +21,16 @@ pub(crate) fn read_inputs<D: Depot>(
     alloc: Global,
     run: &RunWords<'_>,
     depot: &mut D,
-) -> Result<Inputs, Ending>
+) -> Result<Inputs, CommandOutcome>
     ensures buttons { IfOk result (λ inputs. All IsFrame inputs.recording.frames) }
-    ensures inputs { IfOk result (λ inputs. D.told → AreInputs (shown_run run.now) (D.state depot.old).files inputs) }
-    ensures err { IfErr result (InputCause D.told (shown_run run.now) (D.state depot.old) (D.state depot.new)) }
-    ensures files { D.told → (D.state depot.new).files ≡ (D.state depot.old).files }
+    ensures inputs { IfOk result (λ inputs. D.observable → AreInputs (shown_run run.now) (D.state depot.old).files inputs) }
+    ensures err { IfErr result (InputCause D.observable (shown_run run.now) (D.state depot.old) (D.state depot.new)) }
+    ensures files { D.observable → (D.state depot.new).files ≡ (D.state depot.old).files }
     ensures goes_on { GoesOn (D.state depot.old) (D.state depot.new) }
 {
     let cart = match read_cart(alloc, run.rom, depot) {
         Ok(cart) => cart,
-        Err(ending) => return Err(ending),
+        Err(command_outcome) => return Err(command_outcome),
     };
     match read_recording(alloc, run.recording, depot) {
         Ok(recording) => Ok(Inputs {
@@ -38,16 +38,20 @@ pub(crate) fn read_inputs<D: Depot>(
             recording,
             pal: run.pal,
         }),
-        Err(ending) => Err(ending),
+        Err(command_outcome) => Err(command_outcome),
     }
 }
 
 /// Fetches the cartridge of this name and accepts it.
-pub(crate) fn read_cart<D: Depot>(alloc: Global, rom: &str, depot: &mut D) -> Result<Cart, Ending>
-    ensures cart { IfOk result (λ cart. D.told → IsAccepted ((D.state depot.old).files rom.now)
+pub(crate) fn read_cart<D: Depot>(
+    alloc: Global,
+    rom: &str,
+    depot: &mut D,
+) -> Result<Cart, CommandOutcome>
+    ensures cart { IfOk result (λ cart. D.observable → IsAccepted ((D.state depot.old).files rom.now)
         × (cart ≡ cart_of rom.now (D.state depot.old).files)) }
-    ensures err { IfErr result (CartCause D.told rom.now (D.state depot.old) (D.state depot.new)) }
-    ensures files { D.told → (D.state depot.new).files ≡ (D.state depot.old).files }
+    ensures err { IfErr result (CartCause D.observable rom.now (D.state depot.old) (D.state depot.new)) }
+    ensures files { D.observable → (D.state depot.new).files ≡ (D.state depot.old).files }
     ensures goes_on { GoesOn (D.state depot.old) (D.state depot.new) }
 {
     match depot.fetch(alloc, rom, GREATEST as u64) {
@@ -55,21 +59,21 @@ pub(crate) fn read_cart<D: Depot>(alloc: Global, rom: &str, depot: &mut D) -> Re
             Ok(cart) => Ok(cart),
             Err(fault) => Err(refusal_of(fault)),
         },
-        Err(Fetch::Failed) => Err(Ending::ReadFault(Input::First)),
-        Err(Fetch::TooLong) => Err(Ending::TooLong(Input::First)),
-        Err(Fetch::NoMemory) => Err(Ending::Memory),
+        Err(Fetch::Failed) => Err(CommandOutcome::ReadFault(Input::First)),
+        Err(Fetch::TooLong) => Err(CommandOutcome::TooLong(Input::First)),
+        Err(Fetch::NoMemory) => Err(CommandOutcome::Memory),
     }
 }
 
 /// What a command results in whose cartridge is not accepted.
-fn refusal_of(fault: CartFault) -> Ending
+fn refusal_of(fault: CartFault) -> CommandOutcome
     ensures { result ≡ refusal_of fault }
 {
     match fault {
-        CartFault::Short => Ending::Short,
-        CartFault::Long => Ending::TooLong(Input::First),
-        CartFault::NoMark => Ending::NoMark,
-        CartFault::NoMemory => Ending::Memory,
+        CartFault::Short => CommandOutcome::Short,
+        CartFault::Long => CommandOutcome::TooLong(Input::First),
+        CartFault::NoMark => CommandOutcome::NoMark,
+        CartFault::NoMemory => CommandOutcome::Memory,
     }
 }
 
@@ -78,11 +82,11 @@ fn read_recording<D: Depot>(
     alloc: Global,
     name: Option<&str>,
     depot: &mut D,
-) -> Result<Recording, Ending>
+) -> Result<Recording, CommandOutcome>
     ensures buttons { IfOk result (λ recording. All IsFrame recording.frames) }
-    ensures recording { IfOk result (λ recording. D.told → Records (option_copied name.entry) (D.state depot.old).files recording) }
-    ensures err { IfErr result (RecordingCause D.told (option_copied name.entry) (D.state depot.old) (D.state depot.new)) }
-    ensures files { D.told → (D.state depot.new).files ≡ (D.state depot.old).files }
+    ensures recording { IfOk result (λ recording. D.observable → Records (option_copied name.entry) (D.state depot.old).files recording) }
+    ensures err { IfErr result (RecordingCause D.observable (option_copied name.entry) (D.state depot.old) (D.state depot.new)) }
+    ensures files { D.observable → (D.state depot.new).files ≡ (D.state depot.old).files }
     ensures goes_on { GoesOn (D.state depot.old) (D.state depot.new) }
 {
     match name {
@@ -92,21 +96,25 @@ fn read_recording<D: Depot>(
 }
 
 /// Fetches the recording of this name and reads it.
-fn fetch_recording<D: Depot>(alloc: Global, name: &str, depot: &mut D) -> Result<Recording, Ending>
+fn fetch_recording<D: Depot>(
+    alloc: Global,
+    name: &str,
+    depot: &mut D,
+) -> Result<Recording, CommandOutcome>
     ensures buttons { IfOk result (λ recording. All IsFrame recording.frames) }
-    ensures recording { IfOk result (λ recording. D.told → Records (Some name.now) (D.state depot.old).files recording) }
-    ensures err { IfErr result (RecordingCause D.told (Some name.now) (D.state depot.old) (D.state depot.new)) }
-    ensures files { D.told → (D.state depot.new).files ≡ (D.state depot.old).files }
+    ensures recording { IfOk result (λ recording. D.observable → Records (Some name.now) (D.state depot.old).files recording) }
+    ensures err { IfErr result (RecordingCause D.observable (Some name.now) (D.state depot.old) (D.state depot.new)) }
+    ensures files { D.observable → (D.state depot.new).files ≡ (D.state depot.old).files }
     ensures goes_on { GoesOn (D.state depot.old) (D.state depot.new) }
 {
     match depot.fetch(alloc, name, LONGEST_RECORDING) {
         Ok(bytes) => match Recording::read(alloc, bytes.as_slice()) {
             Ok(recording) => Ok(recording),
-            Err(RecFault::Form { place }) => Err(Ending::RecordingWrong(place)),
-            Err(RecFault::NoMemory) => Err(Ending::Memory),
+            Err(RecFault::Form { place }) => Err(CommandOutcome::RecordingInvalid(place)),
+            Err(RecFault::NoMemory) => Err(CommandOutcome::Memory),
         },
-        Err(Fetch::Failed) => Err(Ending::ReadFault(Input::Recording)),
-        Err(Fetch::TooLong) => Err(Ending::TooLong(Input::Recording)),
-        Err(Fetch::NoMemory) => Err(Ending::Memory),
+        Err(Fetch::Failed) => Err(CommandOutcome::ReadFault(Input::Recording)),
+        Err(Fetch::TooLong) => Err(CommandOutcome::TooLong(Input::Recording)),
+        Err(Fetch::NoMemory) => Err(CommandOutcome::Memory),
     }
 }

@@ -11,7 +11,7 @@ use md_outer::{Failed, Sink};
 
 /// Puts the lines of a run of a demonstration cartridge that ends well.
 pub(crate) fn put_summary<S: Sink>(out: &mut S, end: u64, summary: &Summary) -> Result<(), Failed>
-    ensures { PutsText S.told (lines_of 0 end summary.now.frames summary.now.accesses summary.now.halted ++ digest_lines summary.now.digests)
+    ensures { PutsText S.observable (lines_of 0 end summary.now.frames summary.now.accesses summary.now.halted ++ digest_lines summary.now.digests)
         (S.state out.old) (S.state out.new) result }
 {
     match put_lines(
@@ -29,7 +29,7 @@ pub(crate) fn put_summary<S: Sink>(out: &mut S, end: u64, summary: &Summary) -> 
 
 /// Puts the lines of the digests.
 fn put_digest_lines<S: Sink>(out: &mut S, digests: &Digests) -> Result<(), Failed>
-    ensures { PutsText S.told (digest_lines digests.now) (S.state out.old) (S.state out.new) result }
+    ensures { PutsText S.observable (digest_lines digests.now) (S.state out.old) (S.state out.new) result }
 {
     match put_media_digests(out, digests) {
         Ok(()) => put_digest_line(out, "journal sha256 ", &digests.journal),
@@ -39,7 +39,7 @@ fn put_digest_lines<S: Sink>(out: &mut S, digests: &Digests) -> Result<(), Faile
 
 /// Puts the lines of the digests of the frames and of the samples.
 fn put_media_digests<S: Sink>(out: &mut S, digests: &Digests) -> Result<(), Failed>
-    ensures { PutsText S.told (digest_line (codes "frames sha256 ") digests.now.frames ++ digest_line (codes "samples sha256 ") digests.now.samples)
+    ensures { PutsText S.observable (digest_line (codes "frames sha256 ") digests.now.frames ++ digest_line (codes "samples sha256 ") digests.now.samples)
         (S.state out.old) (S.state out.new) result }
 {
     match put_digest_line(out, "frames sha256 ", &digests.frames) {
@@ -54,7 +54,7 @@ pub(crate) fn put_digest_line<S: Sink>(
     word: &str,
     digest: &[u8; 32],
 ) -> Result<(), Failed>
-    ensures { PutsText S.told (digest_line word.now digest.now) (S.state out.old) (S.state out.new) result }
+    ensures { PutsText S.observable (digest_line word.now digest.now) (S.state out.old) (S.state out.new) result }
 {
     let digits = hexadecimal(digest);
     put_three(out, word, &digits, "\n")

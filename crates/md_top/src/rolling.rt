@@ -1,10 +1,10 @@
 ghost use Rattle.std.specs.Prelude.{◌≡◌, ◌≤◌};
 ghost use Rattle.md_args.specs.Shown.{shown_rolling};
 ghost use Rattle.md_outer.specs.Outside.{PutsText};
-ghost use Rattle.md_rollback.specs.Rolls.{ComesTo};
-ghost use Rattle.md_top.specs.Rollings.{RollEnds, comes_ending, counts_lines, inputs_line, line_fault_text, rolled_lines};
+ghost use Rattle.md_rollback.specs.Rolls.{CompletesWith};
+ghost use Rattle.md_top.specs.Rollings.{RollEnds, completion_outcome, counts_lines, inputs_line, line_fault_text, rolled_lines};
 
-use crate::ending::Ending;
+use crate::command_outcome::CommandOutcome;
 use crate::put::put_three;
 use crate::reading::read_cart;
 use crate::report::put_number;
@@ -12,7 +12,7 @@ use crate::report_demo::put_digest_line;
 use itoa::Buffer;
 use md_args::{Input, RollbackWords};
 use md_outer::{Depot, Failed, Fetch, Sink};
-use md_rollback::{Comes, LineFault, Rolled, run_script};
+use md_rollback::{Completion, LineFault, Rolled, run_script};
 use rom_header::Cart;
 use std::alloc::Global;
 use std::sync::Arc;
@@ -21,48 +21,52 @@ use std::sync::Arc;
 const LONGEST_INPUTS: u64 = 4_194_304;
 
 /// Obeys the lines of what two players press, which the words name, in a session at power-on of the cartridge.
-pub(crate) fn roll_cart<D: Depot>(alloc: Global, words: &RollbackWords<'_>, depot: &mut D) -> Ending
-    ensures cause { RollEnds D.told (shown_rolling words.now) (D.state depot.old) (D.state depot.new) result }
-    ensures files { D.told → (D.state depot.new).files ≡ (D.state depot.old).files }
+pub(crate) fn roll_cart<D: Depot>(
+    alloc: Global,
+    words: &RollbackWords<'_>,
+    depot: &mut D,
+) -> CommandOutcome
+    ensures cause { RollEnds D.observable (shown_rolling words.now) (D.state depot.old) (D.state depot.new) result }
+    ensures files { D.observable → (D.state depot.new).files ≡ (D.state depot.old).files }
 {
     let cart = match read_cart(alloc, words.rom, depot) {
         Ok(cart) => cart,
-        Err(ending) => return ending,
+        Err(command_outcome) => return command_outcome,
     };
     match depot.fetch(alloc, words.inputs, LONGEST_INPUTS) {
         Ok(inputs) => ended(outcome(alloc, cart, words.window, inputs.as_slice())),
-        Err(Fetch::Failed) => Ending::ReadFault(Input::Script),
-        Err(Fetch::TooLong) => Ending::TooLong(Input::Script),
-        Err(Fetch::NoMemory) => Ending::Memory,
+        Err(Fetch::Failed) => CommandOutcome::ReadFault(Input::Script),
+        Err(Fetch::TooLong) => CommandOutcome::TooLong(Input::Script),
+        Err(Fetch::NoMemory) => CommandOutcome::Memory,
     }
 }
 
 /// What the lines result in.
-fn outcome(alloc: Global, cart: Cart, window: u32, inputs: &[u8]) -> Comes
+fn outcome(alloc: Global, cart: Cart, window: u32, inputs: &[u8]) -> Completion
     requires some { 1 ≤ window }
     requires most { window ≤ 16 }
-    ensures { ComesTo cart window inputs.now result }
+    ensures { CompletesWith cart window inputs.now result }
 {
     match Arc::new(alloc, cart) {
         Ok(cart) => run_script(alloc, cart, window, inputs),
-        Err(_) => Comes::NoMemory,
+        Err(_) => Completion::NoMemory,
     }
 }
 
 /// The same, as an ending.
-fn ended(comes: Comes) -> Ending
-    ensures { result ≡ comes_ending comes }
+fn ended(completion: Completion) -> CommandOutcome
+    ensures { result ≡ completion_outcome completion }
 {
-    match comes {
-        Comes::Done(rolled) => Ending::RolledBack(rolled),
-        Comes::Refused(line, fault) => Ending::LineRefused { line, fault },
-        Comes::NoMemory => Ending::Memory,
+    match completion {
+        Completion::Done(rolled) => CommandOutcome::RolledBack(rolled),
+        Completion::Refused(line, fault) => CommandOutcome::LineRefused { line, fault },
+        Completion::NoMemory => CommandOutcome::Memory,
     }
 }
 
 /// Puts what a session resulted in.
 pub(crate) fn put_rolled<S: Sink>(out: &mut S, rolled: &Rolled) -> Result<(), Failed>
-    ensures { PutsText S.told (rolled_lines rolled.now) (S.state out.old) (S.state out.new) result }
+    ensures { PutsText S.observable (rolled_lines rolled.now) (S.state out.old) (S.state out.new) result }
 {
     match put_rolled_counts(out, rolled) {
         Ok(()) => put_digest_line(out, "state sha256 ", &rolled.digest),
@@ -72,7 +76,7 @@ pub(crate) fn put_rolled<S: Sink>(out: &mut S, rolled: &Rolled) -> Result<(), Fa
 
 /// Puts how many frames were made, and how many are confirmed.
 fn put_rolled_counts<S: Sink>(out: &mut S, rolled: &Rolled) -> Result<(), Failed>
-    ensures { PutsText S.told (counts_lines rolled.now) (S.state out.old) (S.state out.new) result }
+    ensures { PutsText S.observable (counts_lines rolled.now) (S.state out.old) (S.state out.new) result }
 {
     match put_number(out, "frames ", rolled.frames) {
         Ok(()) => put_number(out, "confirmed ", rolled.confirmed),
@@ -86,7 +90,7 @@ pub(crate) fn put_inputs_line<S: Sink>(
     line: u64,
     fault: LineFault,
 ) -> Result<(), Failed>
-    ensures { PutsText S.told (inputs_line line fault) (S.state out.old) (S.state out.new) result }
+    ensures { PutsText S.observable (inputs_line line fault) (S.state out.old) (S.state out.new) result }
 {
     let mut digits = Buffer::new();
     put_three(

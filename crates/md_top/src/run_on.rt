@@ -3,7 +3,7 @@ ghost use Rattle.md_outer.specs.Outside.{Files, GoesOn};
 ghost use Rattle.md_machine.specs.Starts.{Start};
 ghost use Rattle.md_top.specs.Courses.{CameFrom, IsAtStart, IsUnderway, cycle_of, start_in};
 ghost use Rattle.md_top.specs.Counts.{count_of_frames, frames_between, pairs_between, pairs_of};
-ghost use Rattle.md_top.specs.Endings.{HoldsUntil, RunCause, RunLeaves};
+ghost use Rattle.md_top.specs.CommandOutcomes.{HoldsUntil, RunCause, RunLeaves};
 ghost use Rattle.md_word.specs.Clock.{last_cycle};
 ghost use Rattle.md_top.specs.Limits.{IsEnd, segment_cycles};
 ghost use Rattle.md_top.specs.Limits as limits;
@@ -13,8 +13,8 @@ ghost use Rattle.md_top.specs.Saves.{CanSave};
 ghost use Rattle.md_top.specs.Workers.{CanGoOn, WentOn};
 ghost use Rattle.md_args.specs.Shown.{shown_run};
 
+use crate::command_outcome::CommandOutcome;
 use crate::course::Course;
-use crate::ending::Ending;
 use crate::laws::states_keep_laws;
 use crate::output::{append, append_all};
 use crate::outputs::Outputs;
@@ -39,7 +39,7 @@ pub(crate) fn write_all<F: Fn(&mut Machine, u64), D: Depot>(
     depot: &mut D,
     course: Course,
     buffers: Option<StateBuffers>,
-) -> Ending
+) -> CommandOutcome
     requires may { (m : _) (to : ℕ) → CanGoOn m.now to → F.pre go_on.now m to }
     requires goes { (m : _) (to : ℕ) (after : _) → F.post go_on.now m to tt after → WentOn m.now to after.now }
     requires end { IsEnd run.now.cycles }
@@ -48,14 +48,14 @@ pub(crate) fn write_all<F: Fn(&mut Machine, u64), D: Depot>(
     requires begun { AreBegun (shown_run run.now) (D.state depot.old).begun outputs.now }
     requires buffers { CanSave (shown_run run.now) buffers }
     ensures cause { RunCause (start_in course) (shown_run run.now) (D.state depot.old) (D.state depot.new) result }
-    ensures memory { result ≢ Ending.Memory }
-    ensures files { D.told → (first : Files) → Holds (shown_run run.now) first (D.state depot.old).files nothing
+    ensures memory { result ≢ CommandOutcome.Memory }
+    ensures files { D.observable → (first : Files) → Holds (shown_run run.now) first (D.state depot.old).files nothing
         → RunLeaves (start_in course) (shown_run run.now) first (D.state depot.new).files result }
 {
     let mut course = course;
     match append_head(run, outputs, depot, &mut course) {
         Ok(()) => run_on(go_on, run, outputs, depot, course, buffers),
-        Err(ending) => ending,
+        Err(command_outcome) => command_outcome,
     }
 }
 
@@ -98,17 +98,17 @@ fn append_head<D: Depot>(
     outputs: &Outputs,
     depot: &mut D,
     course: &mut Course,
-) -> Result<(), Ending>
+) -> Result<(), CommandOutcome>
     requires end { IsEnd run.now.cycles }
     requires before { cycle_of course.old < run.now.cycles }
     requires start { IsAtStart course.old }
     requires begun { AreBegun (shown_run run.now) (D.state depot.old).begun outputs.now }
     ensures machine { course.new.machine ≡ course.old.machine }
     ensures accesses { course.new.accesses ≡ course.old.accesses }
-    ensures files { OnOk result (D.told → (first : Files) → Holds (shown_run run.now) first (D.state depot.old).files nothing
+    ensures files { OnOk result (D.observable → (first : Files) → Holds (shown_run run.now) first (D.state depot.old).files nothing
         → HoldsUntil (start_in course.old) (shown_run run.now) first (D.state depot.new).files (cycle_of course.old)) }
     ensures err { IfErr result (IsWriteFault (shown_run run.now) (D.state depot.old) (D.state depot.new)) }
-    ensures err_files { OnErr result (D.told → (first : Files) → Holds (shown_run run.now) first (D.state depot.old).files nothing
+    ensures err_files { OnErr result (D.observable → (first : Files) → Holds (shown_run run.now) first (D.state depot.old).files nothing
         → LeavesParts (shown_run run.now) first (D.state depot.new).files
         (pieces_of (start_in course.old) run.now.cycles)) }
     ensures goes_on { GoesOn (D.state depot.old) (D.state depot.new) }
@@ -135,7 +135,7 @@ fn run_segment<F: Fn(&mut Machine, u64), D: Depot>(
     outputs: &Outputs,
     depot: &mut D,
     course: &mut Course,
-) -> Result<(), Ending>
+) -> Result<(), CommandOutcome>
     requires may { (m : _) (to : ℕ) → CanGoOn m.now to → F.pre go_on.now m to }
     requires goes { (m : _) (to : ℕ) (after : _) → F.post go_on.now m to tt after → WentOn m.now to after.now }
     requires end { IsEnd run.now.cycles }
@@ -144,13 +144,13 @@ fn run_segment<F: Fn(&mut Machine, u64), D: Depot>(
     requires begun { AreBegun (shown_run run.now) (D.state depot.old).begun outputs.now }
     ensures cycle { OnOk result (cycle_of course.new ≡ limits.segment_end course.old.machine.console.pal (cycle_of course.old) run.now.cycles) }
     ensures underway { OnOk result ((start : Start) → CameFrom start course.old → CameFrom start course.new) }
-    ensures files { OnOk result (D.told → (start : Start) (first : Files) → CameFrom start course.old
+    ensures files { OnOk result (D.observable → (start : Start) (first : Files) → CameFrom start course.old
         → HoldsUntil start (shown_run run.now) first (D.state depot.old).files (cycle_of course.old)
         → HoldsUntil start (shown_run run.now) first (D.state depot.new).files (cycle_of course.new)) }
     ensures err { IfErr result (IsWriteFault (shown_run run.now) (D.state depot.old) (D.state depot.new)) }
-    ensures err_files { IfErr result (λ ending. D.told → (start : Start) (first : Files) → CameFrom start course.old
+    ensures err_files { IfErr result (λ command_outcome. D.observable → (start : Start) (first : Files) → CameFrom start course.old
         → HoldsUntil start (shown_run run.now) first (D.state depot.old).files (cycle_of course.old)
-        → RunLeaves start (shown_run run.now) first (D.state depot.new).files ending) }
+        → RunLeaves start (shown_run run.now) first (D.state depot.new).files command_outcome) }
     ensures goes_on { GoesOn (D.state depot.old) (D.state depot.new) }
 {
     let end = segment_end(course.machine.pal(), course.machine.at(), run.cycles);
@@ -174,7 +174,7 @@ fn run_on<F: Fn(&mut Machine, u64), D: Depot>(
     depot: &mut D,
     course: Course,
     buffers: Option<StateBuffers>,
-) -> Ending
+) -> CommandOutcome
     requires may { (m : _) (to : ℕ) → CanGoOn m.now to → F.pre go_on.now m to }
     requires goes { (m : _) (to : ℕ) (after : _) → F.post go_on.now m to tt after → WentOn m.now to after.now }
     requires end { IsEnd run.now.cycles }
@@ -183,8 +183,8 @@ fn run_on<F: Fn(&mut Machine, u64), D: Depot>(
     requires begun { AreBegun (shown_run run.now) (D.state depot.old).begun outputs.now }
     requires buffers { CanSave (shown_run run.now) buffers }
     ensures cause { RunCause (start_in course) (shown_run run.now) (D.state depot.old) (D.state depot.new) result }
-    ensures memory { result ≢ Ending.Memory }
-    ensures files { D.told → (first : Files)
+    ensures memory { result ≢ CommandOutcome.Memory }
+    ensures files { D.observable → (first : Files)
         → HoldsUntil (start_in course) (shown_run run.now) first (D.state depot.old).files (cycle_of course)
         → RunLeaves (start_in course) (shown_run run.now) first (D.state depot.new).files result }
 {
@@ -193,19 +193,19 @@ fn run_on<F: Fn(&mut Machine, u64), D: Depot>(
     lists_end_as_run(&course.machine);
     let mut course = course;
     'segments: while course.machine.at() < run.cycles {
-        if let Err(ending) = run_segment(go_on, run, outputs, depot, &mut course) {
-            return ending;
+        if let Err(command_outcome) = run_segment(go_on, run, outputs, depot, &mut course) {
+            return command_outcome;
         }
     }
     states_keep_laws();
     kept(&course.machine);
     match save(run, outputs, depot, &course.machine, buffers) {
-        Ok(()) => Ending::Done {
+        Ok(()) => CommandOutcome::Done {
             from,
             frames: frames_between(pal, from, run.cycles),
             accesses: course.accesses,
             halted: course.machine.main_chip().halted(),
         },
-        Err(ending) => ending,
+        Err(command_outcome) => command_outcome,
     }
 }

@@ -6,7 +6,7 @@ ghost use Rattle.md_top.specs.Saves.{CanSave};
 ghost use Rattle.md_args.specs.Shown.{shown_run};
 ghost use Rattle.save_state.specs.States.{state_bytes};
 
-use crate::ending::Ending;
+use crate::command_outcome::CommandOutcome;
 use crate::output::append;
 use crate::outputs::Outputs;
 use crate::state_buffers::StateBuffers;
@@ -58,14 +58,14 @@ pub(crate) fn save<D: Depot>(
     depot: &mut D,
     machine: &Machine,
     buffers: Option<StateBuffers>,
-) -> Result<(), Ending>
+) -> Result<(), CommandOutcome>
     requires near { machine.now.at ≤ last_cycle }
     requires begun { AreBegun (shown_run run.now) (D.state depot.old).begun outputs.now }
     requires buffers { CanSave (shown_run run.now) buffers }
-    ensures files { OnOk result (D.told → Adds (shown_run run.now) (D.state depot.old).files (D.state depot.new).files
+    ensures files { OnOk result (D.observable → Adds (shown_run run.now) (D.state depot.old).files (D.state depot.new).files
         (record nothing { state = state_bytes machine.now.at machine.now.console })) }
     ensures err { IfErr result (IsWriteFault (shown_run run.now) (D.state depot.old) (D.state depot.new)) }
-    ensures err_files { OnErr result (D.told → AddsParts (shown_run run.now) (D.state depot.old).files (D.state depot.new).files
+    ensures err_files { OnErr result (D.observable → AddsParts (shown_run run.now) (D.state depot.old).files (D.state depot.new).files
         (record nothing { state = state_bytes machine.now.at machine.now.console })) }
     ensures goes_on { GoesOn (D.state depot.old) (D.state depot.new) }
 {
@@ -85,18 +85,18 @@ fn append_pieces<D: Depot>(
     outputs: &Outputs,
     depot: &mut D,
     bytes: &[u8],
-) -> Result<(), Ending>
+) -> Result<(), CommandOutcome>
     requires begun { AreBegun (shown_run run.now) (D.state depot.old).begun outputs.now }
-    ensures files { OnOk result (D.told → Adds (shown_run run.now) (D.state depot.old).files (D.state depot.new).files (record nothing { state = bytes.now })) }
+    ensures files { OnOk result (D.observable → Adds (shown_run run.now) (D.state depot.old).files (D.state depot.new).files (record nothing { state = bytes.now })) }
     ensures err { IfErr result (IsWriteFault (shown_run run.now) (D.state depot.old) (D.state depot.new)) }
-    ensures err_files { OnErr result (D.told → AddsParts (shown_run run.now) (D.state depot.old).files (D.state depot.new).files (record nothing { state = bytes.now })) }
+    ensures err_files { OnErr result (D.observable → AddsParts (shown_run run.now) (D.state depot.old).files (D.state depot.new).files (record nothing { state = bytes.now })) }
     ensures goes_on { GoesOn (D.state depot.old) (D.state depot.new) }
 {
     let mut rest = bytes;
     'pieces: while rest.len() > PIECE {
         let (piece, later) = rest.split_at(PIECE);
-        if let Err(ending) = append(run, outputs, depot, Output::Save, piece) {
-            return Err(ending);
+        if let Err(command_outcome) = append(run, outputs, depot, Output::Save, piece) {
+            return Err(command_outcome);
         }
         rest = later;
     }

@@ -9,8 +9,8 @@ ghost use Rattle.md_top.specs.Workers.{CanGoOn, WentOn};
 
 use crate::course::Course;
 use crate::laws::runs_keep_laws;
-use md_machine::{Machine, most_entries, most_pairs};
 use machine_laws::heard;
+use md_machine::{Machine, most_entries, most_pairs};
 use md_word::NoMemory;
 use md_word::region::picture_length;
 use std::alloc::Global;

@@ -34,9 +34,9 @@ pub fn drive_one<D: Depot, S: Sink>(
     depot: &mut D,
     out: &mut S,
 ) -> u8
-    ensures answer { Answers D.told S.told (command_of (map string_bytes words.now.items))
+    ensures answer { Answers D.observable S.observable (command_of (map string_bytes words.now.items))
         (D.state depot.old) (D.state depot.new) (S.state out.old) (S.state out.new) result }
-    ensures causes { Causes D.told (command_of (map string_bytes words.now.items))
+    ensures causes { Causes D.observable (command_of (map string_bytes words.now.items))
         (D.state depot.old) (D.state depot.new) (S.state out.old) (S.state out.new) result }
     ensures laws { ProgramLaws }
 {
@@ -60,9 +60,9 @@ pub fn drive<D: Depot, S: Sink, G: Gate, Rt: Threads + Wait + Sync>(
     out: &mut S,
     gate: &G,
 ) -> u8
-    ensures answer { Answers D.told S.told (command_of (map string_bytes words.now.items))
+    ensures answer { Answers D.observable S.observable (command_of (map string_bytes words.now.items))
         (D.state depot.old) (D.state depot.new) (S.state out.old) (S.state out.new) result }
-    ensures causes { Causes D.told (command_of (map string_bytes words.now.items))
+    ensures causes { Causes D.observable (command_of (map string_bytes words.now.items))
         (D.state depot.old) (D.state depot.new) (S.state out.old) (S.state out.new) result }
     ensures laws { ProgramLaws }
 {

@@ -34,10 +34,10 @@ fn low(value: u16) -> u8
 }
 
 /// The command for what an entry sends to the sound chips, where it is one.
-fn command_of(told: SoundAccess, hearing: &Hearing) -> Option<Command>
-    ensures { (key : Stamp) → sounds_of key told hearing.now ≡ map (command_at key.cycle) (option_to_list result) }
+fn command_of(reported: SoundAccess, hearing: &Hearing) -> Option<Command>
+    ensures { (key : Stamp) → sounds_of key reported hearing.now ≡ map (command_at key.cycle) (option_to_list result) }
 {
-    match told {
+    match reported {
         SoundAccess::Psg(value) => Some(Command::Psg(low(value))),
         SoundAccess::Fm(0, _) | SoundAccess::Fm(2, _) => None,
         SoundAccess::Fm(1, value) => Some(Command::First(low(hearing.first), low(value))),
@@ -88,12 +88,12 @@ impl Making {
         ensures length { OnOk result (vec_len self.new.file + 3 * (self.old.time / 65535)
             ≤ vec_len self.old.file + 6 + 3 * (self.new.time / 65535)) }
     {
-        let told = self.hearing.told(entry);
-        match command_of(told, &self.hearing) {
+        let reported = self.hearing.reported(entry);
+        match command_of(reported, &self.hearing) {
             Some(command) => self.put(command, time_of(self.pal, entry.key.cycle))?,
             None => {}
         }
-        self.hearing.pass(entry, told);
+        self.hearing.pass(entry, reported);
         Ok(())
     }
 

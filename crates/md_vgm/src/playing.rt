@@ -2,7 +2,7 @@ ghost use Rattle.std.specs.Prelude.{◌≡◌, ℕ, ◌≤◌, ◌<◌, ◌+◌,
 ghost use Rattle.md_word.specs.Clock.{batch as batch_length};
 ghost use Rattle.md_files.specs.Wav.{wav_head};
 ghost use Rattle.md_vgm.specs.Course as course;
-ghost use Rattle.md_vgm.specs.Course.{ComesTo, Ends, fm_before, psg_before, stamp, verdict_of};
+ghost use Rattle.md_vgm.specs.Course.{Reaches, Ends, fm_before, psg_before, stamp, verdict_of};
 ghost use Rattle.md_vgm.specs.Outcomes.{Failed, IsPlayed, Made};
 ghost use Rattle.md_vgm.specs.Playing as meaning;
 ghost use Rattle.md_vgm.specs.Playing.{pairs};
@@ -40,9 +40,9 @@ fn sound(
     requires start { start ≡ course.start_of file.now }
     requires within { start ≤ length file.now }
     requires few { batches ≤ 2000000 }
-    ensures sound { IfOk result (λ sound. (n : ℕ) × ComesTo pal file.now n × (batch_length * batches ≤ stamp pal file.now n)
+    ensures sound { IfOk result (λ sound. (n : ℕ) × Reaches pal file.now n × (batch_length * batches ≤ stamp pal file.now n)
         × (sound.items ≡ wav_head (16 * batches) pal ++ pairs (psg_before pal file.now n) (fm_before pal file.now n) batches)) }
-    ensures fine { (last : ℕ) → ComesTo pal file.now last → verdict_of pal file.now last ≡ Ends
+    ensures fine { (last : ℕ) → Reaches pal file.now last → verdict_of pal file.now last ≡ Ends
         → batch_length * batches < stamp pal file.now last + 1 → IfErr result (λ fault. fault ≡ VgmFault.NoMemory) }
 {
     let mut sound = Vec::with_capacity(alloc, HEAD + PAIRS * batches as usize)?;

@@ -17,8 +17,8 @@ picture-rows false = refl
 
 pub only_one : (pal : Bool) (from at next : ℕ) → from ≤ at → at < next → at / clock.line % lines pal ≡ rows pal → at % clock.line ≡ 0
     → next / clock.line % lines pal ≡ rows pal → next % clock.line ≡ 0 → next < from + frame_cycles pal → ⊥
-only_one true from at next behind before line whole other multiple near = omega (arith, behind, before, line, whole, other, multiple, near)
-only_one false from at next behind before line whole other multiple near = omega (arith, behind, before, line, whole, other, multiple, near)
+only_one true from at next following before line whole other multiple near = omega (arith, following, before, line, whole, other, multiple, near)
+only_one false from at next following before line whole other multiple near = omega (arith, following, before, line, whole, other, multiple, near)
 
 -- ---- a line more
 

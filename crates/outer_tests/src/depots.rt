@@ -38,7 +38,7 @@ fn is_fetched<D: Depot>(alloc: Global, depot: &mut D, row: &Row) -> bool {
 }
 
 /// The first of the rows, each as far as the ones before it have gone, whose fetch gives something else.
-fn first_wrong<D: Depot>(alloc: Global, depot: &mut D, rows: &[Row]) -> Option<usize> {
+fn first_invalid<D: Depot>(alloc: Global, depot: &mut D, rows: &[Row]) -> Option<usize> {
     for (number, row) in rows.iter().enumerate() {
         if !is_fetched(alloc, depot, row) {
             return Some(number);
@@ -64,7 +64,7 @@ fn a_real_file_is_written_and_fetched(rt: HostRuntime) -> Result<(), Fail> {
     let mut depot = FileDepot::new(rt, alloc);
     let number = write_file(alloc, &mut depot, "depot_test.bin", &[1, 2, 3])?;
     assert!(rt; is_appended(&mut depot, number, &[4]));
-    assert_eq!(rt; first_wrong(alloc, &mut depot, &rows), None);
+    assert_eq!(rt; first_invalid(alloc, &mut depot, &rows), None);
     let nowhere = depot.begin(alloc, "depot_test.none/file");
     assert!(rt; nowhere == Err(Begin::Failed), "no such folder");
     fs::remove_file(&rt, "depot_test.bin")?;
@@ -83,7 +83,7 @@ fn a_real_file_is_begun_again(rt: HostRuntime) -> Result<(), Fail> {
     let number = write_file(alloc, &mut depot, "depot_test.long", &[1, 2, 3])?;
     let again = write_file(alloc, &mut depot, "depot_test.long", &long)?;
     assert!(rt; again == number);
-    assert_eq!(rt; first_wrong(alloc, &mut depot, &rows), None);
+    assert_eq!(rt; first_invalid(alloc, &mut depot, &rows), None);
     fs::remove_file(&rt, "depot_test.long")?;
     Ok(())
 }

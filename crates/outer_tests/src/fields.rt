@@ -1,4 +1,4 @@
-use md_fields::{Field, first_wrong, put, u8_at, u16_at, u32_at, u64_at, words_at};
+use md_fields::{Field, first_invalid, put, u8_at, u16_at, u32_at, u64_at, words_at};
 use std::test::Fail;
 
 // Each number with its highest byte first, written out by hand.
@@ -32,8 +32,8 @@ fn numbers_are_read(rt: HostRuntime) {
 
 /// The place of the first wrong of six fields, of which so many are right.
 #[tactic(auto, unfolding(md_fields::specs::Fields::sizes))]
-fn place_behind(right: u8) -> Option<usize> {
-    first_wrong(&[
+fn place_after(right: u8) -> Option<usize> {
+    first_invalid(&[
         Field::Byte(0x12, right > 0),
         Field::Word(0x3456, right > 1),
         Field::Long(0x789a_bcde, right > 2),
@@ -46,9 +46,9 @@ fn place_behind(right: u8) -> Option<usize> {
 // From which field on the rules fail, and the place of that field.
 #[test]
 #[tactic(auto, unfolding(md_fields::specs::Fields::sizes))]
-fn the_first_wrong_field_has_its_place(rt: HostRuntime) {
+fn the_first_invalid_field_has_its_place(rt: HostRuntime) {
     for (right, want) in [(0, 0), (1, 1), (2, 3), (3, 7), (4, 15), (5, 19)] {
-        assert!(rt; place_behind(right) == Some(want), "{right}");
+        assert!(rt; place_after(right) == Some(want), "{right}");
     }
-    assert!(rt; first_wrong(&[]).is_none());
+    assert!(rt; first_invalid(&[]).is_none());
 }

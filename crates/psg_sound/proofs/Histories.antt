@@ -5,7 +5,7 @@ use Rattle.std.proofs.lemmas.Bool.{lt-leb}
 use Rattle.md_word.specs.Clock.{fm_sample, psg_tick}
 use Rattle.sound_writes.specs.Order.{is_below, is_from}
 use Rattle.sound_writes.proofs.Courses.{finished-made_below, written_all-append}
-use Rattle.sound_writes.proofs.Filters.{filter-none, filter-filter, filter-later, stamped-before, stamped-behind, stamped-over}
+use Rattle.sound_writes.proofs.Filters.{filter-none, filter-filter, filter-later, stamped-before, stamped-following, stamped-over}
 use Rattle.sound_writes.proofs.Orders.{IsInOrder-append, IsInOrder-filter}
 use Rattle.sound_writes.proofs.Splits.{made_below-in_order}
 use Rattle.psg_sound.specs.declared.write.PsgWrite.{PsgWrite}
@@ -67,7 +67,7 @@ due-heard cut high t history ws s past span h k e (suc n) cycle l m =
     let chip : ticked (heard all (t + n) tick) ≡ after_tick all (t + suc n) =
     ap (λ j. ticked (heard all (t + n) (psg_tick * j))) number ∙ ap (after_tick all) (sym number) in
     let made : filter (is_below stamp_of cycle) (filter (is_from stamp_of tick) ws) ≡ stamped tick cycle all =
-    filter-filter (is_below stamp_of cycle) (is_from stamp_of tick) ws ∙ sym (stamped-behind stamp_of tick cycle 0 cut history ws past reached) in
+    filter-filter (is_below stamp_of cycle) (is_from stamp_of tick) ws ∙ sym (stamped-following stamp_of tick cycle 0 cut history ws past reached) in
     let left : filter (is_from stamp_of cycle) (filter (is_from stamp_of tick) ws) ≡ filter (is_from stamp_of cycle) ws =
     filter-later stamp_of tick cycle cut high ws span m in
     ap (λ (d : Course). made_below cycle (ticked d.chip) d.rest) before

@@ -6,7 +6,7 @@ use Rattle.std.specs.Int.{w16, to_be_bytes}
 use Rattle.std.proofs.lemmas.Bool.{and_parts, le-leb, leb-true, lt-leb, ltb-true}
 use Rattle.std.proofs.lemmas.List.{append-nil, length-append, length-take, length-drop, take_at}
 use Rattle.std.proofs.lemmas.List.Elements.{All-cons, All-nil}
-use Rattle.md_fields.specs.Fields.{AllHold, AreWithin, Field, first_wrong, sizes, spelling}
+use Rattle.md_fields.specs.Fields.{AllHold, AreWithin, Field, first_invalid, sizes, spelling}
 use Rattle.md_fields.specs.Items.{IsRight, Keeps}
 use Rattle.md_fields.specs.Padding.{are_zeros, padded}
 use Rattle.md_fields.specs.Places.{IsBytes, Stand, number_at}
@@ -18,7 +18,7 @@ use Rattle.sound_writes.specs.Keys.{are_kept, is_kept}
 use Rattle.sound_writes.proofs.Entries as entries
 use Rattle.sound_writes.proofs.Entries.{second_fails, third_fails}
 use Rattle.psg_sound.specs.Port.{IsPort}
-use Rattle.psg_sound.specs.PortSpelling.{PortGoesWrongAt, SavedPort, SpellsPort, are_writes, key_of, port_bytes, port_fields, saved_port_of, write_at, write_fields, writes_at}
+use Rattle.psg_sound.specs.PortSpelling.{PortInvalidAt, SavedPort, SpellsPort, are_writes, key_of, port_bytes, port_fields, saved_port_of, write_at, write_fields, writes_at}
 use Rattle.psg_sound.specs.declared.write.PsgWrite.{PsgWrite}
 
 -- ---- a write
@@ -59,12 +59,12 @@ stands_port at bytes long = (refl, (refl, long))
 keeps_port : (at : ℕ) (bytes : List ℕ) → IsBytes bytes → length bytes ≡ 10242 → Keeps (port_fields at) bytes (read_port bytes)
 keeps_port at bytes fits long = kept (port_fields at) bytes (read_port bytes) fits (stands_port at bytes long)
 
-first_by : (at : ℕ) (s : SavedPort) → are_writes at s ≡ false → first_wrong 0 (port_fields at s) ≡ Some 0
-unfolding first_wrong
+first_by : (at : ℕ) (s : SavedPort) → are_writes at s ≡ false → first_invalid 0 (port_fields at s) ≡ Some 0
+unfolding first_invalid
 first_by at s e = rw e refl
 
 right_by : (at : ℕ) (s : SavedPort) → are_writes at s ≡ true → IsRight (port_fields at) s
-unfolding first_wrong
+unfolding first_invalid
 right_by at s e = rw e refl
 
 rule_of : (at : ℕ) (s : SavedPort) → IsRight (port_fields at) s → are_writes at s ≡ true
@@ -72,7 +72,7 @@ unfolding AllHold
 rule_of at s right = (rules_hold 0 (port_fields at s) right).0
 
 -- the rule fails
-pub breaks_port : (at : ℕ) (bytes : List ℕ) → IsBytes bytes → length bytes ≡ 10242 → are_writes at (read_port bytes) ≡ false → PortGoesWrongAt at bytes 0
+pub breaks_port : (at : ℕ) (bytes : List ℕ) → IsBytes bytes → length bytes ≡ 10242 → are_writes at (read_port bytes) ≡ false → PortInvalidAt at bytes 0
 breaks_port at bytes fits long e = inr (record { saved = read_port bytes; keeps = keeps_port at bytes fits long; first = first_by at (read_port bytes) e })
 
 -- a part of the rule fails, and all hold
@@ -150,12 +150,12 @@ spelled_once at bytes ws vs p q =
     ∙ writes_again vs q.fit
 
 -- what is spelled is refused nowhere, and there is one place of a refusal
-pub right_nowhere : (at : ℕ) (bytes : List ℕ) (ws : List PsgWrite) → SpellsPort at bytes ws → (place : ℕ) → PortGoesWrongAt at bytes place → ⊥
-right_nowhere at bytes ws spells place wrong =
-    not_both (port_fields at) bytes (only_one at bytes) 10242 (saved_port_of ws) place spells.keeps spells.right (port_size at (saved_port_of ws)) wrong
+pub right_nowhere : (at : ℕ) (bytes : List ℕ) (ws : List PsgWrite) → SpellsPort at bytes ws → (place : ℕ) → PortInvalidAt at bytes place → ⊥
+right_nowhere at bytes ws spells place invalid =
+    not_both (port_fields at) bytes (only_one at bytes) 10242 (saved_port_of ws) place spells.keeps spells.right (port_size at (saved_port_of ws)) invalid
 
-pub wrong_once : (at : ℕ) (bytes : List ℕ) (p q : ℕ) → PortGoesWrongAt at bytes p → PortGoesWrongAt at bytes q → p ≡ q
-wrong_once at bytes p q a b = one_place (port_fields at) bytes (only_one at bytes) 10242 (port_size at) p q a b
+pub invalid_once : (at : ℕ) (bytes : List ℕ) (p q : ℕ) → PortInvalidAt at bytes p → PortInvalidAt at bytes q → p ≡ q
+invalid_once at bytes p q a b = one_place (port_fields at) bytes (only_one at bytes) 10242 (port_size at) p q a b
 
 -- ---- the bytes of a port
 

@@ -7,7 +7,7 @@ use Rattle.md_fields.specs.Places.{Stand}
 use Rattle.md_fields.proofs.Flags.{flag_again, flag_back}
 use Rattle.md_fields.proofs.Items.{rules_hold, not_both, one_place, same}
 use Rattle.psg_sound.specs.Synth.{IsSynth, Synth}
-use Rattle.psg_sound.specs.SynthSpelling.{SpellsSynth, SynthGoesWrongAt, is_counter, saved_synth_of, synth_fields, synth_from}
+use Rattle.psg_sound.specs.SynthSpelling.{SpellsSynth, SynthInvalidAt, is_counter, saved_synth_of, synth_fields, synth_from}
 use Rattle.psg_sound.specs.declared.saved_synth.SavedSynth.{SavedSynth}
 
 pub synth_size : (s : SavedSynth) → sizes (synth_fields s) ≡ 26
@@ -188,8 +188,8 @@ pub read_only : (bytes : List ℕ) (s : SavedSynth) (synth : Synth) → Keeps sy
 read_only bytes s synth keeps spells = ap synth_from (same synth_fields bytes (only_one bytes) s (saved_synth_of synth) keeps spells.keeps) ∙ synth_again synth
 
 -- what is right is refused nowhere, and there is one place of a refusal
-pub right_nowhere : (bytes : List ℕ) (s : SavedSynth) → Keeps synth_fields bytes s → IsRight synth_fields s → (place : ℕ) → SynthGoesWrongAt bytes place → ⊥
-right_nowhere bytes s keeps right place wrong = not_both synth_fields bytes (only_one bytes) 26 s place keeps right (synth_size s) wrong
+pub right_nowhere : (bytes : List ℕ) (s : SavedSynth) → Keeps synth_fields bytes s → IsRight synth_fields s → (place : ℕ) → SynthInvalidAt bytes place → ⊥
+right_nowhere bytes s keeps right place invalid = not_both synth_fields bytes (only_one bytes) 26 s place keeps right (synth_size s) invalid
 
-pub wrong_once : (bytes : List ℕ) (p q : ℕ) → SynthGoesWrongAt bytes p → SynthGoesWrongAt bytes q → p ≡ q
-wrong_once bytes p q a b = one_place synth_fields bytes (only_one bytes) 26 synth_size p q a b
+pub invalid_once : (bytes : List ℕ) (p q : ℕ) → SynthInvalidAt bytes p → SynthInvalidAt bytes q → p ≡ q
+invalid_once bytes p q a b = one_place synth_fields bytes (only_one bytes) 26 synth_size p q a b

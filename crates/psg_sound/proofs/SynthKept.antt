@@ -3,7 +3,7 @@ use Rattle.std.proofs.Common.{◌≡◌, ℕ, ◌<◌, ◌≤◌, true, refl, ar
 use Rattle.std.specs.Prelude.{◌&&◌, nat_le, nat_lt}
 use Rattle.std.proofs.lemmas.Bool.{le-leb, lt-ltb, and_from}
 use Rattle.md_fields.specs.Fields.{AllHold, AreWithin}
-use Rattle.md_fields.proofs.Items.{none_wrong}
+use Rattle.md_fields.proofs.Items.{none_invalid}
 use Rattle.md_fields.proofs.Flags.{flag_byte, flag_small}
 use Rattle.psg_sound.specs.Synth.{IsSynth, Synth}
 use Rattle.psg_sound.specs.SynthSpelling.{SpellsSynth, is_counter, saved_synth_of, synth_bytes, synth_fields}
@@ -106,5 +106,5 @@ within s ok = (
 pub synth_spelled : (s : Synth) → IsSynth s → SpellsSynth (synth_bytes s) s
 synth_spelled s ok = record {
   keeps = record { within = within s ok; all = refl };
-  right = none_wrong 0 (synth_fields (saved_synth_of s)) (rules_hold s ok);
+  right = none_invalid 0 (synth_fields (saved_synth_of s)) (rules_hold s ok);
 }

@@ -59,5 +59,5 @@ pub record SpellsPort (at : ℕ) (bytes : List ℕ) (writes : List PsgWrite) : T
   pub fit : AreFit write_fields writes
 
 -- bytes that keep no port are refused at this place
-abbrev pub PortGoesWrongAt : ℕ → List ℕ → ℕ → Type 0
-PortGoesWrongAt at bytes place = IsRefused 10242 (port_fields at) bytes place
+abbrev pub PortInvalidAt : ℕ → List ℕ → ℕ → Type 0
+PortInvalidAt at bytes place = IsRefused 10242 (port_fields at) bytes place

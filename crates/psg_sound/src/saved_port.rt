@@ -104,7 +104,7 @@ pub fn writes_at(entries: &[u8], count: usize, into: &mut PsgList)
 pub fn are_kept(writes: &[PsgWrite], at: u64) -> bool
     ensures { result ≡ are_kept at (map meaning.key_of writes.now) }
 {
-    let mut earliest = Earliest::behind_batch(at);
+    let mut earliest = Earliest::following_batch(at);
     let mut rest = writes;
     while let [write, after @ ..] = rest {
         if !earliest.fits(&write.key, at) {

@@ -2,8 +2,8 @@ ghost use Rattle.std.specs.Prelude.{◌≡◌, ◌≢◌, ◌↔◌, ◌+◌, �
 ghost use Rattle.md_fields.specs.Items.{IsRight, Keeps};
 ghost use Rattle.sound_writes.specs.Keys.{are_kept};
 ghost use Rattle.psg_sound.specs.Port.{IsPort};
-ghost use Rattle.psg_sound.specs.PortSpelling.{PortGoesWrongAt, SpellsPort, key_of, port_bytes};
-ghost use Rattle.psg_sound.specs.SynthSpelling.{SpellsSynth, SynthGoesWrongAt, saved_synth_of, synth_bytes, synth_fields};
+ghost use Rattle.psg_sound.specs.PortSpelling.{PortInvalidAt, SpellsPort, key_of, port_bytes};
+ghost use Rattle.psg_sound.specs.SynthSpelling.{SpellsSynth, SynthInvalidAt, saved_synth_of, synth_bytes, synth_fields};
 ghost use Rattle.psg_sound.specs.Synth.{Synth};
 ghost use Rattle.psg_sound.specs.declared.write.PsgWrite.{PsgWrite as Write};
 
@@ -12,7 +12,7 @@ use crate::saved_port::{MOST, WRITE, are_kept, known_writes, put_writes, writes_
 use crate::saved_synth::{SavedSynth, tone_from};
 use crate::synth::PsgSynth;
 use crate::write::PsgList;
-use md_fields::{are_zeros, first_wrong, put, u16_at};
+use md_fields::{are_zeros, first_invalid, put, u16_at};
 use md_word::Unspell;
 use sound_writes::{put_count, put_zeros};
 use std::alloc::Global;
@@ -54,7 +54,7 @@ impl PsgPort {
     pub fn unspell(_alloc: Global, bytes: &[u8], at: u64) -> Result<PsgPort, Unspell>
         ensures found { IfOk result (λ port. SpellsPort at bytes.now port) }
         ensures only { (port : List Write) → SpellsPort at bytes.now port → result ≡ Ok port }
-        ensures rule { (place : ℕ) → IsErrOf result (Unspell.Rule place) ↔ PortGoesWrongAt at bytes.now place }
+        ensures rule { (place : ℕ) → IsErrOf result (Unspell.Rule place) ↔ PortInvalidAt at bytes.now place }
         ensures memory { result ≢ Err Unspell.NoMemory }
     {
         let mut port = PsgPort::power_on();
@@ -69,7 +69,7 @@ impl PsgPort {
     pub fn restore(&mut self, bytes: &[u8], at: u64) -> Result<(), Unspell>
         ensures found { IfOk result (λ nothing. SpellsPort at bytes.now self.new) }
         ensures only { (port : List Write) → SpellsPort at bytes.now port → (result ≡ Ok tt) × (self.new ≡ port) }
-        ensures rule { (place : ℕ) → IsErrOf result (Unspell.Rule place) ↔ PortGoesWrongAt at bytes.now place }
+        ensures rule { (place : ℕ) → IsErrOf result (Unspell.Rule place) ↔ PortInvalidAt at bytes.now place }
         ensures memory { result ≢ Err Unspell.NoMemory }
         ensures empty { IfErr result (λ fault. self.new ≡ []) }
         ensures port { IsPort self.new }
@@ -89,7 +89,7 @@ impl PsgPort {
 /// Makes a list the writes that the bytes keep, where the rules hold; else the offset of the refusal.
 fn port_of(bytes: &[u8], at: u64, into: &mut PsgList) -> Result<(), usize>
     ensures found { IfOk result (λ nothing. SpellsPort at bytes.now into.new.items) }
-    ensures refused { IfErr result (λ place. PortGoesWrongAt at bytes.now place) }
+    ensures refused { IfErr result (λ place. PortInvalidAt at bytes.now place) }
 {
     if bytes.len() != PORT {
         return Err(bytes.len().min(PORT));
@@ -161,7 +161,7 @@ impl PsgSynth {
     pub fn unspell(_alloc: Global, bytes: &[u8], _at: u64) -> Result<PsgSynth, Unspell>
         ensures found { IfOk result (λ synth. SpellsSynth bytes.now synth) }
         ensures only { (synth : Synth) → SpellsSynth bytes.now synth → result ≡ Ok synth }
-        ensures rule { (place : ℕ) → IsErrOf result (Unspell.Rule place) ↔ SynthGoesWrongAt bytes.now place }
+        ensures rule { (place : ℕ) → IsErrOf result (Unspell.Rule place) ↔ SynthInvalidAt bytes.now place }
         ensures memory { result ≢ Err Unspell.NoMemory }
     {
         match saved_of(bytes) {
@@ -182,13 +182,13 @@ impl PsgSynth {
 /// The numbers that the bytes keep, where the rules hold of them; else the offset of the refusal.
 fn saved_of(bytes: &[u8]) -> Result<SavedSynth, usize>
     ensures found { IfOk result (λ saved. Keeps synth_fields bytes.now saved × IsRight synth_fields saved) }
-    ensures refused { IfErr result (λ place. SynthGoesWrongAt bytes.now place) }
+    ensures refused { IfErr result (λ place. SynthInvalidAt bytes.now place) }
 {
     if bytes.len() != SYNTH {
         return Err(bytes.len().min(SYNTH));
     }
     let saved = SavedSynth::read(bytes);
-    match first_wrong(&saved.fields()) {
+    match first_invalid(&saved.fields()) {
         Some(place) => Err(place),
         None => Ok(saved),
     }

@@ -1,8 +1,8 @@
 //! Images of three bytes.
 ghost use Rattle.std.specs.Prelude.{◌≡◌, ◌∷◌, OnOk, take};
 
-use md_word::NoMemory;
 use md_rollback::KeptImages;
+use md_word::NoMemory;
 use std::alloc::Global;
 use std::test::Fail;
 

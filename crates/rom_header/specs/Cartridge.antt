@@ -6,15 +6,15 @@ use Rattle.rom_header.specs.declared.cart.CartFault.{CartFault}
 use Rattle.rom_header.specs.declared.cart.CartFault.TheVariants.{Short, Long, NoMark}
 
 -- "SEGA" is at 100h or at 101h
-abbrev pub has_mark : List ℕ → Bool
-has_mark bytes = bytes_eq (slice_range bytes 0x100 0x104) (codes "SEGA") || bytes_eq (slice_range bytes 0x101 0x105) (codes "SEGA")
+abbrev pub has_magic : List ℕ → Bool
+has_magic bytes = bytes_eq (slice_range bytes 0x100 0x104) (codes "SEGA") || bytes_eq (slice_range bytes 0x101 0x105) (codes "SEGA")
 
 -- why a file is no cartridge; none: it is one
 abbrev pub fault_of : List ℕ → Option CartFault
 fault_of bytes =
     if nat_lt (length bytes) 512 then Some Short
     else (if nat_lt 4194304 (length bytes) then Some Long
-    else (if has_mark bytes then None else Some NoMark))
+    else (if has_magic bytes then None else Some NoMark))
 
 -- an odd length is padded with one 00
 abbrev pub image : List ℕ → List ℕ

@@ -66,7 +66,7 @@ verdict kept computed = if kept == computed then codes " ok" else codes " differ
 
 -- a label and what follows it
 abbrev pub line : List ℕ → List ℕ → List ℕ
-line label told = label ++ told ++ codes "\n"
+line label reported = label ++ reported ++ codes "\n"
 
 -- both checksums, and whether they are the same
 unfoldable pub checksums : ℕ → ℕ → List ℕ

@@ -1,5 +1,5 @@
 ghost use Rattle.std.specs.Prelude.{◌≡◌, ℕ, ◌≤◌, ◌%◌, List, length, ◌⊎◌, Some, IfOk, IfErr, IfSome};
-ghost use Rattle.rom_header.specs.Cartridge.{IsImage, fault_of, has_mark, image};
+ghost use Rattle.rom_header.specs.Cartridge.{IsImage, fault_of, has_magic, image};
 ghost use Rattle.rom_header.specs.Header as header;
 
 use crate::header::header_lines;
@@ -33,9 +33,9 @@ pub struct Cart {
 }
 
 /// Whether the magic of the console is where its boot code looks for it.
-fn has_mark(bytes: &[u8]) -> bool
+fn has_magic(bytes: &[u8]) -> bool
     requires { 512 ≤ length bytes.now }
-    ensures { result ≡ has_mark bytes.now }
+    ensures { result ≡ has_magic bytes.now }
 {
     &bytes[0x100..0x104] == b"SEGA".as_slice() || &bytes[0x101..0x105] == b"SEGA".as_slice()
 }
@@ -65,7 +65,7 @@ impl Cart {
         if bytes.len() > GREATEST {
             return Err(CartFault::Long);
         }
-        if !has_mark(bytes.as_slice()) {
+        if !has_magic(bytes.as_slice()) {
             return Err(CartFault::NoMark);
         }
         if bytes.len() % 2 == 1 && bytes.push(0).is_err() {

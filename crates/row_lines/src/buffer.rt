@@ -69,8 +69,8 @@ impl Buffer {
     /// Writes out so many bytes from an offset on, of those that are there.
     fn tell(&self, rest: &str, answer: &mut Answer) -> Result<(), RowError> {
         let [place, count, _, _] = arguments(rest, "dd")?;
-        let behind = self.bytes.get(place as usize..).unwrap_or(&[]);
-        answer.say_bytes(behind.get(..count as usize).unwrap_or(behind))
+        let following = self.bytes.get(place as usize..).unwrap_or(&[]);
+        answer.say_bytes(following.get(..count as usize).unwrap_or(following))
     }
 
     /// Makes bytes of 0 but for changes.

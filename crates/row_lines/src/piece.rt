@@ -43,9 +43,14 @@ pub fn pieces(alloc: Global, text: &str) -> Result<Vec<u8>, RowError> {
     Ok(built)
 }
 
-/// The first place at which bytes differ from those that are wanted, or their lengths; `told` where they do not.
+/// The first place at which bytes differ from those that are wanted, or their lengths; `reported` where they do not.
 /// It fails where there is no memory for the text.
-pub fn compared(alloc: Global, came: &[u8], wanted: &[u8], told: &str) -> Result<String, RowError> {
+pub fn compared(
+    alloc: Global,
+    came: &[u8],
+    wanted: &[u8],
+    reported: &str,
+) -> Result<String, RowError> {
     let mut place = 0u64;
     for (one, other) in came.iter().zip(wanted.iter()) {
         if one != other {
@@ -56,5 +61,5 @@ pub fn compared(alloc: Global, came: &[u8], wanted: &[u8], told: &str) -> Result
     if came.len() != wanted.len() {
         return Ok(format!(in alloc; "{} bytes for {}", came.len(), wanted.len())?);
     }
-    Ok(String::from_str(alloc, told)?)
+    Ok(String::from_str(alloc, reported)?)
 }

@@ -63,7 +63,7 @@ cut_sub bytes numbers store false long some e =
     (c.0, λ h. absurd cc)
 
 -- the parts of what the bus keeps, after RAM and bank register
-pub record AreBehind (bytes v f p l : List ℕ) : Type 0 where
+pub record AreAfter (bytes v f p l : List ℕ) : Type 0 where
   pub video : part_of video_part bytes ≡ v
   pub fm_port : part_of fm_port_part bytes ≡ f
   pub psg_port : part_of psg_port_part bytes ≡ p
@@ -72,28 +72,28 @@ pub record AreBehind (bytes v f p l : List ℕ) : Type 0 where
 joined_long : (v f p l : List ℕ) → length v ≡ 65813 → length f ≡ 12316 → length p ≡ 10242 → length l ≡ 36 → length (v ++ (f ++ (p ++ l))) ≡ 88407
 joined_long v f p l a b c d = omega (arith, a, b, c, d, length-append v (f ++ (p ++ l)), length-append f (p ++ l), length-append p l)
 
-behind_long : (bytes : List ℕ) → length bytes ≡ 393620 → length (gathered (shared_parts false) bytes) ≡ 88407
-behind_long bytes long =
+after_long : (bytes : List ℕ) → length bytes ≡ 393620 → length (gathered (shared_parts false) bytes) ≡ 88407
+after_long bytes long =
     joined_long (part_of video_part bytes) (part_of fm_port_part bytes) (part_of psg_port_part bytes) (part_of board_part bytes ++ [])
     (part_long video_part bytes (omega (arith, long))) (part_long fm_port_part bytes (omega (arith, long))) (part_long psg_port_part bytes (omega (arith, long)))
     (ap length (append-nil (part_of board_part bytes)) ∙ part_long board_part bytes (omega (arith, long)))
 
-cut_behind : (bytes v f p l : List ℕ) → length bytes ≡ 393620 → length v ≡ 65813 → length f ≡ 12316 → length p ≡ 10242 → gathered (shared_parts false) bytes ≡ v ++ (f ++ (p ++ l)) → AreBehind bytes v f p l
-cut_behind bytes v f p l long a b c e =
+cut_after : (bytes v f p l : List ℕ) → length bytes ≡ 393620 → length v ≡ 65813 → length f ≡ 12316 → length p ≡ 10242 → gathered (shared_parts false) bytes ≡ v ++ (f ++ (p ++ l)) → AreAfter bytes v f p l
+cut_after bytes v f p l long a b c e =
     let first = cut (part_of video_part bytes) (part_of fm_port_part bytes ++ (part_of psg_port_part bytes ++ (part_of board_part bytes ++ []))) v (f ++ (p ++ l)) (part_long video_part bytes (omega (arith, long)) ∙ sym a) e in
     let second = cut (part_of fm_port_part bytes) (part_of psg_port_part bytes ++ (part_of board_part bytes ++ [])) f (p ++ l) (part_long fm_port_part bytes (omega (arith, long)) ∙ sym b) first.1 in
     let third = cut (part_of psg_port_part bytes) (part_of board_part bytes ++ []) p l (part_long psg_port_part bytes (omega (arith, long)) ∙ sym c) second.1 in
     record { video = first.0; fm_port = second.0; psg_port = third.0; lines = sym (append-nil (part_of board_part bytes)) ∙ third.1 }
 
 -- RAM and bank register are as long as the parts say, and all is in its part
-pub cut_shared : (bytes store v f p l : List ℕ) (has : Bool) → length bytes ≡ 393620 → length v ≡ 65813 → length f ≡ 12316 → length p ≡ 10242 → length l ≡ 36 → gathered (shared_parts has) bytes ≡ store ++ (v ++ (f ++ (p ++ l))) → (length store ≡ store_size has) × (has ≡ true → part_of store_part bytes ≡ store) × AreBehind bytes v f p l
+pub cut_shared : (bytes store v f p l : List ℕ) (has : Bool) → length bytes ≡ 393620 → length v ≡ 65813 → length f ≡ 12316 → length p ≡ 10242 → length l ≡ 36 → gathered (shared_parts has) bytes ≡ store ++ (v ++ (f ++ (p ++ l))) → (length store ≡ store_size has) × (has ≡ true → part_of store_part bytes ≡ store) × AreAfter bytes v f p l
 cut_shared bytes store v f p l true long a b c d e =
     let rest = joined_long v f p l a b c d in
-    let sum : length store ≡ 8194 = omega (arith, ap length e, length-append (part_of store_part bytes) (gathered (shared_parts false) bytes), length-append store (v ++ (f ++ (p ++ l))), part_long store_part bytes (omega (arith, long)), behind_long bytes long, rest) in
+    let sum : length store ≡ 8194 = omega (arith, ap length e, length-append (part_of store_part bytes) (gathered (shared_parts false) bytes), length-append store (v ++ (f ++ (p ++ l))), part_long store_part bytes (omega (arith, long)), after_long bytes long, rest) in
     let parts = cut (part_of store_part bytes) (gathered (shared_parts false) bytes) store (v ++ (f ++ (p ++ l))) (part_long store_part bytes (omega (arith, long)) ∙ sym sum) e in
-    (sum, λ h. parts.0, cut_behind bytes v f p l long a b c parts.1)
+    (sum, λ h. parts.0, cut_after bytes v f p l long a b c parts.1)
 cut_shared bytes store v f p l false long a b c d e =
     let rest = joined_long v f p l a b c d in
-    let sum : length store ≡ 0 = omega (arith, ap length e, length-append store (v ++ (f ++ (p ++ l))), behind_long bytes long, rest) in
+    let sum : length store ≡ 0 = omega (arith, ap length e, length-append store (v ++ (f ++ (p ++ l))), after_long bytes long, rest) in
     let parts = cut [] (gathered (shared_parts false) bytes) store (v ++ (f ++ (p ++ l))) (sym sum) e in
-    (sum, λ h. absurd cc, cut_behind bytes v f p l long a b c parts.1)
+    (sum, λ h. absurd cc, cut_after bytes v f p l long a b c parts.1)

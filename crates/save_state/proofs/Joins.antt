@@ -14,22 +14,22 @@ fine x = Ok x
 
 -- the answer of a reader that is refused at one place at most
 pub one_item : {T : Type 0} (Keeps : T → Type 0) (Fails : ℕ → Type 0) (answer : Result T Unspell) → IfOk answer Keeps → ((x : T) → Keeps x → answer ≢ failed NoMemory → answer ≡ Ok x) → ((p : ℕ) → answer ≡ failed (Rule p) → Fails p) → ((p : ℕ) → Fails p → answer ≢ failed NoMemory → answer ≡ failed (Rule p)) → Reads Keeps Fails answer
-one_item {T} Keeps Fails (Ok x) found only rule wrong = record {
+one_item {T} Keeps Fails (Ok x) found only rule invalid = record {
   found = found;
   only = only;
-  none = λ p fails. (let e : fine {T = T} x ≡ failed (Rule p) = wrong p fails (λ n. cc) in absurd cc);
+  none = λ p fails. (let e : fine {T = T} x ≡ failed (Rule p) = invalid p fails (λ n. cc) in absurd cc);
   least = λ p e. absurd cc;
 }
-one_item {T} Keeps Fails (Err (Rule q)) found only rule wrong = record {
+one_item {T} Keeps Fails (Err (Rule q)) found only rule invalid = record {
   found = tt;
   only = only;
   none = tt;
   least = λ p e. record {
     fails = rule p e;
-    least = λ r fails. (let same : failed {T = T} (Rule q) ≡ failed (Rule r) = wrong r fails (λ n. cc) in omega (arith, same_rule {T = T} q p e, same_rule {T = T} q r same));
+    least = λ r fails. (let same : failed {T = T} (Rule q) ≡ failed (Rule r) = invalid r fails (λ n. cc) in omega (arith, same_rule {T = T} q p e, same_rule {T = T} q r same));
   };
 }
-one_item {T} Keeps Fails (Err NoMemory) found only rule wrong = record {
+one_item {T} Keeps Fails (Err NoMemory) found only rule invalid = record {
   found = tt;
   only = only;
   none = tt;
@@ -81,8 +81,8 @@ two_right {A} {B} K L F G a b r s = record {
   least = λ p e. absurd cc;
 }
 
-first_wrong : {A B : Type 0} (K : A → Type 0) (L : B → Type 0) (F G : ℕ → Type 0) (p : ℕ) (b : B) → Reads {T = A} K F (Err (Rule p)) → Reads {T = B} L G (Ok b) → Reads {T = A × B} (KeepsBoth K L) (Either F G) (Err (Rule p))
-first_wrong {A} {B} K L F G p b r s = record {
+first_invalid : {A B : Type 0} (K : A → Type 0) (L : B → Type 0) (F G : ℕ → Type 0) (p : ℕ) (b : B) → Reads {T = A} K F (Err (Rule p)) → Reads {T = B} L G (Ok b) → Reads {T = A × B} (KeepsBoth K L) (Either F G) (Err (Rule p))
+first_invalid {A} {B} K L F G p b r s = record {
   found = tt;
   only = λ x keeps n. absurd (not_failed {A = A} K F p r x.0 keeps.0);
   none = tt;
@@ -95,8 +95,8 @@ first_wrong {A} {B} K L F G p b r s = record {
       });
 }
 
-second_wrong : {A B : Type 0} (K : A → Type 0) (L : B → Type 0) (F G : ℕ → Type 0) (p : ℕ) (a : A) → Reads {T = A} K F (Ok a) → Reads {T = B} L G (Err (Rule p)) → Reads {T = A × B} (KeepsBoth K L) (Either F G) (Err (Rule p))
-second_wrong {A} {B} K L F G p a r s = record {
+second_invalid : {A B : Type 0} (K : A → Type 0) (L : B → Type 0) (F G : ℕ → Type 0) (p : ℕ) (a : A) → Reads {T = A} K F (Ok a) → Reads {T = B} L G (Err (Rule p)) → Reads {T = A × B} (KeepsBoth K L) (Either F G) (Err (Rule p))
+second_invalid {A} {B} K L F G p a r s = record {
   found = tt;
   only = λ x keeps n. absurd (not_failed {A = B} L G p s x.1 keeps.1);
   none = tt;
@@ -116,8 +116,8 @@ least_fails F G p q f g (inr le) = inr (subst G (omega (arith, le)) g)
 le_cases : (p q : ℕ) → (p ≤ q) ⊎ (q ≤ p)
 le_cases p q = grind arith
 
-two_wrong : {A B : Type 0} (K : A → Type 0) (L : B → Type 0) (F G : ℕ → Type 0) (p q : ℕ) → Reads {T = A} K F (Err (Rule p)) → Reads {T = B} L G (Err (Rule q)) → Reads {T = A × B} (KeepsBoth K L) (Either F G) (Err (Rule (min p q)))
-two_wrong {A} {B} K L F G p q r s = record {
+two_invalid : {A B : Type 0} (K : A → Type 0) (L : B → Type 0) (F G : ℕ → Type 0) (p q : ℕ) → Reads {T = A} K F (Err (Rule p)) → Reads {T = B} L G (Err (Rule q)) → Reads {T = A × B} (KeepsBoth K L) (Either F G) (Err (Rule (min p q)))
+two_invalid {A} {B} K L F G p q r s = record {
   found = tt;
   only = λ x keeps n. absurd (not_failed {A = A} K F p r x.0 keeps.0);
   none = tt;
@@ -141,10 +141,10 @@ no_memory K F = record {
 
 pub joined : {A B : Type 0} (K : A → Type 0) (L : B → Type 0) (F G : ℕ → Type 0) (first : Result A Unspell) (second : Result B Unspell) → Reads K F first → Reads L G second → Reads (KeepsBoth K L) (Either F G) (both first second)
 joined {A} {B} K L F G (Ok a) (Ok b) r s = two_right {A = A} {B = B} K L F G a b r s
-joined {A} {B} K L F G (Ok a) (Err (Rule q)) r s = second_wrong {A = A} {B = B} K L F G q a r s
+joined {A} {B} K L F G (Ok a) (Err (Rule q)) r s = second_invalid {A = A} {B = B} K L F G q a r s
 joined {A} {B} K L F G (Ok a) (Err NoMemory) r s = no_memory {A = A × B} (KeepsBoth K L) (Either F G)
-joined {A} {B} K L F G (Err (Rule p)) (Ok b) r s = first_wrong {A = A} {B = B} K L F G p b r s
-joined {A} {B} K L F G (Err (Rule p)) (Err (Rule q)) r s = two_wrong {A = A} {B = B} K L F G p q r s
+joined {A} {B} K L F G (Err (Rule p)) (Ok b) r s = first_invalid {A = A} {B = B} K L F G p b r s
+joined {A} {B} K L F G (Err (Rule p)) (Err (Rule q)) r s = two_invalid {A = A} {B = B} K L F G p q r s
 joined {A} {B} K L F G (Err (Rule p)) (Err NoMemory) r s = no_memory {A = A × B} (KeepsBoth K L) (Either F G)
 joined {A} {B} K L F G (Err NoMemory) (Ok b) r s = no_memory {A = A × B} (KeepsBoth K L) (Either F G)
 joined {A} {B} K L F G (Err NoMemory) (Err (Rule q)) r s = no_memory {A = A × B} (KeepsBoth K L) (Either F G)
@@ -212,16 +212,16 @@ rule_broken {T} K F (Err (Rule n)) place Broken broken r = record {
 rule_broken {T} K F (Err NoMemory) place Broken broken r = no_memory {A = T} (Ruled K Broken) (Either F (Breaks place Broken))
 
 pub reads_ruled : {T : Type 0} (K : T → Type 0) (F : ℕ → Type 0) (answer : Result T Unspell) (holds : Bool) (place : ℕ) (Broken : Type 0) → (holds ≡ false → Broken) → (Broken → holds ≡ false) → Reads K F answer → Reads (Ruled K Broken) (Either F (Breaks place Broken)) (with_rule answer holds place)
-reads_ruled {T} K F answer true place Broken fails told r = rule_holds {T = T} K F answer place Broken (λ broken. (let e = told broken in absurd cc)) r
-reads_ruled {T} K F answer false place Broken fails told r = rule_broken {T = T} K F answer place Broken (fails refl) r
+reads_ruled {T} K F answer true place Broken fails reported r = rule_holds {T = T} K F answer place Broken (λ broken. (let e = reported broken in absurd cc)) r
+reads_ruled {T} K F answer false place Broken fails reported r = rule_broken {T = T} K F answer place Broken (fails refl) r
 
 -- an item of these bytes at this cycle, read over parts
-pub item : {T : Type 0} (Keeps : ℕ → List ℕ → T → Type 0) (Wrong : ℕ → List ℕ → ℕ → Type 0) (parts whole : List Part) (at cycle : ℕ) (bytes kept : List ℕ) (answer : Result T Unspell) → whole ≡ parts → are_ordered 0 parts ≡ true → at ≡ cycle → bytes ≡ kept → IfOk answer (Keeps at bytes) → ((x : T) → Keeps at bytes x → answer ≢ failed NoMemory → answer ≡ Ok x) → ((p : ℕ) → answer ≡ failed (Rule p) → Wrong at bytes p) → ((p : ℕ) → Wrong at bytes p → answer ≢ failed NoMemory → answer ≡ failed (Rule p)) → Reads (Keeps cycle kept) (FailsIn parts (Wrong cycle kept)) (placed whole answer)
-item {T} Keeps Wrong parts whole at cycle bytes kept answer same ordered e f found only rule wrong =
-    subst (λ (ps : List Part). Reads (Keeps cycle kept) (FailsIn parts (Wrong cycle kept)) (placed {T = T} ps answer)) (sym same) (
-    subst (λ (l : List ℕ). Reads (Keeps cycle l) (FailsIn parts (Wrong cycle l)) (placed {T = T} parts answer)) f (
-    subst (λ (a : ℕ). Reads (Keeps a bytes) (FailsIn parts (Wrong a bytes)) (placed {T = T} parts answer)) e (
-    in_parts {T = T} (Keeps at bytes) (Wrong at bytes) parts answer ordered (one_item {T = T} (Keeps at bytes) (Wrong at bytes) answer found only rule wrong))))
+pub item : {T : Type 0} (Keeps : ℕ → List ℕ → T → Type 0) (Invalid : ℕ → List ℕ → ℕ → Type 0) (parts whole : List Part) (at cycle : ℕ) (bytes kept : List ℕ) (answer : Result T Unspell) → whole ≡ parts → are_ordered 0 parts ≡ true → at ≡ cycle → bytes ≡ kept → IfOk answer (Keeps at bytes) → ((x : T) → Keeps at bytes x → answer ≢ failed NoMemory → answer ≡ Ok x) → ((p : ℕ) → answer ≡ failed (Rule p) → Invalid at bytes p) → ((p : ℕ) → Invalid at bytes p → answer ≢ failed NoMemory → answer ≡ failed (Rule p)) → Reads (Keeps cycle kept) (FailsIn parts (Invalid cycle kept)) (placed whole answer)
+item {T} Keeps Invalid parts whole at cycle bytes kept answer same ordered e f found only rule invalid =
+    subst (λ (ps : List Part). Reads (Keeps cycle kept) (FailsIn parts (Invalid cycle kept)) (placed {T = T} ps answer)) (sym same) (
+    subst (λ (l : List ℕ). Reads (Keeps cycle l) (FailsIn parts (Invalid cycle l)) (placed {T = T} parts answer)) f (
+    subst (λ (a : ℕ). Reads (Keeps a bytes) (FailsIn parts (Invalid a bytes)) (placed {T = T} parts answer)) e (
+    in_parts {T = T} (Keeps at bytes) (Invalid at bytes) parts answer ordered (one_item {T = T} (Keeps at bytes) (Invalid at bytes) answer found only rule invalid))))
 
 -- memory ran out
 pub wanting : {T : Type 0} (K : T → Type 0) (F : ℕ → Type 0) (answer : Result T Unspell) → IsErrAnd answer (λ fault. fault ≡ NoMemory) → Reads K F answer

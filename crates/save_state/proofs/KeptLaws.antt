@@ -11,7 +11,7 @@ use Rattle.m68k_chip.specs.Spelling as main
 use Rattle.z80_chip.specs.Spelling as sub
 use Rattle.z80_parcel.specs.Parcels.{Store}
 use Rattle.vdp_ports.specs.Spelling.{vdp_bytes}
-use Rattle.vdp_chip.specs.Spelling as drawing
+use Rattle.vdp_chip.specs.Spelling as renderer_state
 use Rattle.fm_port.specs.PortSpelling as fm_port
 use Rattle.fm_chip.specs.SynthSpelling as fm
 use Rattle.psg_sound.specs.PortSpelling as psg_port
@@ -19,16 +19,16 @@ use Rattle.psg_sound.specs.SynthSpelling as psg
 use Rattle.bus_shared.specs.Saved.{lines_of}
 use Rattle.bus_shared.specs.Spelling as shared
 use Rattle.bus_shared.proofs.SpellingLaws as shared_laws
-use Rattle.md_machine.specs.Console.{Console, drawing_in}
+use Rattle.md_machine.specs.Console.{Console, renderer_state_in}
 use Rattle.md_machine.specs.Machines.{MachineValue}
 use Rattle.md_machine.specs.Starts.{first_batch}
 use Rattle.save_state.specs.Faults.{HasForm, IsMachineOf}
-use Rattle.save_state.specs.Items.{at_of, region_of, main_next, sub_next, stage_of, holder_in, main_bytes, sub_bytes, shared_bytes, drawing_bytes}
+use Rattle.save_state.specs.Items.{at_of, region_of, main_next, sub_next, stage_of, holder_in, main_bytes, sub_bytes, shared_bytes, renderer_state_bytes}
 use Rattle.save_state.specs.Layout.{part_of, digest_part, sub_part, store_part}
 use Rattle.save_state.specs.States.{store_of, number_bytes, is_holder, are_fm_early, are_psg_early, IsSaved, IsNewest}
-use Rattle.save_state.proofs.Gathered.{sub_gathered_long, one_size, one_store, cut_sub, cut_shared, AreBehind}
+use Rattle.save_state.proofs.Gathered.{sub_gathered_long, one_size, one_store, cut_sub, cut_shared, AreAfter}
 use Rattle.save_state.proofs.Places.{yes}
-use Rattle.save_state.proofs.Parts.{main_own, drawing_own, sub_own, sub_joined, numbers_long, sub_long, vdp_long, fm_port_long, psg_port_long, lines_long}
+use Rattle.save_state.proofs.Parts.{main_own, renderer_state_own, sub_own, sub_joined, numbers_long, sub_long, vdp_long, fm_port_long, psg_port_long, lines_long}
 use Rattle.save_state.proofs.Standing.{AreParts, parts_spelled, main_next_is, sub_numbers_are, resets_are}
 
 small : (holder stage : ℕ) → is_holder holder stage ≡ true → holder ≤ 1
@@ -61,7 +61,7 @@ record Owners (bytes : List ℕ) (m : Console) : Type 0 where
   numbers : part_of sub_part bytes ≡ number_bytes m.sub.state
   store : part_of store_part bytes ≡ shared.store_bytes (store_of m)
 
-shared_cut : (cart : List ℕ) (recording : Recorded) (bytes : List ℕ) (m : MachineValue) → length bytes ≡ 393620 → IsMachineOf cart recording bytes m → (length (shared.store_bytes m.console.shared.store) ≡ shared.store_size (holder_in bytes == 1)) × ((holder_in bytes == 1) ≡ true → part_of store_part bytes ≡ shared.store_bytes m.console.shared.store) × AreBehind bytes (vdp_bytes m.console.shared.vdp) (fm_port.port_bytes m.console.shared.fm) (psg_port.port_bytes m.console.shared.psg) (shared.lines_bytes (lines_of m.console.shared))
+shared_cut : (cart : List ℕ) (recording : Recorded) (bytes : List ℕ) (m : MachineValue) → length bytes ≡ 393620 → IsMachineOf cart recording bytes m → (length (shared.store_bytes m.console.shared.store) ≡ shared.store_size (holder_in bytes == 1)) × ((holder_in bytes == 1) ≡ true → part_of store_part bytes ≡ shared.store_bytes m.console.shared.store) × AreAfter bytes (vdp_bytes m.console.shared.vdp) (fm_port.port_bytes m.console.shared.fm) (psg_port.port_bytes m.console.shared.psg) (shared.lines_bytes (lines_of m.console.shared))
 shared_cut cart recording bytes m long is =
     let b = m.console.shared in
     let s = is.shared.spells in
@@ -95,13 +95,13 @@ machine_parts cart recording bytes digest m form d is =
       head = form.mark;
       digest_is = d;
       at_is = sym is.at;
-      region = sym (flag_back (slice_index bytes 48) is.region) ∙ ap flag_number (sym is.drawing.region);
+      region = sym (flag_back (slice_index bytes 48) is.region) ∙ ap flag_number (sym is.renderer_state.region);
       main = main_own cart (at_of bytes) (main_bytes bytes) m.console.main is.main.spells;
       numbers = o.numbers;
       holder = back (holder_in bytes) o.few ∙ ap (λ (has : Bool). if has then 1 else 0) (sym o.shared_has);
       store = o.store;
       video = rest.video;
-      drawing = drawing_own (at_of bytes) (region_of bytes) (drawing_bytes bytes) (drawing_in m.console) is.drawing;
+      renderer_state = renderer_state_own (at_of bytes) (region_of bytes) (renderer_state_bytes bytes) (renderer_state_in m.console) is.renderer_state;
       fm_port = rest.fm_port;
       fm_next = is.fm.next ∙ ap first_batch (sym is.at);
       fm = is.fm.spells.keeps.all;
@@ -119,9 +119,9 @@ saved_there cart recording bytes digest m form d is =
     let at = sym is.at in
     let main_kept : main.Spells cart m.at (main.chip_bytes c.main) c.main = subst (λ (a : ℕ). main.Spells cart a (main.chip_bytes c.main) c.main) at (subst (λ (l : List ℕ). main.Spells cart (at_of bytes) l c.main) p.main is.main.spells) in
     let sub_kept : sub.Spells cart m.at (sub.chip_bytes c.sub.state) c.sub.state = subst (λ (a : ℕ). sub.Spells cart a (sub.chip_bytes c.sub.state) c.sub.state) at (subst (λ (l : List ℕ). sub.Spells cart (at_of bytes) l c.sub.state) (sub_own cart (at_of bytes) (sub_bytes bytes) c.sub.state is.sub.spells) is.sub.spells) in
-    let its : region_of bytes ≡ c.pal = sym is.drawing.region in
+    let its : region_of bytes ≡ c.pal = sym is.renderer_state.region in
     let shared_kept : shared.Spells m.at c.pal (shared.board_bytes c.shared) c.shared = subst (λ (b : Bool). shared.Spells m.at b (shared.board_bytes c.shared) c.shared) its (subst (λ (a : ℕ). shared.Spells a (region_of bytes) (shared.board_bytes c.shared) c.shared) at (subst (λ (l : List ℕ). shared.Spells (at_of bytes) (region_of bytes) l c.shared) is.shared.spells.all is.shared.spells)) in
-    let drawing_kept : drawing.Spells m.at c.pal (drawing.drawing_bytes (drawing_in c)) (drawing_in c) = subst (λ (b : Bool). drawing.Spells m.at b (drawing.drawing_bytes (drawing_in c)) (drawing_in c)) its (subst (λ (a : ℕ). drawing.Spells a (region_of bytes) (drawing.drawing_bytes (drawing_in c)) (drawing_in c)) at (subst (λ (l : List ℕ). drawing.Spells (at_of bytes) (region_of bytes) l (drawing_in c)) p.drawing is.drawing)) in
+    let renderer_state_kept : renderer_state.Spells m.at c.pal (renderer_state.renderer_state_bytes (renderer_state_in c)) (renderer_state_in c) = subst (λ (b : Bool). renderer_state.Spells m.at b (renderer_state.renderer_state_bytes (renderer_state_in c)) (renderer_state_in c)) its (subst (λ (a : ℕ). renderer_state.Spells a (region_of bytes) (renderer_state.renderer_state_bytes (renderer_state_in c)) (renderer_state_in c)) at (subst (λ (l : List ℕ). renderer_state.Spells (at_of bytes) (region_of bytes) l (renderer_state_in c)) p.renderer_state is.renderer_state)) in
     let numbers = sub_numbers_are cart digest bytes m.at c p sub_kept in
     let next = main_next_is cart digest bytes m.at c p main_kept in
     let resets = resets_are digest bytes m.at c.pal c (shared.board_bytes c.shared) p shared_kept in
@@ -135,7 +135,7 @@ saved_there cart recording bytes digest m form d is =
       main = main_kept;
       sub = sub_kept;
       shared = shared_kept;
-      drawing = drawing_kept;
+      renderer_state = renderer_state_kept;
       fm_cycle = is.fm_cycle;
       psg_cycle = is.psg_cycle;
       fm = subst (λ (l : List ℕ). fm.SpellsSynth l c.fm) p.fm is.fm.spells;

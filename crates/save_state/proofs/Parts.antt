@@ -19,10 +19,10 @@ use Rattle.vdp_ports.specs.Saved.{vdp_fields}
 use Rattle.vdp_ports.specs.Spelling as video
 use Rattle.vdp_ports.specs.Vdp.{Vdp}
 use Rattle.vdp_ports.proofs.SavedLaws as vdp_laws
-use Rattle.vdp_chip.specs.Drawing.{Drawing}
-use Rattle.vdp_chip.specs.Saved as saved_drawing
-use Rattle.vdp_chip.specs.Spelling as drawing
-use Rattle.vdp_chip.proofs.SavedLaws as drawing_laws
+use Rattle.vdp_chip.specs.RendererState.{RendererState}
+use Rattle.vdp_chip.specs.Saved as saved_renderer_state
+use Rattle.vdp_chip.specs.Spelling as renderer_state
+use Rattle.vdp_chip.proofs.SavedLaws as renderer_state_laws
 use Rattle.fm_port.specs.Port.{Port}
 use Rattle.fm_port.specs.PortSpelling as fm_port
 use Rattle.fm_chip.specs.Synth as fm_synths
@@ -71,8 +71,8 @@ main_long cart at bytes s p = main_laws.spelled_long cart at bytes s p
 pub vdp_long : (at : ℕ) (pal : Bool) (bytes : List ℕ) (s : Vdp) → video.Spells at pal bytes s → length bytes ≡ 65813
 vdp_long at pal bytes s p = ap length p.keeps.all ∙ long_as (vdp_fields at pal (numbers_vdp.numbers_of s)) p.keeps.within ∙ vdp_laws.fields_size at pal (numbers_vdp.numbers_of s)
 
-pub drawing_long : (at : ℕ) (pal : Bool) (bytes : List ℕ) (d : Drawing) → drawing.Spells at pal bytes d → length bytes ≡ 230410
-drawing_long at pal bytes d p = ap length p.keeps.all ∙ long_as (saved_drawing.drawing_fields at pal (saved_drawing.numbers_of d)) p.keeps.within ∙ drawing_laws.fields_size at pal (saved_drawing.numbers_of d)
+pub renderer_state_long : (at : ℕ) (pal : Bool) (bytes : List ℕ) (d : RendererState) → renderer_state.Spells at pal bytes d → length bytes ≡ 230410
+renderer_state_long at pal bytes d p = ap length p.keeps.all ∙ long_as (saved_renderer_state.renderer_state_fields at pal (saved_renderer_state.numbers_of d)) p.keeps.within ∙ renderer_state_laws.fields_size at pal (saved_renderer_state.numbers_of d)
 
 pub fm_port_long : (at : ℕ) (bytes : List ℕ) (p : Port) → fm_port.SpellsPort at bytes p → length bytes ≡ 12316
 fm_port_long at bytes p s = ap length s.keeps.all ∙ long_as (fm_port.port_fields at (fm_port.saved_port_of p)) s.keeps.within ∙ fm_port_laws.port_size at (fm_port.saved_port_of p)
@@ -95,8 +95,8 @@ pub main_own : (cart : List ℕ) (at : ℕ) (bytes : List ℕ) (s : State68) →
 unfolding spelling
 main_own cart at bytes s p = p.keeps.all
 
-pub drawing_own : (at : ℕ) (pal : Bool) (bytes : List ℕ) (d : Drawing) → drawing.Spells at pal bytes d → bytes ≡ drawing.drawing_bytes d
-drawing_own at pal bytes d p = p.keeps.all ∙ drawing_laws.same_bytes at 0 pal false (saved_drawing.numbers_of d)
+pub renderer_state_own : (at : ℕ) (pal : Bool) (bytes : List ℕ) (d : RendererState) → renderer_state.Spells at pal bytes d → bytes ≡ renderer_state.renderer_state_bytes d
+renderer_state_own at pal bytes d p = p.keeps.all ∙ renderer_state_laws.same_bytes at 0 pal false (saved_renderer_state.numbers_of d)
 
 -- ---- the Z80: its numbers, and RAM with the bank register after them
 

@@ -24,8 +24,8 @@ first_inside from (p ∷ ps) d some e = at_most (p.place + p.size) ps (and_parts
 place_in : (p q : Part) (ps : List Part) (n : ℕ) → n < p.size → place_of (p ∷ (q ∷ ps)) n ≡ p.place + n
 place_in p q ps n lt = ap (λ (b : Bool). cond b (p.place + n) (place_of (q ∷ ps) (n - p.size))) (lt-ltb n p.size lt)
 
-place_behind : (p q : Part) (ps : List Part) (n : ℕ) → p.size ≤ n → place_of (p ∷ (q ∷ ps)) n ≡ place_of (q ∷ ps) (n - p.size)
-place_behind p q ps n le = ap (λ (b : Bool). cond b (p.place + n) (place_of (q ∷ ps) (n - p.size))) (le-ltb n p.size le)
+place_after : (p q : Part) (ps : List Part) (n : ℕ) → p.size ≤ n → place_of (p ∷ (q ∷ ps)) n ≡ place_of (q ∷ ps) (n - p.size)
+place_after p q ps n le = ap (λ (b : Bool). cond b (p.place + n) (place_of (q ∷ ps) (n - p.size))) (le-ltb n p.size le)
 
 -- no offset is before the first part
 pub from_first : (p : Part) (ps : List Part) (from n : ℕ) → are_ordered from (p ∷ ps) ≡ true → from ≤ place_of (p ∷ ps) n
@@ -35,7 +35,7 @@ from_first p (q ∷ ps) from n e =
     let low = leb-true from p.place h.0 in
     elim (cases_lt n p.size) [
       | inl lt ↦ omega (arith, low, place_in p q ps n lt)
-      | inr le ↦ omega (arith, low, place_behind p q ps n le, from_first q ps (p.place + p.size) (n - p.size) h.1)
+      | inr le ↦ omega (arith, low, place_after p q ps n le, from_first q ps (p.place + p.size) (n - p.size) h.1)
     ]
 
 -- a lesser place of the gathered bytes is no greater in the state
@@ -47,10 +47,10 @@ in_order (p ∷ (q ∷ ps)) from m n e le =
     elim (cases_lt m p.size) [
       | inl low ↦ (elim (cases_lt n p.size) [
         | inl lt ↦ omega (arith, le, place_in p q ps m low, place_in p q ps n lt)
-        | inr ge ↦ omega (arith, low, place_in p q ps m low, place_behind p q ps n ge, from_first q ps (p.place + p.size) (n - p.size) h.1)
+        | inr ge ↦ omega (arith, low, place_in p q ps m low, place_after p q ps n ge, from_first q ps (p.place + p.size) (n - p.size) h.1)
       ])
       | inr high ↦ (let ge : p.size ≤ n = omega (arith, high, le) in
-          omega (arith, place_behind p q ps m high, place_behind p q ps n ge, in_order (q ∷ ps) (p.place + p.size) (m - p.size) (n - p.size) h.1 (omega (arith, le))))
+          omega (arith, place_after p q ps m high, place_after p q ps n ge, in_order (q ∷ ps) (p.place + p.size) (m - p.size) (n - p.size) h.1 (omega (arith, le))))
     ]
 
 -- and it is within the state
@@ -61,5 +61,5 @@ place_inside (p ∷ (q ∷ ps)) from n e =
     let h = and_parts _ (are_ordered (p.place + p.size) (q ∷ ps)) e in
     elim (cases_lt n p.size) [
       | inl lt ↦ omega (arith, lt, place_in p q ps n lt, at_most (p.place + p.size) (q ∷ ps) h.1)
-      | inr ge ↦ omega (arith, place_behind p q ps n ge, place_inside (q ∷ ps) (p.place + p.size) (n - p.size) h.1)
+      | inr ge ↦ omega (arith, place_after p q ps n ge, place_inside (q ∷ ps) (p.place + p.size) (n - p.size) h.1)
     ]

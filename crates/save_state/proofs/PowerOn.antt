@@ -17,12 +17,12 @@ use Rattle.bus_shared.specs.Board.{Board}
 use Rattle.bus_shared.specs.Spelling.{settled_board}
 use Rattle.md_machine.specs.Console.{Console, power_on}
 use Rattle.md_machine.specs.Starts.{Start}
-use Rattle.save_state.specs.Layout.{mark_part, part_of}
+use Rattle.save_state.specs.Layout.{magic_part, part_of}
 use Rattle.save_state.specs.States.{IsNewest, kept_bytes, mark, settled_console, state_bytes, state_fields}
 use Rattle.save_state.specs.Versions.{IsState, migrated}
 use Rattle.save_state.specs.declared.version.Version.{Version}
 use Rattle.save_state.specs.declared.version.Version.TheVariants.{Third}
-use Rattle.save_state.proofs.VersionLaws.{marks_differ}
+use Rattle.save_state.proofs.VersionLaws.{magics_differ}
 
 -- ---- nothing is to be settled
 
@@ -70,7 +70,7 @@ one_cycle a b m w cart small_a small_b same =
     cycles_by (sha256 m.cart) (sha256 w.cart) a b (rest_of a m) (rest_of b w) small_a small_b (ap sha256 cart) same
 
 -- bytes that are written begin with the magic
-marked : (at : ℕ) (m : Console) → part_of mark_part (kept_bytes at m) ≡ mark
+marked : (at : ℕ) (m : Console) → part_of magic_part (kept_bytes at m) ≡ mark
 unfolding spelling rest_of
 marked at m = take_at mark (sha256 m.cart ++ (to_be_bytes w64 at ++ rest_of at m)) 8 refl
 
@@ -83,7 +83,7 @@ newest_of cart bytes start newest = newest
 pub first_is_none : (cart : List ℕ) (recording : Recorded) (pal : Bool) (start : Start) → IsState cart (state_bytes 0 (power_on cart recording pal)) start → ⊥
 first_is_none cart recording pal start is =
     let first : Console = settled_console 0 (power_on cart recording pal) in
-    let version : is.version ≡ Third = marks_differ is.version Third (sym is.has.mark_is ∙ marked 0 first) in
+    let version : is.version ≡ Third = magics_differ is.version Third (sym is.has.magic_is ∙ marked 0 first) in
     let newest : IsNewest cart (state_bytes 0 (power_on cart recording pal)) start =
     newest_of cart _ start (subst (λ (v : Version). IsNewest cart (migrated v (state_bytes 0 (power_on cart recording pal))) start) version is.newest) in
     let cycle : start.at ≡ 0 =

@@ -72,8 +72,8 @@ refused_as : (v : Version) (cart : List ℕ) (recording : Recorded) (bytes : Lis
 refused_as v cart recording bytes (fields.Rule p) field r n first = ap (λ (k : ℕ). Form (place_back v k)) (one_least (FailsUnder v cart bytes) p field (r.least p refl) first)
 refused_as v cart recording bytes fields.NoMemory field r n first = absurd (n refl)
 
-pub fields_wrong : (v : Version) (cart : List ℕ) (recording : Recorded) (bytes : List ℕ) (fault : Unspell) (answer : StateFault) (place : ℕ) → answer ≡ refusal_of v fault → Reads {T = MachineValue} (IsMachineUnder v cart recording bytes) (FailsUnder v cart bytes) (failed fault) → FieldFailsBack v cart bytes place → bad answer ≢ bad NoMemory → bad answer ≡ bad (Form place)
-fields_wrong v cart recording bytes fault answer place a r w n =
+pub fields_invalid : (v : Version) (cart : List ℕ) (recording : Recorded) (bytes : List ℕ) (fault : Unspell) (answer : StateFault) (place : ℕ) → answer ≡ refusal_of v fault → Reads {T = MachineValue} (IsMachineUnder v cart recording bytes) (FailsUnder v cart bytes) (failed fault) → FieldFailsBack v cart bytes place → bad answer ≢ bad NoMemory → bad answer ≡ bad (Form place)
+fields_invalid v cart recording bytes fault answer place a r w n =
     ap bad (a ∙ refused_as v cart recording bytes fault w.field r (memory_only v fault (λ e. n (ap bad a ∙ e))) w.first ∙ ap Form (sym w.place_is))
 
 pub fields_other : (v : Version) (fault : Unspell) (answer : StateFault) (k g : List ℕ) → answer ≡ refusal_of v fault → bad answer ≡ bad (OtherCart k g) → ⊥
@@ -95,8 +95,8 @@ read_only v cart recording bytes m start r old s pads =
     let same : m ≡ from_start start = cc in
     ap good same
 
-pub read_wrong : (v : Version) (cart : List ℕ) (recording : Recorded) (bytes : List ℕ) (m : MachineValue) (place : ℕ) → Reads {T = MachineValue} (IsMachineUnder v cart recording bytes) (FailsUnder v cart bytes) (fine m) → FieldFailsBack v cart bytes place → ⊥
-read_wrong v cart recording bytes m place r w = r.none w.field w.first.fails
+pub read_invalid : (v : Version) (cart : List ℕ) (recording : Recorded) (bytes : List ℕ) (m : MachineValue) (place : ℕ) → Reads {T = MachineValue} (IsMachineUnder v cart recording bytes) (FailsUnder v cart bytes) (fine m) → FieldFailsBack v cart bytes place → ⊥
+read_invalid v cart recording bytes m place r w = r.none w.field w.first.fails
 
 pub read_found : (v : Version) (cart : List ℕ) (recording : Recorded) (bytes : List ℕ) (m : MachineValue) → IsBytes bytes → HasForm bytes → part_of digest_part bytes ≡ sha256 cart → Reads {T = MachineValue} (IsMachineUnder v cart recording bytes) (FailsUnder v cart bytes) (fine m) → IsNewest cart bytes (record { at = m.at; console = m.console }) × (m.console.shared.recording ≡ recording)
 read_found v cart recording bytes m fits form d r = (state_there cart recording bytes m fits form d r.found.0.0, r.found.0.0.shared.pads)

@@ -8,15 +8,15 @@ use Rattle.z80_chip.specs.Rules as sub_rules
 use Rattle.z80_chip.specs.Validity.{Chip80Value}
 use Rattle.z80_chip.specs.Spelling as sub
 use Rattle.z80_chip.specs.States.{next_of as sub_next_of}
-use Rattle.vdp_chip.specs.Drawing.{Drawing}
-use Rattle.vdp_chip.specs.Spelling as drawing
+use Rattle.vdp_chip.specs.RendererState.{RendererState}
+use Rattle.vdp_chip.specs.Spelling as renderer_state
 use Rattle.fm_chip.specs.Synth as fm_synths
 use Rattle.fm_chip.specs.SynthSpelling as fm
 use Rattle.psg_sound.specs.Synth as psg_synths
 use Rattle.psg_sound.specs.SynthSpelling as psg
 use Rattle.bus_shared.specs.Board.{Board}
 use Rattle.bus_shared.specs.Spelling as shared
-use Rattle.md_machine.specs.Console.{Console, drawing_in, key_in}
+use Rattle.md_machine.specs.Console.{Console, renderer_state_in, key_in}
 use Rattle.md_machine.specs.Regions.{IsOneRegion}
 use Rattle.md_machine.specs.Starts.{IsStart}
 use Rattle.save_state.specs.Ready.{IsReady}
@@ -33,8 +33,8 @@ SubKept at x = at ≤ x.state.next → sub_rules.HasRules x.cart at x.state → 
 abbrev pub BoardKept : ℕ → Board → Type 0
 BoardKept at b = shared.IsReady at b → shared.Spells at b.vdp.pal (shared.board_bytes (shared.settled_board at b)) (shared.settled_board at b)
 
-abbrev pub DrawingKept : ℕ → Drawing → Type 0
-DrawingKept at d = drawing.IsReady at d → drawing.Spells at d.pal (drawing.drawing_bytes d) (drawing.drained d)
+abbrev pub RendererStateKept : ℕ → RendererState → Type 0
+RendererStateKept at d = renderer_state.IsReady at d → renderer_state.Spells at d.pal (renderer_state.renderer_state_bytes d) (renderer_state.drained d)
 
 abbrev pub FmKept : fm_synths.Synth → Type 0
 FmKept s = fm.SpellsSynth (fm.synth_bytes s) s
@@ -52,18 +52,18 @@ unfolding key_in sub_next_of
 sub_from at m start = start.quiet 1 (lit< tt)
 
 -- a renderer that shows line, note and picture of a machine
-pub drawing_in-kept : (at : ℕ) (d : Drawing) (m : Console) → d.next ≡ m.line → d.note ≡ m.note → d.picture ≡ m.picture → d.pal ≡ m.pal → DrawingKept at d → DrawingKept at (drawing_in m)
-drawing_in-kept at d m line note picture pal kept ready =
-    let own : drawing.IsReady at d = record {
+pub renderer_state_in-kept : (at : ℕ) (d : RendererState) (m : Console) → d.next ≡ m.line → d.note ≡ m.note → d.picture ≡ m.picture → d.pal ≡ m.pal → RendererStateKept at d → RendererStateKept at (renderer_state_in m)
+renderer_state_in-kept at d m line note picture pal kept ready =
+    let own : renderer_state.IsReady at d = record {
       from = subst (λ (n : ℕ). at ≤ n) (sym line) ready.from;
       near = subst (λ (n : ℕ). n < at + 3420) (sym line) ready.near;
     } in
-    let same : drawing.drained d ≡ drawing_in m = λ i. record { next = line i; note = note i; has_view = true; picture = picture i; frame = None; pal = pal i } in
-    subst (λ (x : Drawing). drawing.Spells at x.pal (drawing.drawing_bytes x) x) same (kept own)
+    let same : renderer_state.drained d ≡ renderer_state_in m = λ i. record { next = line i; note = note i; has_view = true; picture = picture i; frame = None; pal = pal i } in
+    subst (λ (x : RendererState). renderer_state.Spells at x.pal (renderer_state.renderer_state_bytes x) x) same (kept own)
 
-pub saved : (at : ℕ) (m : Console) → MainKept at (record { cart = m.cart; state = m.main }) → SubKept at m.sub → BoardKept at m.shared → DrawingKept at (drawing_in m)
+pub saved : (at : ℕ) (m : Console) → MainKept at (record { cart = m.cart; state = m.main }) → SubKept at m.sub → BoardKept at m.shared → RendererStateKept at (renderer_state_in m)
     → FmKept m.fm → PsgKept m.psg → IsOneRegion m → IsReady at m → IsSaved m.cart (record { at = at; console = settled_console at m })
-saved at m of_main of_sub of_board of_drawing of_fm of_psg one ready = record {
+saved at m of_main of_sub of_board of_renderer_state of_fm of_psg one ready = record {
   begun = ready.begun;
   near = ready.near;
   image = refl;
@@ -73,7 +73,7 @@ saved at m of_main of_sub of_board of_drawing of_fm of_psg one ready = record {
   main = of_main (main_from at m ready.start) ready.main;
   sub = subst (λ (cart : List ℕ). sub.Spells cart at (sub.chip_bytes m.sub.state) m.sub.state) ready.one_cart (of_sub (sub_from at m ready.start) ready.sub);
   shared = subst (λ (pal : Bool). shared.Spells at pal (shared.board_bytes (shared.settled_board at m.shared)) (shared.settled_board at m.shared)) (sym one) (of_board ready.shared);
-  drawing = of_drawing ready.drawing;
+  renderer_state = of_renderer_state ready.renderer_state;
   fm_cycle = ready.start.fm;
   psg_cycle = ready.start.psg;
   fm = of_fm;
@@ -84,9 +84,9 @@ saved at m of_main of_sub of_board of_drawing of_fm of_psg one ready = record {
 }
 
 -- and so the bytes of a machine that may be kept are a state of its cartridge, which keeps it settled
-pub state_kept : (at : ℕ) (m : Console) → MainKept at (record { cart = m.cart; state = m.main }) → SubKept at m.sub → BoardKept at m.shared → DrawingKept at (drawing_in m)
+pub state_kept : (at : ℕ) (m : Console) → MainKept at (record { cart = m.cart; state = m.main }) → SubKept at m.sub → BoardKept at m.shared → RendererStateKept at (renderer_state_in m)
     → FmKept m.fm → PsgKept m.psg → IsOneRegion m → IsReady at m → IsNewest m.cart (state_bytes at m) (record { at = at; console = settled_console at m })
-state_kept at m of_main of_sub of_board of_drawing of_fm of_psg one ready = record {
-  saved = saved at m of_main of_sub of_board of_drawing of_fm of_psg one ready;
+state_kept at m of_main of_sub of_board of_renderer_state of_fm of_psg one ready = record {
+  saved = saved at m of_main of_sub of_board of_renderer_state of_fm of_psg one ready;
   all = refl;
 }

@@ -15,7 +15,7 @@ use Rattle.z80_chip.specs.Saved as saved80
 use Rattle.z80_chip.specs.Spelling as sub
 use Rattle.z80_chip.specs.States.{State80}
 use Rattle.vdp_ports.specs.Spelling.{vdp_bytes}
-use Rattle.vdp_chip.specs.Spelling as drawing
+use Rattle.vdp_chip.specs.Spelling as renderer_state
 use Rattle.fm_port.specs.PortSpelling as fm_port
 use Rattle.fm_chip.specs.SynthSpelling as fm
 use Rattle.psg_sound.specs.PortSpelling as psg_port
@@ -23,17 +23,17 @@ use Rattle.psg_sound.specs.SynthSpelling as psg
 use Rattle.bus_shared.specs.Board.{Board}
 use Rattle.bus_shared.specs.Saved.{lines_of, lines_fields}
 use Rattle.bus_shared.specs.Spelling as shared
-use Rattle.md_machine.specs.Console.{Console, drawing_in}
+use Rattle.md_machine.specs.Console.{Console, renderer_state_in}
 use Rattle.md_machine.specs.Starts.{first_batch}
 use Rattle.save_state.specs.Items.{at_of, main_next, sub_next, stage_of, seen_resets, holder_in, resets_of}
-use Rattle.save_state.specs.Layout.{part_of, mark_part, digest_part, region_part, main_part, sub_part, store_part, video_part, drawing_part, fm_port_part, fm_next_part, fm_part, psg_next_part, psg_port_part, psg_part, board_part}
+use Rattle.save_state.specs.Layout.{part_of, magic_part, digest_part, region_part, main_part, sub_part, store_part, video_part, renderer_state_part, fm_port_part, fm_next_part, fm_part, psg_next_part, psg_port_part, psg_part, board_part}
 use Rattle.save_state.specs.States.{mark, holder_of, store_of, number_bytes, state_fields}
 use Rattle.save_state.proofs.Parts.{number_front, sub_joined, numbers_long}
 
 -- each part of the bytes is the one of this machine
 pub record AreParts (digest : List ℕ) (at : ℕ) (m : Console) (bytes : List ℕ) : Type 0 where
   pub long : length bytes ≡ 393620
-  pub head : part_of mark_part bytes ≡ mark
+  pub head : part_of magic_part bytes ≡ mark
   pub digest_is : part_of digest_part bytes ≡ digest
   pub at_is : at_of bytes ≡ at
   pub region : slice_index bytes region_part.place ≡ flag_number m.pal
@@ -42,7 +42,7 @@ pub record AreParts (digest : List ℕ) (at : ℕ) (m : Console) (bytes : List �
   pub holder : holder_in bytes ≡ holder_of m
   pub store : part_of store_part bytes ≡ shared.store_bytes (store_of m)
   pub video : part_of video_part bytes ≡ vdp_bytes m.shared.vdp
-  pub drawing : part_of drawing_part bytes ≡ drawing.drawing_bytes (drawing_in m)
+  pub renderer_state : part_of renderer_state_part bytes ≡ renderer_state.renderer_state_bytes (renderer_state_in m)
   pub fm_port : part_of fm_port_part bytes ≡ fm_port.port_bytes m.shared.fm
   pub fm_next : number_at w64 fm_next_part.place bytes ≡ first_batch at
   pub fm : part_of fm_part bytes ≡ fm.synth_bytes m.fm
@@ -82,7 +82,7 @@ parts_there digest at m bytes within e =
       holder = sym s6.0;
       store = sym s7.0;
       video = sym s8.0;
-      drawing = sym s9.0;
+      renderer_state = sym s9.0;
       fm_port = sym s10.0;
       fm_next = sym s11.0;
       fm = sym s12.0;
@@ -96,7 +96,7 @@ pub parts_spelled : (digest : List ℕ) (at : ℕ) (m : Console) (bytes : List �
 unfolding Stand
 parts_spelled digest at m bytes fits p =
     sym (spelled (state_fields digest at m) bytes fits
-    (sym p.head, (sym p.digest_is, (sym p.at_is, (sym p.region, (sym p.main, (sym p.numbers, (sym p.holder, (sym p.store, (sym p.video, (sym p.drawing, (sym p.fm_port, (sym p.fm_next, (sym p.fm, (sym p.psg_next, (sym p.psg_port, (sym p.psg, (sym p.lines, p.long))))))))))))))))))
+    (sym p.head, (sym p.digest_is, (sym p.at_is, (sym p.region, (sym p.main, (sym p.numbers, (sym p.holder, (sym p.store, (sym p.video, (sym p.renderer_state, (sym p.fm_port, (sym p.fm_next, (sym p.fm, (sym p.psg_next, (sym p.psg_port, (sym p.psg, (sym p.lines, p.long))))))))))))))))))
 
 -- ---- numbers in the parts
 

@@ -6,10 +6,10 @@ use Rattle.sha2.specs.Sha256.{sha256}
 use Rattle.md_machine.specs.Starts.{Start}
 use Rattle.save_state.specs.Faults.{HasForm}
 use Rattle.save_state.specs.Refusals.{FieldFailsBack}
-use Rattle.save_state.specs.Layout.{digest_part, mark_part, part_of}
+use Rattle.save_state.specs.Layout.{digest_part, magic_part, part_of}
 use Rattle.save_state.specs.States.{IsNewest, mark}
 use Rattle.save_state.specs.OldPads.{HasPads}
-use Rattle.save_state.specs.Versions.{HasVersion, IsOtherCart, IsState, IsUnversioned, IsWrongAt, from_first, from_second, mark_of, migrated, other_size, size_of, strange, unmarked}
+use Rattle.save_state.specs.Versions.{HasVersion, IsOtherCart, IsState, IsUnversioned, IsInvalidAt, from_first, from_second, magic_of, migrated, other_size, size_of, strange, unmarked}
 use Rattle.save_state.specs.declared.fault.StateFault.TheVariants.{OtherCart}
 use Rattle.save_state.specs.declared.version.Version.{Version}
 use Rattle.save_state.specs.declared.version.Version.TheVariants.{First, Second, Third}
@@ -17,36 +17,36 @@ use Rattle.save_state.proofs.ReadLaws.{bad, parts_of_state}
 
 -- ---- bytes have one version
 
-pub marks_differ : (v w : Version) → mark_of v ≡ mark_of w → v ≡ w
-marks_differ First First e = refl
-marks_differ Second Second e = refl
-marks_differ Third Third e = refl
-marks_differ First Second e = (let last : 49 ≡ 50 = ap (λ (l : List ℕ). get_or l 7 0) e in absurd (omega (arith, last)))
-marks_differ First Third e = (let last : 49 ≡ 51 = ap (λ (l : List ℕ). get_or l 7 0) e in absurd (omega (arith, last)))
-marks_differ Second First e = (let last : 50 ≡ 49 = ap (λ (l : List ℕ). get_or l 7 0) e in absurd (omega (arith, last)))
-marks_differ Second Third e = (let last : 50 ≡ 51 = ap (λ (l : List ℕ). get_or l 7 0) e in absurd (omega (arith, last)))
-marks_differ Third First e = (let last : 51 ≡ 49 = ap (λ (l : List ℕ). get_or l 7 0) e in absurd (omega (arith, last)))
-marks_differ Third Second e = (let last : 51 ≡ 50 = ap (λ (l : List ℕ). get_or l 7 0) e in absurd (omega (arith, last)))
+pub magics_differ : (v w : Version) → magic_of v ≡ magic_of w → v ≡ w
+magics_differ First First e = refl
+magics_differ Second Second e = refl
+magics_differ Third Third e = refl
+magics_differ First Second e = (let last : 49 ≡ 50 = ap (λ (l : List ℕ). get_or l 7 0) e in absurd (omega (arith, last)))
+magics_differ First Third e = (let last : 49 ≡ 51 = ap (λ (l : List ℕ). get_or l 7 0) e in absurd (omega (arith, last)))
+magics_differ Second First e = (let last : 50 ≡ 49 = ap (λ (l : List ℕ). get_or l 7 0) e in absurd (omega (arith, last)))
+magics_differ Second Third e = (let last : 50 ≡ 51 = ap (λ (l : List ℕ). get_or l 7 0) e in absurd (omega (arith, last)))
+magics_differ Third First e = (let last : 51 ≡ 49 = ap (λ (l : List ℕ). get_or l 7 0) e in absurd (omega (arith, last)))
+magics_differ Third Second e = (let last : 51 ≡ 50 = ap (λ (l : List ℕ). get_or l 7 0) e in absurd (omega (arith, last)))
 
 some-size : (v : Version) → 8 ≤ size_of v
 some-size First = omega arith
 some-size Second = omega arith
 some-size Third = omega arith
 
-mark-long : (v : Version) → length (mark_of v) ≡ 8
+mark-long : (v : Version) → length (magic_of v) ≡ 8
 mark-long First = refl
 mark-long Second = refl
 mark-long Third = refl
 
 -- bytes with a magic are long enough for it
-marked-long : (v : Version) (bytes : List ℕ) → part_of mark_part bytes ≡ mark_of v → 8 ≤ length bytes
+marked-long : (v : Version) (bytes : List ℕ) → part_of magic_part bytes ≡ magic_of v → 8 ≤ length bytes
 marked-long v bytes e = omega (arith, ap length e ∙ mark-long v, length-take 8 (drop 0 bytes), length-drop 0 bytes)
 
 pub unversioned : (v : Version) (bytes : List ℕ) (place : ℕ) → IsUnversioned bytes place → HasVersion v bytes → ⊥
 unversioned v bytes place (unmarked few e) has = omega (arith, few, has.long, some-size v)
-unversioned v bytes place (strange long none e) has = none v has.mark_is
+unversioned v bytes place (strange long none e) has = none v has.magic_is
 unversioned v bytes place (other_size w m ne e) has =
-    ne (has.long ∙ ap size_of (marks_differ v w (sym has.mark_is ∙ m)))
+    ne (has.long ∙ ap size_of (magics_differ v w (sym has.magic_is ∙ m)))
 
 pub one_place : (bytes : List ℕ) (p q : ℕ) → IsUnversioned bytes p → IsUnversioned bytes q → p ≡ q
 one_place bytes p q (unmarked few e) (unmarked few' f) = e ∙ sym f
@@ -58,7 +58,7 @@ one_place bytes p q (strange long none e) (other_size w m ne f) = absurd (none w
 one_place bytes p q (other_size w m ne e) (unmarked few f) = absurd (omega (arith, few, marked-long w bytes m))
 one_place bytes p q (other_size w m ne e) (strange long none f) = absurd (none w m)
 one_place bytes p q (other_size v m ne e) (other_size w n nf f) =
-    e ∙ ap (λ (u : Version). min (length bytes) (size_of u)) (marks_differ v w (sym m ∙ n)) ∙ sym f
+    e ∙ ap (λ (u : Version). min (length bytes) (size_of u)) (magics_differ v w (sym m ∙ n)) ∙ sym f
 
 -- ---- their migration
 
@@ -70,25 +70,25 @@ unfolding migrated from_first
 migrated-first bytes = refl
 
 -- what follows the picture's scanlines of the first version
-rows-behind-long : (bytes : List ℕ) → length bytes ≡ 378240 → length (replicate 15360 0 ++ (drop 354881 bytes ++ replicate 18 0)) ≡ 38737
-rows-behind-long bytes long =
+rows-following-long : (bytes : List ℕ) → length bytes ≡ 378240 → length (replicate 15360 0 ++ (drop 354881 bytes ++ replicate 18 0)) ≡ 38737
+rows-following-long bytes long =
     let rows = length-append (replicate 15360 0) (drop 354881 bytes ++ replicate 18 0) in
     let rest = length-append (drop 354881 bytes) (replicate 18 0) in
     let cut = length-drop 354881 bytes in
     omega (arith, long, rows, rest, cut, length-replicate {A = ℕ} 15360 0, length-replicate {A = ℕ} 18 0)
 
 -- from the drawing on
-old-drawing-long : (bytes : List ℕ) → length bytes ≡ 378240 → length (take 215050 (drop 139831 bytes) ++ (replicate 15360 0 ++ (drop 354881 bytes ++ replicate 18 0))) ≡ 253787
-old-drawing-long bytes long =
+old-renderer_state-long : (bytes : List ℕ) → length bytes ≡ 378240 → length (take 215050 (drop 139831 bytes) ++ (replicate 15360 0 ++ (drop 354881 bytes ++ replicate 18 0))) ≡ 253787
+old-renderer_state-long bytes long =
     let all = length-append (take 215050 (drop 139831 bytes)) (replicate 15360 0 ++ (drop 354881 bytes ++ replicate 18 0)) in
-    omega (arith, long, all, rows-behind-long bytes long, length-take 215050 (drop 139831 bytes), length-drop 139831 bytes)
+    omega (arith, long, all, rows-following-long bytes long, length-take 215050 (drop 139831 bytes), length-drop 139831 bytes)
 
 -- and from the region on
 rest-long : (bytes : List ℕ) → length bytes ≡ 378240 → length (first-rest bytes) ≡ 393572
 rest-long bytes long =
-    let drawing = take 215050 (drop 139831 bytes) ++ (replicate 15360 0 ++ (drop 354881 bytes ++ replicate 18 0)) in
-    let all = length-append (take 139783 (drop 48 bytes)) ((0 ∷ []) ++ drawing) in
-    omega (arith, long, all, old-drawing-long bytes long, length-take 139783 (drop 48 bytes), length-drop 48 bytes)
+    let renderer_state = take 215050 (drop 139831 bytes) ++ (replicate 15360 0 ++ (drop 354881 bytes ++ replicate 18 0)) in
+    let all = length-append (take 139783 (drop 48 bytes)) ((0 ∷ []) ++ renderer_state) in
+    omega (arith, long, all, old-renderer_state-long bytes long, length-take 139783 (drop 48 bytes), length-drop 48 bytes)
 
 migrated-long : (bytes : List ℕ) → length bytes ≡ 378240 → length (migrated First bytes) ≡ 393620
 migrated-long bytes long =
@@ -122,7 +122,7 @@ second-long bytes long =
 
 third-form : (bytes : List ℕ) → HasVersion Third bytes → HasForm (migrated Third bytes)
 unfolding migrated
-third-form bytes has = record { long = has.long; mark = has.mark_is }
+third-form bytes has = record { long = has.long; mark = has.magic_is }
 
 pub form_of : (v : Version) (bytes : List ℕ) → HasVersion v bytes → HasForm (migrated v bytes)
 form_of First bytes has = record {
@@ -161,7 +161,7 @@ found_of v cart bytes start has pads newest = record { version = v; has = has; p
 
 pub only_of : (v : Version) (cart bytes : List ℕ) (start : Start) → HasVersion v bytes → IsState cart bytes start → HasPads v (migrated v bytes) × IsNewest cart (migrated v bytes) start
 only_of v cart bytes start has is =
-    subst (λ (w : Version). HasPads w (migrated w bytes) × IsNewest cart (migrated w bytes) start) (marks_differ is.version v (sym is.has.mark_is ∙ has.mark_is)) (is.pads, is.newest)
+    subst (λ (w : Version). HasPads w (migrated w bytes) × IsNewest cart (migrated w bytes) start) (magics_differ is.version v (sym is.has.magic_is ∙ has.magic_is)) (is.pads, is.newest)
 
 -- what a machine is kept in
 third-state : (cart bytes : List ℕ) (start : Start) → HasVersion Third bytes → IsNewest cart bytes start → IsState cart bytes start
@@ -171,28 +171,28 @@ third-state cart bytes start has newest = record { version = Third; has = has; p
 pub newest_state : (cart bytes : List ℕ) (start : Start) → IsNewest cart bytes start → IsState cart bytes start
 newest_state cart bytes start newest =
     let parts = parts_of_state cart bytes start newest in
-    third-state cart bytes start (record { mark_is = parts.head; long = parts.long }) newest
+    third-state cart bytes start (record { magic_is = parts.head; long = parts.long }) newest
 
 pub state_own : (cart bytes : List ℕ) (start : Start) → IsState cart bytes start → part_of digest_part bytes ≡ sha256 cart
 state_own cart bytes start is =
     sym (same_digest is.version bytes is.has) ∙ (parts_of_state cart (migrated is.version bytes) start is.newest).digest_is
 
-pub form_wrong : (v : Version) (cart bytes : List ℕ) (place : ℕ) → HasVersion v bytes → FieldFailsBack v cart (migrated v bytes) place → IsWrongAt cart bytes place
-form_wrong v cart bytes place has w =
+pub form_invalid : (v : Version) (cart bytes : List ℕ) (place : ℕ) → HasVersion v bytes → FieldFailsBack v cart (migrated v bytes) place → IsInvalidAt cart bytes place
+form_invalid v cart bytes place has w =
     inr (record { version = v; has = has; own = sym (same_digest v bytes has) ∙ w.own; field = w.field; first = w.first; place_is = w.place_is })
 
-pub wrong_of : (v : Version) (cart bytes : List ℕ) (place : ℕ) → HasVersion v bytes → IsWrongAt cart bytes place → FieldFailsBack v cart (migrated v bytes) place
-wrong_of v cart bytes place has (inl none) = absurd (unversioned v bytes place none has)
-wrong_of v cart bytes place has (inr w) =
-    subst (λ (u : Version). FieldFailsBack u cart (migrated u bytes) place) (marks_differ w.version v (sym w.has.mark_is ∙ has.mark_is))
+pub invalid_of : (v : Version) (cart bytes : List ℕ) (place : ℕ) → HasVersion v bytes → IsInvalidAt cart bytes place → FieldFailsBack v cart (migrated v bytes) place
+invalid_of v cart bytes place has (inl none) = absurd (unversioned v bytes place none has)
+invalid_of v cart bytes place has (inr w) =
+    subst (λ (u : Version). FieldFailsBack u cart (migrated u bytes) place) (magics_differ w.version v (sym w.has.magic_is ∙ has.magic_is))
     (record { field = w.field; own = same_digest w.version bytes w.has ∙ w.own; first = w.first; place_is = w.place_is })
 
-pub wrong_own : (v : Version) (cart bytes : List ℕ) (place : ℕ) → HasVersion v bytes → IsWrongAt cart bytes place → part_of digest_part bytes ≡ sha256 cart
-wrong_own v cart bytes place has w = sym (same_digest v bytes has) ∙ (wrong_of v cart bytes place has w).own
+pub invalid_own : (v : Version) (cart bytes : List ℕ) (place : ℕ) → HasVersion v bytes → IsInvalidAt cart bytes place → part_of digest_part bytes ≡ sha256 cart
+invalid_own v cart bytes place has w = sym (same_digest v bytes has) ∙ (invalid_of v cart bytes place has w).own
 
-pub wrong_unversioned : (cart bytes : List ℕ) (p q : ℕ) → IsUnversioned bytes p → IsWrongAt cart bytes q → p ≡ q
-wrong_unversioned cart bytes p q none (inl other) = one_place bytes p q none other
-wrong_unversioned cart bytes p q none (inr w) = absurd (unversioned w.version bytes p none w.has)
+pub invalid_unversioned : (cart bytes : List ℕ) (p q : ℕ) → IsUnversioned bytes p → IsInvalidAt cart bytes q → p ≡ q
+invalid_unversioned cart bytes p q none (inl other) = one_place bytes p q none other
+invalid_unversioned cart bytes p q none (inr w) = absurd (unversioned w.version bytes p none w.has)
 
 -- ---- another cartridge
 

@@ -11,7 +11,7 @@ use Rattle.m68k_chip.specs.Spelling as main
 use Rattle.z80_chip.specs.Spelling as sub
 use Rattle.z80_parcel.specs.Parcels.{Store}
 use Rattle.vdp_ports.specs.Spelling.{vdp_bytes}
-use Rattle.vdp_chip.specs.Spelling as drawing
+use Rattle.vdp_chip.specs.Spelling as renderer_state
 use Rattle.fm_port.specs.PortSpelling as fm_port
 use Rattle.fm_chip.specs.SynthSpelling as fm
 use Rattle.fm_port.proofs.PortBytes.{spelled_once as fm_once}
@@ -21,15 +21,15 @@ use Rattle.psg_sound.proofs.PortBytes.{spelled_once as psg_once}
 use Rattle.bus_shared.specs.Saved.{lines_of}
 use Rattle.bus_shared.specs.Spelling as shared
 use Rattle.bus_shared.proofs.SpellingLaws as shared_laws
-use Rattle.md_machine.specs.Console.{Console, drawing_in}
+use Rattle.md_machine.specs.Console.{Console, renderer_state_in}
 use Rattle.md_machine.specs.Media.{no_media}
 use Rattle.md_machine.specs.Starts.{Start, first_batch}
 use Rattle.save_state.specs.Faults.{IsMachineOf}
-use Rattle.save_state.specs.Items.{at_of, region_of, main_next, sub_next, holder_in, main_bytes, sub_bytes, shared_bytes, drawing_bytes, HasLateFm, HasLatePsg}
+use Rattle.save_state.specs.Items.{at_of, region_of, main_next, sub_next, holder_in, main_bytes, sub_bytes, shared_bytes, renderer_state_bytes, HasLateFm, HasLatePsg}
 use Rattle.save_state.specs.Layout.{part_of, fm_port_part, psg_port_part}
 use Rattle.save_state.specs.States.{holder_of, number_bytes, state_fields, is_holder, are_fm_early, are_psg_early, IsSaved, IsNewest}
 use Rattle.save_state.proofs.Gathered.{zero_one, gathered_sub, gathered_shared}
-use Rattle.save_state.proofs.Parts.{sub_joined, numbers_long, owned_long, store_long, main_long, vdp_long, drawing_long, fm_port_long, psg_port_long, fm_long, psg_long, lines_long}
+use Rattle.save_state.proofs.Parts.{sub_joined, numbers_long, owned_long, store_long, main_long, vdp_long, renderer_state_long, fm_port_long, psg_port_long, fm_long, psg_long, lines_long}
 use Rattle.save_state.proofs.Standing.{AreParts, parts_there, main_next_is, sub_numbers_are, resets_are}
 
 -- ---- how long what is spelled is
@@ -67,7 +67,7 @@ fields_within cart start d s =
                     (
                       vdp_long start.at m.pal (vdp_bytes m.shared.vdp) m.shared.vdp s.shared.vdp,
                       (
-                        drawing_long start.at m.pal (drawing.drawing_bytes (drawing_in m)) (drawing_in m) s.drawing,
+                        renderer_state_long start.at m.pal (renderer_state.renderer_state_bytes (renderer_state_in m)) (renderer_state_in m) s.renderer_state,
                         (
                           fm_port_long start.at (fm_port.port_bytes m.shared.fm) m.shared.fm s.shared.fm,
                           (
@@ -168,7 +168,7 @@ machine_there cart digest bytes recording start s p pads =
         spells = subst (λ (b : Bool). shared.Spells (at_of bytes) b (shared_bytes bytes) m.shared) its (subst (λ (a : ℕ). shared.Spells a m.pal (shared_bytes bytes) m.shared) at (subst (λ (l : List ℕ). shared.Spells start.at m.pal l m.shared) (sym (whole_shared digest bytes start.at m p)) s.shared));
         resets = omega (arith, s.resets, numbers.resets, resets);
       };
-      drawing = subst (λ (b : Bool). drawing.Spells (at_of bytes) b (drawing_bytes bytes) (drawing_in m)) its (subst (λ (a : ℕ). drawing.Spells a m.pal (drawing_bytes bytes) (drawing_in m)) at (subst (λ (l : List ℕ). drawing.Spells start.at m.pal l (drawing_in m)) (sym p.drawing) s.drawing));
+      renderer_state = subst (λ (b : Bool). renderer_state.Spells (at_of bytes) b (renderer_state_bytes bytes) (renderer_state_in m)) its (subst (λ (a : ℕ). renderer_state.Spells a m.pal (renderer_state_bytes bytes) (renderer_state_in m)) at (subst (λ (l : List ℕ). renderer_state.Spells start.at m.pal l (renderer_state_in m)) (sym p.renderer_state) s.renderer_state));
       fm_cycle = s.fm_cycle;
       psg_cycle = s.psg_cycle;
       fm = record {

@@ -15,9 +15,9 @@ use Rattle.z80_chip.specs.States.{State80}
 use Rattle.z80_chip.specs.Validity.{IsChip80}
 use Rattle.z80_parcel.specs.Parcels.{Store, IsStore}
 use Rattle.vdp_ports.specs.Spelling.{vdp_bytes}
-use Rattle.vdp_chip.specs.Drawing.{Drawing}
-use Rattle.vdp_chip.specs.Saved as saved_drawing
-use Rattle.vdp_chip.specs.Spelling as drawing
+use Rattle.vdp_chip.specs.RendererState.{RendererState}
+use Rattle.vdp_chip.specs.Saved as saved_renderer_state
+use Rattle.vdp_chip.specs.Spelling as renderer_state
 use Rattle.fm_port.specs.Port.{Port}
 use Rattle.fm_port.specs.PortSpelling as fm_port
 use Rattle.fm_chip.specs.SynthSpelling as fm
@@ -32,11 +32,11 @@ use Rattle.bus_shared.specs.Spelling as shared
 use Rattle.bus_shared.specs.declared.saved_lines.SavedLines.{SavedLines}
 use Rattle.bus_shared.proofs.SavedLaws as lines_laws
 use Rattle.bus_shared.proofs.SpellingLaws as shared_laws
-use Rattle.md_machine.specs.Console.{Console, drawing_in}
+use Rattle.md_machine.specs.Console.{Console, renderer_state_in}
 use Rattle.md_machine.specs.Starts.{first_batch}
 use Rattle.md_machine.specs.Owners.{HasOneOwner}
 use Rattle.save_state.specs.Layout.{fm_port_there, lines_there, numbers_there, part_of, psg_port_there}
-use Rattle.save_state.specs.States.{behind_video, mark, holder_of, own_bytes, store_of, number_bytes, state_bytes}
+use Rattle.save_state.specs.States.{after_video, mark, holder_of, own_bytes, store_of, number_bytes, state_bytes}
 use Rattle.save_state.proofs.Gathered.{nothing}
 use Rattle.save_state.proofs.Parts.{sub_joined, size_left}
 
@@ -79,8 +79,8 @@ ports_cut f p l b c d = (
 )
 
 -- how many bytes are after the VDP
-pub behind_long : (at : ℕ) (b : Board) → IsBoard b → length (behind_video at b) ≡ 22594
-behind_long at b ok =
+pub after_long : (at : ℕ) (b : Board) → IsBoard b → length (after_video at b) ≡ 22594
+after_long at b ok =
     let f = fm_port.port_bytes (shared.settled_board at b).fm in
     let p = psg_port.port_bytes b.psg in
     let l = shared.lines_bytes (lines_of b) in
@@ -92,13 +92,13 @@ board_least false = omega arith
 
 -- a list that ends with what follows the VDP, cut there
 pub cut_there : (at : ℕ) (b : Board) (old all : List ℕ) (cut : ℕ) → IsBoard b → all ≡ old ++ shared.board_bytes (shared.settled_board at b) → cut + 22594 ≡ length all
-    → (take cut all ≡ old ++ (shared.store_bytes b.store ++ vdp_bytes (shared.settled_board at b).vdp)) × (drop cut all ≡ behind_video at b)
+    → (take cut all ≡ old ++ (shared.store_bytes b.store ++ vdp_bytes (shared.settled_board at b).vdp)) × (drop cut all ≡ after_video at b)
 cut_there at b old all cut ok e long =
     let s = shared.store_bytes b.store in
     let v = vdp_bytes (shared.settled_board at b).vdp in
-    let rest = behind_video at b in
+    let rest = after_video at b in
     let same : all ≡ (old ++ (s ++ v)) ++ rest = e ∙ in_two old s v rest in
-    let front : length (old ++ (s ++ v)) ≡ cut = omega (arith, long, ap length same, length-append (old ++ (s ++ v)) rest, behind_long at b ok) in
+    let front : length (old ++ (s ++ v)) ≡ cut = omega (arith, long, ap length same, length-append (old ++ (s ++ v)) rest, after_long at b ok) in
     (ap (take cut) same ∙ take_at (old ++ (s ++ v)) rest cut front, ap (drop cut) same ∙ drop_at (old ++ (s ++ v)) rest cut front) where
       in_two : (old s v rest : List ℕ) → old ++ (s ++ (v ++ rest)) ≡ (old ++ (s ++ v)) ++ rest
       in_two old s v rest = simp (append_assoc)
@@ -141,8 +141,8 @@ store_joined m = by m.shared.store where
 
 -- ---- all of it
 
-same_drawing : (d : Drawing) (m : Console) → d.next ≡ m.line → d.note ≡ m.note → d.picture ≡ m.picture → drawing.drawing_bytes d ≡ drawing.drawing_bytes (drawing_in m)
-same_drawing d m a b c = λ i. spelling (saved_drawing.drawing_fields 0 false (saved_drawing.numbers_of (record { next = a i; note = b i; has_view = true; picture = c i; frame = None; pal = m.pal })))
+same_renderer_state : (d : RendererState) (m : Console) → d.next ≡ m.line → d.note ≡ m.note → d.picture ≡ m.picture → renderer_state.renderer_state_bytes d ≡ renderer_state.renderer_state_bytes (renderer_state_in m)
+same_renderer_state d m a b c = λ i. spelling (saved_renderer_state.renderer_state_fields 0 false (saved_renderer_state.numbers_of (record { next = a i; note = b i; has_view = true; picture = c i; frame = None; pal = m.pal })))
 
 regroup : (old a b c q d e f o s h i j k l m n u p : List ℕ) → (((((old ++ (a ++ (b ++ (c ++ q)))) ++ d) ++ (e ++ (f ++ o))) ++ (s ++ h)) ++ i) ++ (j ++ (k ++ (l ++ (m ++ (n ++ (u ++ p)))))) ≡ old ++ (a ++ (b ++ (c ++ (q ++ (d ++ (e ++ (f ++ ((o ++ s) ++ (h ++ (i ++ (j ++ (k ++ (l ++ (m ++ (n ++ (u ++ (p ++ [])))))))))))))))))
 regroup old a b c q d e f o s h i j k l m n u p = simp (append_assoc, append-nil)
@@ -150,15 +150,15 @@ regroup old a b c q d e f o s h i j k l m n u p = simp (append_assoc, append-nil
 appended : (before first next part other : List ℕ) → next ≡ before ++ part → before ≡ first → part ≡ other → next ≡ first ++ other
 appended before first next part other is one two = is ∙ (λ i. one i ++ two i)
 
-pub written : (at : ℕ) (m : Console) (digest behind : List ℕ) (d : Drawing) (old r0 r1 r2 r3 r4 r5 : List ℕ)
-    → IsBoard m.shared → digest ≡ sha256 m.cart → behind ≡ behind_video at m.shared → d.next ≡ m.line → d.note ≡ m.note → d.picture ≡ m.picture
+pub written : (at : ℕ) (m : Console) (digest following : List ℕ) (d : RendererState) (old r0 r1 r2 r3 r4 r5 : List ℕ)
+    → IsBoard m.shared → digest ≡ sha256 m.cart → following ≡ after_video at m.shared → d.next ≡ m.line → d.note ≡ m.note → d.picture ≡ m.picture
     → r0 ≡ old ++ (mark ++ (digest ++ (to_be_bytes w64 at ++ (flag_number m.pal ∷ []))))
     → r1 ≡ r0 ++ main.chip_bytes m.main → r2 ≡ r1 ++ (number_bytes m.sub.state ++ (holder_of m ∷ own_bytes m))
-    → r3 ≡ r2 ++ (shared.store_bytes m.shared.store ++ vdp_bytes (shared.settled_board at m.shared).vdp) → r4 ≡ r3 ++ drawing.drawing_bytes d
-    → r5 ≡ r4 ++ (part_of fm_port_there behind ++ (to_be_bytes w64 (first_batch at) ++ (fm.synth_bytes m.fm ++ (to_be_bytes w64 (first_batch at) ++ (part_of psg_port_there behind ++ (psg.synth_bytes m.psg ++ part_of lines_there behind))))))
+    → r3 ≡ r2 ++ (shared.store_bytes m.shared.store ++ vdp_bytes (shared.settled_board at m.shared).vdp) → r4 ≡ r3 ++ renderer_state.renderer_state_bytes d
+    → r5 ≡ r4 ++ (part_of fm_port_there following ++ (to_be_bytes w64 (first_batch at) ++ (fm.synth_bytes m.fm ++ (to_be_bytes w64 (first_batch at) ++ (part_of psg_port_there following ++ (psg.synth_bytes m.psg ++ part_of lines_there following))))))
     → r5 ≡ old ++ state_bytes at m
 unfolding spelling
-written at m digest behind d old r0 r1 r2 r3 r4 r5 ok e1 e2 dn dt dp f0 f1 f2 f3 f4 f5 =
+written at m digest following d old r0 r1 r2 r3 r4 r5 ok e1 e2 dn dt dp f0 f1 f2 f3 f4 f5 =
     let batch : List ℕ = to_be_bytes w64 (first_batch at) in
     let f : List ℕ = fm_port.port_bytes (shared.settled_board at m.shared).fm in
     let p : List ℕ = psg_port.port_bytes m.shared.psg in
@@ -171,15 +171,15 @@ written at m digest behind d old r0 r1 r2 r3 r4 r5 ok e1 e2 dn dt dp f0 f1 f2 f3
     let p2 = appended r1 _ r2 own own f2 p1 refl in
     let video : List ℕ = shared.store_bytes m.shared.store ++ vdp_bytes (shared.settled_board at m.shared).vdp in
     let p3 = appended r2 _ r3 video video f3 p2 refl in
-    let p4 = appended r3 _ r4 (drawing.drawing_bytes d) (drawing.drawing_bytes (drawing_in m)) f4 p3 (same_drawing d m dn dt dp) in
-    let fm_is : part_of fm_port_there behind ≡ f = ap (part_of fm_port_there) e2 ∙ c.0 in
-    let psg_is : part_of psg_port_there behind ≡ p = ap (part_of psg_port_there) e2 ∙ c.1 in
-    let lines_are : part_of lines_there behind ≡ l = ap (part_of lines_there) e2 ∙ c.2 in
+    let p4 = appended r3 _ r4 (renderer_state.renderer_state_bytes d) (renderer_state.renderer_state_bytes (renderer_state_in m)) f4 p3 (same_renderer_state d m dn dt dp) in
+    let fm_is : part_of fm_port_there following ≡ f = ap (part_of fm_port_there) e2 ∙ c.0 in
+    let psg_is : part_of psg_port_there following ≡ p = ap (part_of psg_port_there) e2 ∙ c.1 in
+    let lines_are : part_of lines_there following ≡ l = ap (part_of lines_there) e2 ∙ c.2 in
     f5
     ∙ (λ i. p4 i ++ (fm_is i ++ (batch ++ (fm.synth_bytes m.fm ++ (batch ++ (psg_is i ++ (psg.synth_bytes m.psg ++ lines_are i)))))))
     ∙ regroup old mark (sha256 m.cart) (to_be_bytes w64 at) (flag_number m.pal ∷ []) (main.chip_bytes m.main) (number_bytes m.sub.state) (holder_of m ∷ []) (own_bytes m) (shared.store_bytes m.shared.store) (vdp_bytes (shared.settled_board at m.shared).vdp)
-    (drawing.drawing_bytes (drawing_in m)) f batch (fm.synth_bytes m.fm) batch p (psg.synth_bytes m.psg) l
-    ∙ (λ i. old ++ (mark ++ (sha256 m.cart ++ (to_be_bytes w64 at ++ ((flag_number m.pal ∷ []) ++ (main.chip_bytes m.main ++ (number_bytes m.sub.state ++ ((holder_of m ∷ []) ++ (store_joined m i ++ (vdp_bytes (shared.settled_board at m.shared).vdp ++ (drawing.drawing_bytes (drawing_in m) ++ (f ++ (batch ++ (fm.synth_bytes m.fm ++ (batch ++ (p ++ (psg.synth_bytes m.psg ++ (l ++ []))))))))))))))))))
+    (renderer_state.renderer_state_bytes (renderer_state_in m)) f batch (fm.synth_bytes m.fm) batch p (psg.synth_bytes m.psg) l
+    ∙ (λ i. old ++ (mark ++ (sha256 m.cart ++ (to_be_bytes w64 at ++ ((flag_number m.pal ∷ []) ++ (main.chip_bytes m.main ++ (number_bytes m.sub.state ++ ((holder_of m ∷ []) ++ (store_joined m i ++ (vdp_bytes (shared.settled_board at m.shared).vdp ++ (renderer_state.renderer_state_bytes (renderer_state_in m) ++ (f ++ (batch ++ (fm.synth_bytes m.fm ++ (batch ++ (p ++ (psg.synth_bytes m.psg ++ (l ++ []))))))))))))))))))
 
 byte_of : (b : Bool) → bool_byte b ≡ (if b then 1 else 0)
 byte_of true = refl

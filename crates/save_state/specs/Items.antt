@@ -8,8 +8,8 @@ use Rattle.m68k_chip.specs.Validity.{Chip68Value}
 use Rattle.m68k_chip.specs.Spelling as main
 use Rattle.z80_chip.specs.Validity.{Chip80Value}
 use Rattle.z80_chip.specs.Spelling as sub
-use Rattle.vdp_chip.specs.Drawing.{Drawing}
-use Rattle.vdp_chip.specs.Spelling as drawing
+use Rattle.vdp_chip.specs.RendererState.{RendererState}
+use Rattle.vdp_chip.specs.Spelling as renderer_state
 use Rattle.fm_port.specs.Port.{Port}
 use Rattle.fm_port.specs.PortSpelling as fm_port
 use Rattle.fm_chip.specs.Synth as fm_synths
@@ -22,7 +22,7 @@ use Rattle.bus_shared.specs.Board.{Board}
 use Rattle.bus_shared.specs.Spelling as shared
 use Rattle.md_machine.specs.Starts.{first_batch}
 use Rattle.save_state.specs.Joining.{FailsIn}
-use Rattle.save_state.specs.Layout.{part_of, gathered, sub_parts, shared_parts, at_part, region_part, main_part, sub_part, holder_part, drawing_part, fm_port_part, fm_next_part, fm_part, psg_next_part, psg_port_part, psg_part, board_part}
+use Rattle.save_state.specs.Layout.{part_of, gathered, sub_parts, shared_parts, at_part, region_part, main_part, sub_part, holder_part, renderer_state_part, fm_port_part, fm_next_part, fm_part, psg_next_part, psg_port_part, psg_part, board_part}
 use Rattle.save_state.specs.States.{is_holder, are_fm_early, are_psg_early}
 
 -- ---- numbers of the bytes that several items look at
@@ -80,7 +80,7 @@ pub record IsMain (cart bytes : List ℕ) (chip : Chip68Value) : Type 0 where
 
 -- they keep no 68000, and fail at this offset of the state
 abbrev pub MainFails : List ℕ → List ℕ → ℕ → Type 0
-MainFails cart bytes place = FailsIn (main_part ∷ []) (main.GoesWrongAt cart (at_of bytes) (main_bytes bytes)) place
+MainFails cart bytes place = FailsIn (main_part ∷ []) (main.InvalidAt cart (at_of bytes) (main_bytes bytes)) place
 
 -- ---- the Z80, with its RAM where the holder is 0
 
@@ -96,7 +96,7 @@ pub record IsSub (cart bytes : List ℕ) (chip : Chip80Value) : Type 0 where
 
 -- they keep no Z80, or RAM is elsewhere, and fail at this offset of the state
 pub data SubFails (cart bytes : List ℕ) (place : ℕ) : Type 0 where
-  chip_fails : FailsIn (sub_parts (holder_in bytes == 0)) (sub.GoesWrongAt cart (at_of bytes) (sub_bytes bytes)) place → SubFails cart bytes place
+  chip_fails : FailsIn (sub_parts (holder_in bytes == 0)) (sub.InvalidAt cart (at_of bytes) (sub_bytes bytes)) place → SubFails cart bytes place
   holder_fails : place ≡ holder_part.place → is_holder (holder_in bytes) (stage_of bytes) ≡ false → SubFails cart bytes place
 
 -- ---- the board, with the Z80's RAM where the holder is 1
@@ -113,22 +113,22 @@ pub record IsShared (recording : Recorded) (bytes : List ℕ) (board : Board) : 
 
 -- they keep no board, or fewer resets than were seen, and fail at this offset of the state
 pub data SharedFails (bytes : List ℕ) (place : ℕ) : Type 0 where
-  board_fails : FailsIn (shared_parts (holder_in bytes == 1)) (shared.GoesWrongAt (at_of bytes) (region_of bytes) (shared_bytes bytes)) place → SharedFails bytes place
+  board_fails : FailsIn (shared_parts (holder_in bytes == 1)) (shared.InvalidAt (at_of bytes) (region_of bytes) (shared_bytes bytes)) place → SharedFails bytes place
   resets_fail : place ≡ resets_place → resets_of bytes < seen_resets bytes → SharedFails bytes place
 
 -- ---- the VDP renderer
 
 -- the bytes that keep the renderer
-abbrev pub drawing_bytes : List ℕ → List ℕ
-drawing_bytes bytes = part_of drawing_part bytes
+abbrev pub renderer_state_bytes : List ℕ → List ℕ
+renderer_state_bytes bytes = part_of renderer_state_part bytes
 
 -- they keep this renderer
-abbrev pub IsPicture : List ℕ → Drawing → Type 0
-IsPicture bytes d = drawing.Spells (at_of bytes) (region_of bytes) (drawing_bytes bytes) d
+abbrev pub IsPicture : List ℕ → RendererState → Type 0
+IsPicture bytes d = renderer_state.Spells (at_of bytes) (region_of bytes) (renderer_state_bytes bytes) d
 
 -- they keep no renderer, and fail at this offset of the state
-abbrev pub DrawingFails : List ℕ → ℕ → Type 0
-DrawingFails bytes place = FailsIn (drawing_part ∷ []) (drawing.GoesWrongAt (at_of bytes) (region_of bytes) (drawing_bytes bytes)) place
+abbrev pub RendererStateFails : List ℕ → ℕ → Type 0
+RendererStateFails bytes place = FailsIn (renderer_state_part ∷ []) (renderer_state.InvalidAt (at_of bytes) (region_of bytes) (renderer_state_bytes bytes)) place
 
 -- ---- the FM chip: its synthesis, its next batch, and the writes that its port holds
 
@@ -147,7 +147,7 @@ pub record IsFm (bytes : List ℕ) (synth : fm_synths.Synth) : Type 0 where
 
 -- synthesis, next batch or writes fail at this offset of the state
 pub data FmFails (bytes : List ℕ) (place : ℕ) : Type 0 where
-  synth_fails : FailsIn (fm_part ∷ []) (fm.SynthGoesWrongAt (part_of fm_part bytes)) place → FmFails bytes place
+  synth_fails : FailsIn (fm_part ∷ []) (fm.SynthInvalidAt (part_of fm_part bytes)) place → FmFails bytes place
   next_fails : place ≡ fm_next_part.place → number_at w64 fm_next_part.place bytes ≢ first_batch (at_of bytes) → FmFails bytes place
   writes_fail : place ≡ fm_writes_place → HasLateFm bytes → FmFails bytes place
 
@@ -168,6 +168,6 @@ pub record IsPsg (bytes : List ℕ) (synth : psg_synths.Synth) : Type 0 where
 
 -- synthesis, next batch or writes fail at this offset of the state
 pub data PsgFails (bytes : List ℕ) (place : ℕ) : Type 0 where
-  psg_synth_fails : FailsIn (psg_part ∷ []) (psg.SynthGoesWrongAt (part_of psg_part bytes)) place → PsgFails bytes place
+  psg_synth_fails : FailsIn (psg_part ∷ []) (psg.SynthInvalidAt (part_of psg_part bytes)) place → PsgFails bytes place
   psg_next_fails : place ≡ psg_next_part.place → number_at w64 psg_next_part.place bytes ≢ first_batch (at_of bytes) → PsgFails bytes place
   psg_writes_fail : place ≡ psg_port_part.place → HasLatePsg bytes → PsgFails bytes place

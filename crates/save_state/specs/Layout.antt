@@ -29,8 +29,8 @@ abbrev pub nth_part : ℕ → Part
 nth_part n = record { place = sum (take n layout); size = slice_index layout n }
 
 -- the magic that a state begins with
-abbrev pub mark_part : Part
-mark_part = nth_part 0
+abbrev pub magic_part : Part
+magic_part = nth_part 0
 
 -- the SHA-256 of the cartridge's image
 abbrev pub digest_part : Part
@@ -65,8 +65,8 @@ abbrev pub video_part : Part
 video_part = nth_part 8
 
 -- the VDP renderer, with its picture
-abbrev pub drawing_part : Part
-drawing_part = nth_part 9
+abbrev pub renderer_state_part : Part
+renderer_state_part = nth_part 9
 
 -- the FM chip's port
 abbrev pub fm_port_part : Part

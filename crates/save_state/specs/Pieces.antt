@@ -3,19 +3,19 @@ use Rattle.std.specs.Prelude.{ℕ, List, []}
 use Rattle.md_pads.specs.Recording.{Recorded}
 use Rattle.m68k_chip.specs.Validity.{Chip68Value}
 use Rattle.z80_chip.specs.Validity.{Chip80Value}
-use Rattle.vdp_chip.specs.Drawing.{Drawing}
+use Rattle.vdp_chip.specs.RendererState.{RendererState}
 use Rattle.fm_chip.specs.Synth as fm_synths
 use Rattle.psg_sound.specs.Synth as psg_synths
 use Rattle.bus_shared.specs.Board.{Board}
 use Rattle.md_machine.specs.Machines.{MachineValue}
 use Rattle.md_machine.specs.Media.{no_media}
 use Rattle.md_machine.specs.Starts.{first_batch}
-use Rattle.save_state.specs.Items.{IsMain, MainFails, IsSub, SubFails, IsShared, SharedFails, IsPicture, DrawingFails, IsFm, FmFails, IsPsg, PsgFails}
+use Rattle.save_state.specs.Items.{IsMain, MainFails, IsSub, SubFails, IsShared, SharedFails, IsPicture, RendererStateFails, IsFm, FmFails, IsPsg, PsgFails}
 use Rattle.save_state.specs.Joining.{KeepsBoth, Either}
 
 -- the 68000 and the Z80; the board and the renderer; the syntheses of the FM chip and the PSG
 abbrev pub Pieces : Type 0
-Pieces = (Chip68Value × Chip80Value) × ((Board × Drawing) × (fm_synths.Synth × psg_synths.Synth))
+Pieces = (Chip68Value × Chip80Value) × ((Board × RendererState) × (fm_synths.Synth × psg_synths.Synth))
 
 -- the bytes keep these pieces, of this cartridge and this recording
 abbrev pub KeepsPieces : List ℕ → Recorded → List ℕ → Pieces → Type 0
@@ -25,7 +25,7 @@ KeepsPieces cart recording bytes =
 -- some piece fails at this offset of the bytes
 abbrev pub Fails : List ℕ → List ℕ → ℕ → Type 0
 Fails cart bytes =
-    Either (Either (MainFails cart bytes) (SubFails cart bytes)) (Either (Either (SharedFails bytes) (DrawingFails bytes)) (Either (FmFails bytes) (PsgFails bytes)))
+    Either (Either (MainFails cart bytes) (SubFails cart bytes)) (Either (Either (SharedFails bytes) (RendererStateFails bytes)) (Either (FmFails bytes) (PsgFails bytes)))
 
 -- the machine of pieces at a cycle
 abbrev pub built : ℕ → Pieces → MachineValue

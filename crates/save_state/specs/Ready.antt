@@ -2,9 +2,9 @@
 use Rattle.std.specs.Prelude.{◌≡◌, ℕ, ◌≤◌, true}
 use Rattle.m68k_chip.specs.Rules as main
 use Rattle.z80_chip.specs.Rules as sub
-use Rattle.vdp_chip.specs.Spelling as drawing
+use Rattle.vdp_chip.specs.Spelling as renderer_state
 use Rattle.bus_shared.specs.Spelling as shared
-use Rattle.md_machine.specs.Console.{Console, drawing_in}
+use Rattle.md_machine.specs.Console.{Console, renderer_state_in}
 use Rattle.md_machine.specs.Owners.{HasOneOwner}
 use Rattle.md_machine.specs.Starts.{IsStart}
 use Rattle.md_word.specs.Clock.{last_cycle}
@@ -20,7 +20,7 @@ pub record IsReady (at : ℕ) (m : Console) : Type 0 where
   pub one_cart : m.sub.cart ≡ m.cart
   pub one_owner : HasOneOwner m
   pub shared : shared.IsReady at m.shared
-  pub drawing : drawing.IsReady at (drawing_in m)
+  pub renderer_state : renderer_state.IsReady at (renderer_state_in m)
   pub resets : m.sub.state.resets ≤ m.shared.resets
   pub fm_writes : are_fm_early m.main.next m.sub.state.next m.shared.fm ≡ true
   pub psg_writes : are_psg_early m.main.next m.sub.state.next m.shared.psg ≡ true

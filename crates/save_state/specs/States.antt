@@ -12,7 +12,7 @@ use Rattle.z80_chip.specs.Spelling as sub
 use Rattle.z80_chip.specs.States.{State80}
 use Rattle.z80_parcel.specs.Parcels.{Store}
 use Rattle.vdp_ports.specs.Spelling.{vdp_bytes}
-use Rattle.vdp_chip.specs.Spelling as drawing
+use Rattle.vdp_chip.specs.Spelling as renderer_state
 use Rattle.fm_port.specs.Port.{Port}
 use Rattle.fm_port.specs.PortSpelling as fm_port
 use Rattle.fm_chip.specs.SynthSpelling as fm
@@ -23,7 +23,7 @@ use Rattle.bus_shared.specs.Board.{Board}
 use Rattle.bus_shared.specs.Saved.{lines_of}
 use Rattle.bus_shared.specs.Spelling.{settled_board}
 use Rattle.bus_shared.specs.Spelling as shared
-use Rattle.md_machine.specs.Console.{Console, drawing_in}
+use Rattle.md_machine.specs.Console.{Console, renderer_state_in}
 use Rattle.md_machine.specs.Owners.{HasOneOwner}
 use Rattle.md_machine.specs.Starts.{Start, first_batch}
 
@@ -48,8 +48,8 @@ abbrev pub own_bytes : Console → List ℕ
 own_bytes m = if is_some m.shared.store then [] else shared.store_bytes m.sub.state.store
 
 -- what the bus keeps after the VDP, as it is once it is settled to a cycle
-abbrev pub behind_video : ℕ → Board → List ℕ
-behind_video at b = fm_port.port_bytes (settled_board at b).fm ++ (psg_port.port_bytes b.psg ++ shared.lines_bytes (lines_of b))
+abbrev pub after_video : ℕ → Board → List ℕ
+after_video at b = fm_port.port_bytes (settled_board at b).fm ++ (psg_port.port_bytes b.psg ++ shared.lines_bytes (lines_of b))
 
 -- a whole state as a table, with the digest of the cartridge; batches come at their next multiples
 abbrev pub state_fields : List ℕ → ℕ → Console → List Field
@@ -63,7 +63,7 @@ state_fields digest at m =
     ∷ byte (holder_of m) true
     ∷ block 8194 (shared.store_bytes (store_of m)) true
     ∷ block 65813 (vdp_bytes m.shared.vdp) true
-    ∷ block 230410 (drawing.drawing_bytes (drawing_in m)) true
+    ∷ block 230410 (renderer_state.renderer_state_bytes (renderer_state_in m)) true
     ∷ block 12316 (fm_port.port_bytes m.shared.fm) true
     ∷ quad (first_batch at) true
     ∷ block 741 (fm.synth_bytes m.fm) true
@@ -113,7 +113,7 @@ pub record IsSaved (cart : List ℕ) (start : Start) : Type 0 where
   pub main : main.Spells cart start.at (main.chip_bytes start.console.main) start.console.main
   pub sub : sub.Spells cart start.at (sub.chip_bytes start.console.sub.state) start.console.sub.state
   pub shared : shared.Spells start.at start.console.pal (shared.board_bytes start.console.shared) start.console.shared
-  pub drawing : drawing.Spells start.at start.console.pal (drawing.drawing_bytes (drawing_in start.console)) (drawing_in start.console)
+  pub renderer_state : renderer_state.Spells start.at start.console.pal (renderer_state.renderer_state_bytes (renderer_state_in start.console)) (renderer_state_in start.console)
   -- batches come at their next multiples
   pub fm_cycle : start.console.fm_cycle ≡ first_batch start.at
   pub psg_cycle : start.console.psg_cycle ≡ first_batch start.at

@@ -4,17 +4,17 @@
 use Rattle.std.specs.Prelude.{◌≡◌, ◌≢◌, ℕ, ◌-◌, ◌<◌, ◌≤◌, nat_le, nat_lt, min, ◌⊎◌, if◌then◌else◌, codes, List, [], ◌∷◌, ◌++◌, length, replicate, take, drop, Option, Some, None}
 use Rattle.sha2.specs.Sha256.{sha256}
 use Rattle.md_machine.specs.Starts.{Start}
-use Rattle.save_state.specs.Layout.{digest_part, mark_part, part_of, state_size}
+use Rattle.save_state.specs.Layout.{digest_part, magic_part, part_of, state_size}
 use Rattle.save_state.specs.OldPads.{HasPads, IsFirstFault}
 use Rattle.save_state.specs.States.{IsNewest, mark}
 use Rattle.save_state.specs.declared.version.Version.{Version}
 use Rattle.save_state.specs.declared.version.Version.TheVariants.{First, Second, Third}
 
 -- what a state of a version begins with
-abbrev pub mark_of : Version → List ℕ
-mark_of First = codes "MDSTATE1"
-mark_of Second = codes "MDSTATE2"
-mark_of Third = mark
+abbrev pub magic_of : Version → List ℕ
+magic_of First = codes "MDSTATE1"
+magic_of Second = codes "MDSTATE2"
+magic_of Third = mark
 
 -- how many bytes it has
 abbrev pub size_of : Version → ℕ
@@ -24,7 +24,7 @@ size_of Third = state_size
 
 -- bytes of a version: its magic, and as many as it has
 pub record HasVersion (version : Version) (bytes : List ℕ) : Type 0 where
-  pub mark_is : part_of mark_part bytes ≡ mark_of version
+  pub magic_is : part_of magic_part bytes ≡ magic_of version
   pub long : length bytes ≡ size_of version
 
 -- those of the form that is written, made of the first version's: the region and the height of the display
@@ -76,8 +76,8 @@ pub record IsState (cart bytes : List ℕ) (start : Start) : Type 0 where
 -- longer or shorter than those of the version whose magic they have
 pub data IsUnversioned (bytes : List ℕ) (place : ℕ) : Type 0 where
   unmarked : length bytes < 8 → place ≡ length bytes → IsUnversioned bytes place
-  strange : 8 ≤ length bytes → ((version : Version) → part_of mark_part bytes ≢ mark_of version) → place ≡ 0 → IsUnversioned bytes place
-  other_size : (version : Version) → part_of mark_part bytes ≡ mark_of version → length bytes ≢ size_of version → place ≡ min (length bytes) (size_of version) → IsUnversioned bytes place
+  strange : 8 ≤ length bytes → ((version : Version) → part_of magic_part bytes ≢ magic_of version) → place ≡ 0 → IsUnversioned bytes place
+  other_size : (version : Version) → part_of magic_part bytes ≡ magic_of version → length bytes ≢ size_of version → place ≡ min (length bytes) (size_of version) → IsUnversioned bytes place
 
 -- bytes of a version and of this cartridge break the rule of a field at this offset, of which the one in
 -- their migration is the first
@@ -90,8 +90,8 @@ pub record BreaksRuleAt (cart bytes : List ℕ) (place : ℕ) : Type 0 where
   pub place_is : place ≡ place_back version field
 
 -- the bytes are refused at this offset
-abbrev pub IsWrongAt : List ℕ → List ℕ → ℕ → Type 0
-IsWrongAt cart bytes place = IsUnversioned bytes place ⊎ BreaksRuleAt cart bytes place
+abbrev pub IsInvalidAt : List ℕ → List ℕ → ℕ → Type 0
+IsInvalidAt cart bytes place = IsUnversioned bytes place ⊎ BreaksRuleAt cart bytes place
 
 -- the bytes have a version, and keep another digest than the cartridge's
 pub record IsOtherCart (cart bytes kept given : List ℕ) : Type 0 where

@@ -1,7 +1,7 @@
 ghost use Rattle.std.specs.Prelude.{◌≡◌, ◌≤◌, ◌^◌, ◌==◌, ℕ, false, length, IfOk};
 ghost use Rattle.std.specs.Arc.{arc_value};
 ghost use Rattle.save_state.specs.Items as items;
-ghost use Rattle.save_state.specs.Items.{at_of, region_of, HasLateFm, HasLatePsg, IsMain, MainFails, IsSub, SubFails, IsShared, SharedFails, IsPicture, DrawingFails, IsFm, FmFails, IsPsg, PsgFails};
+ghost use Rattle.save_state.specs.Items.{at_of, region_of, HasLateFm, HasLatePsg, IsMain, MainFails, IsSub, SubFails, IsShared, SharedFails, IsPicture, RendererStateFails, IsFm, FmFails, IsPsg, PsgFails};
 ghost use Rattle.save_state.specs.Joining.{Reads};
 ghost use Rattle.save_state.specs.Layout.{state_size};
 ghost use Rattle.save_state.specs.States as states;
@@ -9,7 +9,7 @@ ghost use Rattle.md_word.specs.Clock.{last_cycle};
 
 use crate::joining::{placed, with_rule};
 use crate::layout::{
-    BOARD, DRAWING, FM, FM_NEXT, FM_PORT, HOLDER, MAIN, PSG, PSG_NEXT, PSG_PORT, SUB, gathered,
+    BOARD, FM, FM_NEXT, FM_PORT, HOLDER, MAIN, PSG, PSG_NEXT, PSG_PORT, RENDERER, SUB, gathered,
     shared_parts, sub_parts,
 };
 use bus_shared::Shared;
@@ -63,7 +63,7 @@ fn are_fm_writes_early(alloc: Global, bytes: &[u8], at: u64) -> Result<bool, NoM
     requires cycle { at ≡ at_of bytes.now }
     requires near { at ≤ last_cycle }
     ensures late { IfOk result (λ early. early ≡ false → HasLateFm bytes.now) }
-    ensures told { IfOk result (λ early. HasLateFm bytes.now → early ≡ false) }
+    ensures reported { IfOk result (λ early. HasLateFm bytes.now → early ≡ false) }
 {
     let part = FM_PORT.of(bytes);
     if u16_at(part, FM_COUNT) == 0 {
@@ -79,7 +79,7 @@ fn are_early_in_fm(port: &mut FmPort, bytes: &[u8], at: u64) -> bool
     requires cycle { at ≡ at_of bytes.now }
     requires near { at ≤ last_cycle }
     ensures late { result ≡ false → HasLateFm bytes.now }
-    ensures told { HasLateFm bytes.now → result ≡ false }
+    ensures reported { HasLateFm bytes.now → result ≡ false }
 {
     match port.restore(FM_PORT.of(bytes), at) {
         Ok(()) => port.is_before_next(u64_at(bytes, MAIN.place), u64_at(bytes, SUB.place)),
@@ -93,7 +93,7 @@ fn are_psg_writes_early(alloc: Global, bytes: &[u8], at: u64) -> Result<bool, No
     requires whole { length bytes.now ≡ state_size }
     requires cycle { at ≡ at_of bytes.now }
     ensures late { IfOk result (λ early. early ≡ false → HasLatePsg bytes.now) }
-    ensures told { IfOk result (λ early. HasLatePsg bytes.now → early ≡ false) }
+    ensures reported { IfOk result (λ early. HasLatePsg bytes.now → early ≡ false) }
 {
     let part = PSG_PORT.of(bytes);
     if u16_at(part, PSG_COUNT) == 0 {
@@ -108,7 +108,7 @@ fn are_early_in_psg(port: &mut PsgPort, bytes: &[u8], at: u64) -> bool
     requires whole { length bytes.now ≡ state_size }
     requires cycle { at ≡ at_of bytes.now }
     ensures late { result ≡ false → HasLatePsg bytes.now }
-    ensures told { HasLatePsg bytes.now → result ≡ false }
+    ensures reported { HasLatePsg bytes.now → result ≡ false }
 {
     match port.restore(PSG_PORT.of(bytes), at) {
         Ok(()) => port.is_before_next(u64_at(bytes, MAIN.place), u64_at(bytes, SUB.place)),
@@ -174,15 +174,20 @@ pub fn read_shared(
 /// The VDP renderer, of a region. It fails at the least offset in the state of a field that breaks its rule, or
 /// when memory runs out.
 #[inline(never)]
-pub fn read_drawing(alloc: Global, bytes: &[u8], at: u64, pal: bool) -> Result<ChipVdp, Unspell>
+pub fn read_renderer_state(
+    alloc: Global,
+    bytes: &[u8],
+    at: u64,
+    pal: bool,
+) -> Result<ChipVdp, Unspell>
     requires whole { length bytes.now ≡ state_size }
     requires cycle { at ≡ at_of bytes.now }
     requires region { pal ≡ region_of bytes.now }
-    ensures { Reads (IsPicture bytes.now) (DrawingFails bytes.now) result }
+    ensures { Reads (IsPicture bytes.now) (RendererStateFails bytes.now) result }
 {
     placed(
-        &[DRAWING],
-        ChipVdp::unspell(alloc, DRAWING.of(bytes), at, pal),
+        &[RENDERER],
+        ChipVdp::unspell(alloc, RENDERER.of(bytes), at, pal),
     )
 }
 

@@ -13,7 +13,7 @@ pub struct Part {
 }
 
 /// How many bytes each part has, in their order; nothing is between them.
-const MARK_SIZE: usize = 8;
+const MAGIC_SIZE: usize = 8;
 
 const DIGEST_SIZE: usize = 32;
 
@@ -31,7 +31,7 @@ const STORE_SIZE: usize = 8_194;
 
 const VIDEO_SIZE: usize = 65_813;
 
-const DRAWING_SIZE: usize = 230_410;
+const RENDERER_SIZE: usize = 230_410;
 
 const FM_PORT_SIZE: usize = 12_316;
 
@@ -51,14 +51,14 @@ const BOARD_SIZE: usize = 36;
 pub const TEXT: [u8; 8] = *b"MDSTATE3";
 
 /// Where it is.
-pub const MARK: Part = Part {
+pub const MAGIC: Part = Part {
     place: 0,
-    size: MARK_SIZE,
+    size: MAGIC_SIZE,
 };
 
 /// The SHA-256 of the cartridge's image.
 pub const DIGEST: Part = Part {
-    place: MARK.place + MARK_SIZE,
+    place: MAGIC.place + MAGIC_SIZE,
     size: DIGEST_SIZE,
 };
 
@@ -105,14 +105,14 @@ pub const VIDEO: Part = Part {
 };
 
 /// The VDP renderer.
-pub const DRAWING: Part = Part {
+pub const RENDERER: Part = Part {
     place: VIDEO.place + VIDEO_SIZE,
-    size: DRAWING_SIZE,
+    size: RENDERER_SIZE,
 };
 
 /// The FM chip's port.
 pub const FM_PORT: Part = Part {
-    place: DRAWING.place + DRAWING_SIZE,
+    place: RENDERER.place + RENDERER_SIZE,
     size: FM_PORT_SIZE,
 };
 

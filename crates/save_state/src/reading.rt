@@ -6,8 +6,8 @@ ghost use Rattle.md_machine.specs.Starts.{Start, IsStart};
 ghost use Rattle.save_state.specs.Faults.{FailsAt, HasForm, IsMachineOf};
 ghost use Rattle.save_state.specs.OldPads.{FailsUnder, HasPads, IsMachineUnder, has_buttons};
 ghost use Rattle.save_state.specs.Refusals.{FieldFailsBack, refusal_of};
-ghost use Rattle.save_state.specs.Versions.{IsOtherCart, IsState, IsWrongAt};
-ghost use Rattle.save_state.specs.Items.{at_of, region_of, IsMain, MainFails, IsSub, SubFails, IsShared, SharedFails, IsPicture, DrawingFails, IsFm, FmFails, IsPsg, PsgFails};
+ghost use Rattle.save_state.specs.Versions.{IsOtherCart, IsState, IsInvalidAt};
+ghost use Rattle.save_state.specs.Items.{at_of, region_of, IsMain, MainFails, IsSub, SubFails, IsShared, SharedFails, IsPicture, RendererStateFails, IsFm, FmFails, IsPsg, PsgFails};
 ghost use Rattle.m68k_chip.specs.States.{next_of};
 ghost use Rattle.z80_chip.specs.States.{next_of as sub_next_of};
 ghost use Rattle.save_state.specs.Joining.{Either, KeepsBoth, Reads};
@@ -17,7 +17,7 @@ ghost use Rattle.md_word.specs.Clock.{last_cycle};
 ghost use Rattle.save_state.specs.States.{IsNewest};
 
 use crate::fault::StateFault;
-use crate::items::{read_drawing, read_fm, read_main, read_psg, read_shared, read_sub};
+use crate::items::{read_fm, read_main, read_psg, read_renderer_state, read_shared, read_sub};
 use crate::joining::{both, with_rule};
 use crate::layout::{AT, DIGEST, PADS1, PADS2, REGION};
 use crate::version::{Version, migrated, newest_of, place_back, version_of};
@@ -51,8 +51,8 @@ pub fn read(
     ensures empty { IfOk result (λ m. (m.entries ≡ []) × (m.media ≡ no_media)) }
     ensures only { (start : Start) → IsState (arc_value cart) bytes.now start → start.console.shared.recording ≡ arc_value recording → result ≢ Err StateFault.NoMemory
         → result ≡ Ok (record { at = start.at; console = start.console; entries = []; media = no_media }) }
-    ensures form { (place : ℕ) → IsErrOf result (StateFault.Form place) → IsWrongAt (arc_value cart) bytes.now place }
-    ensures wrong { (place : ℕ) → IsWrongAt (arc_value cart) bytes.now place → result ≢ Err StateFault.NoMemory → IsErrOf result (StateFault.Form place) }
+    ensures form { (place : ℕ) → IsErrOf result (StateFault.Form place) → IsInvalidAt (arc_value cart) bytes.now place }
+    ensures invalid { (place : ℕ) → IsInvalidAt (arc_value cart) bytes.now place → result ≢ Err StateFault.NoMemory → IsErrOf result (StateFault.Form place) }
     ensures other { (kept given : List ℕ) → IsErrOf result (StateFault.OtherCart kept given) ↔ IsOtherCart (arc_value cart) bytes.now kept given }
 {
     let digest = Sha256::digest(cart.bytes());
@@ -74,8 +74,8 @@ pub fn read_with(
     ensures empty { IfOk result (λ m. (m.entries ≡ []) × (m.media ≡ no_media)) }
     ensures only { (start : Start) → IsState (arc_value cart) bytes.now start → start.console.shared.recording ≡ arc_value recording → result ≢ Err StateFault.NoMemory
         → result ≡ Ok (record { at = start.at; console = start.console; entries = []; media = no_media }) }
-    ensures form { (place : ℕ) → IsErrOf result (StateFault.Form place) → IsWrongAt (arc_value cart) bytes.now place }
-    ensures wrong { (place : ℕ) → IsWrongAt (arc_value cart) bytes.now place → result ≢ Err StateFault.NoMemory → IsErrOf result (StateFault.Form place) }
+    ensures form { (place : ℕ) → IsErrOf result (StateFault.Form place) → IsInvalidAt (arc_value cart) bytes.now place }
+    ensures invalid { (place : ℕ) → IsInvalidAt (arc_value cart) bytes.now place → result ≢ Err StateFault.NoMemory → IsErrOf result (StateFault.Form place) }
     ensures other { (kept given : List ℕ) → IsErrOf result (StateFault.OtherCart kept given) ↔ IsOtherCart (arc_value cart) bytes.now kept given }
 {
     let version = match version_of(bytes) {
@@ -112,7 +112,7 @@ fn read_newest(
     ensures only { (start : Start) → HasPads version bytes.now → IsNewest (arc_value cart) bytes.now start → start.console.shared.recording ≡ arc_value recording → result ≢ Err StateFault.NoMemory
         → result ≡ Ok (record { at = start.at; console = start.console; entries = []; media = no_media }) }
     ensures form { (place : ℕ) → IsErrOf result (StateFault.Form place) → FieldFailsBack version (arc_value cart) bytes.now place }
-    ensures wrong { (place : ℕ) → FieldFailsBack version (arc_value cart) bytes.now place → result ≢ Err StateFault.NoMemory → IsErrOf result (StateFault.Form place) }
+    ensures invalid { (place : ℕ) → FieldFailsBack version (arc_value cart) bytes.now place → result ≢ Err StateFault.NoMemory → IsErrOf result (StateFault.Form place) }
     ensures own { (kept given : List ℕ) → result ≢ Err (StateFault.OtherCart kept given) }
 {
     match read_under(alloc, version, bytes, cart, recording) {
@@ -229,11 +229,11 @@ fn read_chips(
     requires begun { 1 ≤ at }
     requires near { at ≤ last_cycle }
     ensures { Reads (KeepsBoth (KeepsBoth (IsShared (arc_value recording) bytes.now) (IsPicture bytes.now)) (KeepsBoth (IsFm bytes.now) (IsPsg bytes.now)))
-        (Either (Either (SharedFails bytes.now) (DrawingFails bytes.now)) (Either (FmFails bytes.now) (PsgFails bytes.now))) result }
+        (Either (Either (SharedFails bytes.now) (RendererStateFails bytes.now)) (Either (FmFails bytes.now) (PsgFails bytes.now))) result }
 {
     let board = both(
         read_shared(alloc, bytes, at, pal, recording),
-        read_drawing(alloc, bytes, at, pal),
+        read_renderer_state(alloc, bytes, at, pal),
     );
     let sound = both(read_fm(alloc, bytes, at), read_psg(alloc, bytes, at));
     both(board, sound)

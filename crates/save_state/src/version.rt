@@ -1,9 +1,9 @@
 ghost use Rattle.std.specs.Prelude.{◌≡◌, IfErr, IfOk, IsTrue, ◌↔◌, ◌≤◌, ◌<◌, length, option_map};
-ghost use Rattle.save_state.specs.Layout.{mark_part, part_of};
+ghost use Rattle.save_state.specs.Layout.{magic_part, part_of};
 ghost use Rattle.save_state.specs.Versions as versions;
 ghost use Rattle.save_state.specs.Versions.{HasVersion, IsUnversioned, from_first, from_second, newest_of, place_in_first};
 
-use crate::layout::{LENGTH, MARK, TEXT};
+use crate::layout::{LENGTH, MAGIC, TEXT};
 use md_word::NoMemory;
 use std::alloc::Global;
 
@@ -27,7 +27,7 @@ const FIRST_LENGTH: usize = 378_240;
 /// The offsets of its 68000, of its VDP renderer, and of what follows the renderer.
 const FIRST_MAIN: usize = 48;
 
-const FIRST_DRAWING: usize = 139_831;
+const FIRST_RENDERER: usize = 139_831;
 
 const FIRST_FM_PORT: usize = 354_881;
 
@@ -62,7 +62,7 @@ pub fn version_of(bytes: &[u8]) -> Result<Version, u64>
     ensures version { IfOk result (λ version. HasVersion version bytes.now) }
     ensures none { IfErr result (λ place. IsUnversioned bytes.now place) }
 {
-    if bytes.len() < MARK.size {
+    if bytes.len() < MAGIC.size {
         return Err(bytes.len() as u64);
     }
     if begins_with(bytes, &TEXT) {
@@ -89,9 +89,9 @@ pub fn version_of(bytes: &[u8]) -> Result<Version, u64>
 /// Whether the bytes begin with a magic.
 fn begins_with(bytes: &[u8], mark: &[u8; 8]) -> bool
     requires { 8 ≤ length bytes.now }
-    ensures { IsTrue result ↔ (part_of mark_part bytes.now ≡ mark.now) }
+    ensures { IsTrue result ↔ (part_of magic_part bytes.now ≡ mark.now) }
 {
-    MARK.of(bytes) == mark.as_slice()
+    MAGIC.of(bytes) == mark.as_slice()
 }
 
 /// The bytes of the form that is written, made of those of an older version; `None` where they have that form.
@@ -126,11 +126,11 @@ fn from_first(alloc: Global, bytes: &[u8]) -> Result<Vec<u8>, NoMemory>
 {
     let mut newer = Vec::with_capacity(alloc, LENGTH)?;
     newer.extend_from_slice(&TEXT)?;
-    newer.extend_from_slice(&bytes[MARK.size..FIRST_MAIN])?;
+    newer.extend_from_slice(&bytes[MAGIC.size..FIRST_MAIN])?;
     newer.extend_from_slice(&NTSC)?;
-    newer.extend_from_slice(&bytes[FIRST_MAIN..FIRST_DRAWING])?;
+    newer.extend_from_slice(&bytes[FIRST_MAIN..FIRST_RENDERER])?;
     newer.extend_from_slice(&LOW)?;
-    newer.extend_from_slice(&bytes[FIRST_DRAWING..FIRST_FM_PORT])?;
+    newer.extend_from_slice(&bytes[FIRST_RENDERER..FIRST_FM_PORT])?;
     newer.extend_from_slice(&MORE_ROWS)?;
     newer.extend_from_slice(&bytes[FIRST_FM_PORT..FIRST_LENGTH])?;
     newer.extend_from_slice(&NO_FALLS)?;
@@ -144,7 +144,7 @@ fn from_second(alloc: Global, bytes: &[u8]) -> Result<Vec<u8>, NoMemory>
 {
     let mut newer = Vec::with_capacity(alloc, LENGTH)?;
     newer.extend_from_slice(&TEXT)?;
-    newer.extend_from_slice(&bytes[MARK.size..SECOND_LENGTH])?;
+    newer.extend_from_slice(&bytes[MAGIC.size..SECOND_LENGTH])?;
     newer.extend_from_slice(&NO_FALLS)?;
     Ok(newer)
 }

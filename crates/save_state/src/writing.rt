@@ -14,7 +14,7 @@ ghost use Rattle.save_state.specs.Layout.{apart_size, fm_port_there, lines_there
 ghost use Rattle.save_state.specs.Ready.{IsReady};
 ghost use Rattle.md_word.specs.Clock.{last_cycle};
 ghost use Rattle.md_word.specs.Coding.{flag_number};
-ghost use Rattle.save_state.specs.States.{behind_video, holder_of, mark, number_bytes, own_bytes, settled_console, state_bytes};
+ghost use Rattle.save_state.specs.States.{after_video, holder_of, mark, number_bytes, own_bytes, settled_console, state_bytes};
 ghost use Rattle.save_state.specs.Versions.{IsState};
 
 use crate::laws::kept;
@@ -178,7 +178,7 @@ fn put_board(machine: &Machine, apart: &mut Vec<u8>, into: &mut Vec<u8>)
     requires apart { apart_size ≤ vec_capacity apart.old }
     requires room { vec_len into.old + shared.board_size (is_some machine.now.console.shared.store) ≤ vec_capacity into.old }
     ensures bytes { into.new.items ≡ into.old.items ++ (shared.store_bytes machine.now.console.shared.store ++ vdp_bytes (shared.settled_board machine.now.at machine.now.console.shared).vdp) }
-    ensures behind { apart.new.items ≡ behind_video machine.now.at machine.now.console.shared }
+    ensures following { apart.new.items ≡ after_video machine.now.at machine.now.console.shared }
     ensures length { vec_len into.new + 22594 ≡ vec_len into.old + shared.board_size (is_some machine.now.console.shared.store) }
     ensures board { IsBoard machine.now.console.shared }
     ensures room { vec_capacity into.old ≤ vec_capacity into.new }
@@ -206,23 +206,23 @@ fn cut_off(into: &mut Vec<u8>, apart: &mut Vec<u8>)
 }
 
 /// Appends the sound chips: ports, which the bus keeps, next batches and syntheses, and the lines after them.
-fn put_sound(machine: &Machine, behind: &[u8], into: &mut Vec<u8>)
+fn put_sound(machine: &Machine, following: &[u8], into: &mut Vec<u8>)
     requires cycle { machine.now.at ≤ last_cycle }
-    requires behind { length behind.now ≡ 22594 }
+    requires following { length following.now ≡ 22594 }
     requires room { vec_len into.old + 23377 ≤ vec_capacity into.old }
     ensures bytes { let batch = to_be_bytes w64 (starts.first_batch machine.now.at) in
-        into.new.items ≡ into.old.items ++ (part_of fm_port_there behind.now ++ (batch ++ (fm.synth_bytes machine.now.console.fm
-        ++ (batch ++ (part_of psg_port_there behind.now ++ (psg.synth_bytes machine.now.console.psg ++ part_of lines_there behind.now)))))) }
+        into.new.items ≡ into.old.items ++ (part_of fm_port_there following.now ++ (batch ++ (fm.synth_bytes machine.now.console.fm
+        ++ (batch ++ (part_of psg_port_there following.now ++ (psg.synth_bytes machine.now.console.psg ++ part_of lines_there following.now)))))) }
     ensures length { vec_len into.new ≡ vec_len into.old + 23377 }
     ensures room { vec_capacity into.old ≤ vec_capacity into.new }
 {
     let at = machine.at();
     let batch = first_batch(at).to_be_bytes();
-    put_part(FM_PORT_THERE, behind, into);
+    put_part(FM_PORT_THERE, following, into);
     put_bytes(&batch, into);
     machine.fm().spell(at, into);
     put_bytes(&batch, into);
-    put_part(PSG_PORT_THERE, behind, into);
+    put_part(PSG_PORT_THERE, following, into);
     machine.psg().spell(at, into);
-    put_part(LINES_THERE, behind, into);
+    put_part(LINES_THERE, following, into);
 }

@@ -4,7 +4,7 @@
 #[cfg(test)]
 mod crowd;
 #[cfg(test)]
-mod errand;
+mod job;
 #[cfg(test)]
 mod laws;
 #[cfg(test)]

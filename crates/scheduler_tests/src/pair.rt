@@ -1,6 +1,6 @@
 ghost use Rattle.std.specs.Prelude.{◌≡◌, [], ◌∷◌, IfOk};
 
-use crate::errand::Errand;
+use crate::job::Job;
 use crate::meeting::Meeting;
 use chip_core::{ChipSet, Core};
 use md_word::{Entry, Key, Next};
@@ -19,7 +19,7 @@ pub struct Chip {
     sample: bool,
     meeting: Arc<Meeting>,
     times: u64,
-    errand: Option<Arc<Errand>>,
+    job: Option<Arc<Job>>,
 }
 
 impl Model for Chip {
@@ -53,7 +53,7 @@ impl ChipSet for Pair {
 
     type Pins = u64;
 
-    type Errands = Arc<Errand>;
+    type Jobs = Arc<Job>;
 
     ghost rules = { record {
       count = 2;
@@ -135,22 +135,22 @@ impl ChipSet for Pair {
         false
     }
 
-    fn errands(chips: &[Chip]) -> Option<Arc<Errand>> {
+    fn jobs(chips: &[Chip]) -> Option<Arc<Job>> {
         match chips {
-            [first, ..] => match &first.errand {
-                Some(errand) => Arc::try_clone(errand).ok(),
+            [first, ..] => match &first.job {
+                Some(job) => Arc::try_clone(job).ok(),
                 None => None,
             },
             [] => None,
         }
     }
 
-    fn has_errand(errand: &Arc<Errand>) -> bool {
-        errand.lies()
+    fn has_job(job: &Arc<Job>) -> bool {
+        job.lies()
     }
 
-    fn run_errand<R: Wait>(_rt: &R, errand: &Arc<Errand>) {
-        errand.run();
+    fn run_job<R: Wait>(_rt: &R, job: &Arc<Job>) {
+        job.run();
     }
 
     fn gap(_chip: u8) -> u64 {
@@ -163,7 +163,7 @@ fn at_start(
     sample: bool,
     meeting: Arc<Meeting>,
     times: u64,
-    errand: Option<Arc<Errand>>,
+    job: Option<Arc<Job>>,
 ) -> Chip
     ensures { result ≡ record { number = number; cycle = 0; sample = sample } }
 {
@@ -173,7 +173,7 @@ fn at_start(
         sample,
         meeting,
         times,
-        errand,
+        job,
     }
 }
 
@@ -183,7 +183,7 @@ pub fn power_on(
     sample: bool,
     meeting: &Arc<Meeting>,
     times: u64,
-    errand: Option<Arc<Errand>>,
+    job: Option<Arc<Job>>,
     room: usize,
 ) -> Result<Core<Pair>, AllocError>
     ensures { IfOk result (λ core. core ≡ record {
@@ -194,7 +194,7 @@ pub fn power_on(
       room = room;
     }) }
 {
-    let first = at_start(0, sample, Arc::try_clone(meeting)?, times, errand);
+    let first = at_start(0, sample, Arc::try_clone(meeting)?, times, job);
     let second = at_start(1, sample, Arc::try_clone(meeting)?, times, None);
     let chips = vec![in alloc; first, second]?;
     let bounds = vec![in alloc; Key { cycle: 0, chip: 0 }, Key { cycle: 0, chip: 1 }]?;

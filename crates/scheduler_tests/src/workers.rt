@@ -1,5 +1,5 @@
 use crate::crowd::Crowd;
-use crate::errand::Errand;
+use crate::job::Job;
 use crate::meeting::Meeting;
 use crate::pair;
 use crate::turns::Turns;
@@ -64,24 +64,24 @@ fn private_work_of_two_workers_overlaps_to_the_end(rt: HostRuntime) -> Result<()
 // The second chip waits at the gate for the job: with none who runs it beside the turns, it would continue
 // after a while, and the job would be queued to the end.
 #[test]
-fn a_helper_runs_an_errand(rt: HostRuntime) -> Result<(), Fail> {
+fn a_helper_runs_a_job(rt: HostRuntime) -> Result<(), Fail> {
     let meeting = Arc::new(rt.alloc(), Meeting::new())?;
-    let errand = Arc::new(rt.alloc(), Errand::new())?;
-    let laid = Arc::try_clone(&errand)?;
+    let job = Arc::new(rt.alloc(), Job::new())?;
+    let laid = Arc::try_clone(&job)?;
     let core = pair::power_on(rt.alloc(), false, &meeting, 0, Some(laid), 2)?;
-    let _core = run_core(&rt, core, 1, 2, &*errand);
-    assert!(rt; errand.was_run(1));
+    let _core = run_core(&rt, core, 1, 2, &*job);
+    assert!(rt; job.was_run(1));
     Ok(())
 }
 
 #[test]
-fn one_worker_alone_runs_no_errand(rt: HostRuntime) -> Result<(), Fail> {
+fn one_worker_alone_runs_no_job(rt: HostRuntime) -> Result<(), Fail> {
     let meeting = Arc::new(rt.alloc(), Meeting::new())?;
-    let errand = Arc::new(rt.alloc(), Errand::new())?;
-    let laid = Arc::try_clone(&errand)?;
+    let job = Arc::new(rt.alloc(), Job::new())?;
+    let laid = Arc::try_clone(&job)?;
     let core = pair::power_on(rt.alloc(), false, &meeting, 0, Some(laid), 2)?;
     let _core = run_core(&rt, core, 1, 1, &FreeGate);
-    assert!(rt; errand.was_run(0));
+    assert!(rt; job.was_run(0));
     Ok(())
 }
 

@@ -189,11 +189,11 @@ impl Sound {
     /// Whether the same was heard as was kept.
     pub fn tell_heard(&self) -> Result<String, RowError> {
         let is_same = !self.kept.is_empty() && self.heard.as_str() == self.kept.as_str();
-        let told = if is_same {
+        let reported = if is_same {
             "as kept"
         } else {
             "other than kept"
         };
-        Ok(String::from_str(self.alloc, told)?)
+        Ok(String::from_str(self.alloc, reported)?)
     }
 }

@@ -5,7 +5,7 @@ use Rattle.std.proofs.lemmas.List.{take_at, length-append, append-nil, length-dr
 use Rattle.md_fields.specs.Fields.{AreWithin, Field, block, sizes, spelling}
 use Rattle.md_fields.specs.Places.{IsBytes, Stand}
 use Rattle.md_fields.proofs.Items.{within_there}
-use Rattle.md_fields.proofs.Standing.{long_as, spelled_from, stand_behind}
+use Rattle.md_fields.proofs.Standing.{long_as, spelled_from, stand_after}
 use Rattle.sound_writes.specs.Entries.{AreFit, entries_bytes, entries_from}
 use Rattle.md_fields.proofs.Tables.{spelling_append, within_append, within_both}
 
@@ -92,7 +92,7 @@ module _ {E : Type 0} (size : ℕ) (fields : E → List Field) (entry : ℕ → 
       spelling_append (fields e) (left rest) ∙ ap (λ (l : List ℕ). spelling (fields e) ++ l) (left_bytes rest) in
       sym (only (length front) (front ++ (spelling (fields e) ++ rest)) e (left rest)
       (subst (λ (l : List ℕ). Stand (length front) (fields e ++ left rest) (front ++ l)) whole
-      (stand_behind front (fields e ++ left rest) (within_append (fields e) (left rest) fit (left_within rest)))))
+      (stand_after front (fields e ++ left rest) (within_append (fields e) (left rest) fit (left_within rest)))))
 
   -- what is spelled is read so
   pub entries_read : (es : List E) (front rest : List ℕ) → AreFit fields es

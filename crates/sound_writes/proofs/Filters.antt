@@ -44,9 +44,9 @@ stamped-before {A = A} stamp a b low high history ws o h =
     (λ v k l. and_right (nat_le a (stamp v)) (nat_lt (stamp v) b) (le-ltb (stamp v) b (omega (arith, h, k)))))
     ∙ append-nil (filter p history)
 
-pub stamped-behind : {A : Type 0} (stamp : A → ℕ) (a b low high : ℕ) (history ws : List A) → IsInOrder stamp low high history → high ≤ a
+pub stamped-following : {A : Type 0} (stamp : A → ℕ) (a b low high : ℕ) (history ws : List A) → IsInOrder stamp low high history → high ≤ a
     → stamped stamp a b (history ++ ws) ≡ stamped stamp a b ws
-stamped-behind {A = A} stamp a b low high history ws o h =
+stamped-following {A = A} stamp a b low high history ws o h =
     let p : A → Bool = λ v. nat_le a (stamp v) && nat_lt (stamp v) b in
     filter-append p history ws
     ∙ ap (λ r. r ++ filter p ws) (filter-none stamp p low high history o

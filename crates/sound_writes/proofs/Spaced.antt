@@ -6,7 +6,7 @@ use Rattle.std.proofs.lemmas.Bool.{and_parts, le-ltb, ltb-true}
 use Rattle.md_word.specs.Clock.{main_gap, sub_gap}
 use Rattle.md_word.specs.declared.key.Key.{Key}
 use Rattle.sound_writes.specs.declared.earliest.Earliest.{Earliest}
-use Rattle.sound_writes.specs.Keys.{all_fit, after, are_kept, are_spaced, behind_batch, fits, is_behind, is_kept, last_batch, later}
+use Rattle.sound_writes.specs.Keys.{all_fit, after, are_kept, are_spaced, following_batch, fits, is_following, is_kept, last_batch, later}
 
 -- the same over the parts of the keys
 main_main : (at main c d : ℕ) → at < 2 ^ 64 → (nat_le main c && nat_lt c at) ≡ true
@@ -31,7 +31,7 @@ no_third n a b c = let none : nat_lt (suc (suc n)) 2 ≡ false = le-ltb (suc (su
 
 fits_by : (at main sub c d n m : ℕ) → at < 2 ^ 64 → fits at (record { main = main; sub = sub }) (record { cycle = c; chip = n }) ≡ true
     → fits at (after (record { cycle = c; chip = n }) (record { main = main; sub = sub })) (record { cycle = d; chip = m })
-    ≡ (fits at (record { main = main; sub = sub }) (record { cycle = d; chip = m }) && is_behind (record { cycle = c; chip = n }) (record { cycle = d; chip = m }))
+    ≡ (fits at (record { main = main; sub = sub }) (record { cycle = d; chip = m }) && is_following (record { cycle = c; chip = n }) (record { cycle = d; chip = m }))
 fits_by at main sub c d zero zero few fit = main_main at main c d few fit
 fits_by at main sub c d zero (suc zero) few fit = main_sub at main sub c d few fit
 fits_by at main sub c d zero (suc (suc m)) few fit = no_third m _ _ _
@@ -40,7 +40,7 @@ fits_by at main sub c d (suc zero) (suc zero) few fit = sub_sub at sub c d few f
 fits_by at main sub c d (suc zero) (suc (suc m)) few fit = no_third m _ _ _
 fits_by at main sub c d (suc (suc n)) m few fit = absurd (let below = ltb-true (suc (suc n)) 2 (and_parts _ _ fit).0 in omega (arith, below))
 
-fits_after : (at : ℕ) (e : Earliest) (key next : Key) → at < 2 ^ 64 → fits at e key ≡ true → fits at (after key e) next ≡ (fits at e next && is_behind key next)
+fits_after : (at : ℕ) (e : Earliest) (key next : Key) → at < 2 ^ 64 → fits at e key ≡ true → fits at (after key e) next ≡ (fits at e next && is_following key next)
 fits_after at e key next few fit = fits_by at e.main e.sub key.cycle next.cycle key.chip next.chip few fit
 
 all_both : (p q : Key → Bool) (keys : List Key) → list_all (λ k. p k && q k) keys ≡ (list_all p keys && list_all q keys)
@@ -57,13 +57,13 @@ and_swap false b c = refl
 
 next_fits : (at : ℕ) (few : at < 2 ^ 64) (e : Earliest) (key : Key) (rest : List Key) (fit : Bool) → fits at e key ≡ fit
     → all_fit at (after key e) rest ≡ (list_all (fits at (after key e)) rest && are_spaced rest)
-    → (fit && all_fit at (after key e) rest) ≡ ((fit && list_all (fits at e) rest) && (list_all (is_behind key) rest && are_spaced rest))
+    → (fit && all_fit at (after key e) rest) ≡ ((fit && list_all (fits at e) rest) && (list_all (is_following key) rest && are_spaced rest))
 next_fits at few e key rest false is h = refl
 next_fits at few e key rest true is h =
     h ∙ ap (λ (b : Bool). b && are_spaced rest)
-    (all_same (fits at (after key e)) (λ k. fits at e k && is_behind key k) rest (λ k. fits_after at e key k few is)
-    ∙ all_both (fits at e) (is_behind key) rest)
-    ∙ and_swap (list_all (fits at e) rest) (list_all (is_behind key) rest) (are_spaced rest)
+    (all_same (fits at (after key e)) (λ k. fits at e k && is_following key k) rest (λ k. fits_after at e key k few is)
+    ∙ all_both (fits at e) (is_following key) rest)
+    ∙ and_swap (list_all (fits at e) rest) (list_all (is_following key) rest) (are_spaced rest)
 
 all_fit_is : (at : ℕ) → at < 2 ^ 64 → (e : Earliest) (keys : List Key) → all_fit at e keys ≡ (list_all (fits at e) keys && are_spaced keys)
 unfolding all_fit
@@ -74,14 +74,14 @@ same_from : (b : Bool) (n : ℕ) → cond b n n ≡ n
 same_from true n = refl
 same_from false n = refl
 
-first_fits : (at : ℕ) (key : Key) → fits at (behind_batch at) key ≡ is_kept at key
+first_fits : (at : ℕ) (key : Key) → fits at (following_batch at) key ≡ is_kept at key
 first_fits at key = rw (same_from _ (last_batch at)) refl
 
 -- from where no write was looked at
-pub all_kept : (at : ℕ) (keys : List Key) → at < 2 ^ 64 → all_fit at (behind_batch at) keys ≡ are_kept at keys
+pub all_kept : (at : ℕ) (keys : List Key) → at < 2 ^ 64 → all_fit at (following_batch at) keys ≡ are_kept at keys
 all_kept at keys few =
-    all_fit_is at few (behind_batch at) keys
-    ∙ ap (λ (b : Bool). b && are_spaced keys) (all_same (fits at (behind_batch at)) (is_kept at) keys (first_fits at))
+    all_fit_is at few (following_batch at) keys
+    ∙ ap (λ (b : Bool). b && are_spaced keys) (all_same (fits at (following_batch at)) (is_kept at) keys (first_fits at))
 
 -- one key more, and none
 all_fit_more : (at : ℕ) (e : Earliest) (key : Key) (rest : List Key) → fits at e key ≡ true → all_fit at e (key ∷ rest) ≡ all_fit at (after key e) rest

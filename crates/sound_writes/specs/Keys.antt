@@ -19,14 +19,14 @@ abbrev pub is_kept : ℕ → Key → Bool
 is_kept at key = nat_lt key.chip 2 && (nat_le (last_batch at) key.cycle && nat_lt key.cycle at)
 
 -- a key above another, and where they are of one processor apart by its gap
-abbrev pub is_behind : Key → Key → Bool
-is_behind earlier later =
+abbrev pub is_following : Key → Key → Bool
+is_following earlier later =
     key_lt earlier later && (if earlier.chip == later.chip then nat_le (earlier.cycle + gap earlier.chip) later.cycle else true)
 
 -- each key is after all that are before it
 abbrev pub are_spaced : List Key → Bool
 are_spaced [] = true
-are_spaced (key ∷ rest) = list_all (is_behind key) rest && are_spaced rest
+are_spaced (key ∷ rest) = list_all (is_following key) rest && are_spaced rest
 
 -- the keys of the writes that a port holds at a cycle, in their order
 abbrev pub are_kept : ℕ → List Key → Bool
@@ -39,8 +39,8 @@ is_before_next main sub key = nat_le (key.cycle + gap key.chip) (if key.chip == 
 -- ---- the same key by key
 
 -- where no write was looked at
-abbrev pub behind_batch : ℕ → Earliest
-behind_batch at = record { main = last_batch at; sub = last_batch at }
+abbrev pub following_batch : ℕ → Earliest
+following_batch at = record { main = last_batch at; sub = last_batch at }
 
 -- whether the next write can have this key, below a cycle
 abbrev pub fits : ℕ → Earliest → Key → Bool

@@ -16,8 +16,8 @@ pub struct Earliest {
 
 impl Earliest {
     /// Where no write was looked at: the cycle of the last batch before a cycle.
-    pub fn behind_batch(at: u64) -> Earliest
-        ensures { result ≡ meaning.behind_batch at }
+    pub fn following_batch(at: u64) -> Earliest
+        ensures { result ≡ meaning.following_batch at }
     {
         let batch = at.saturating_sub(1) / BATCH * BATCH;
         Earliest {

@@ -4,7 +4,7 @@ use Rattle.std.proofs.Common.{◌≡◌, ◌⊎◌, inl, inr, ℕ, ◌+◌, Bool
 use Rattle.std.proofs.lemmas.Bool.{cases_eq, cases_lt}
 use Rattle.std.proofs.lemmas.List.{length-take}
 use Rattle.std.specs.Int.{w16}
-use Rattle.md_fields.specs.Fields.{first_wrong}
+use Rattle.md_fields.specs.Fields.{first_invalid}
 use Rattle.md_fields.specs.Items.{IsRight, Keeps}
 use Rattle.md_fields.specs.Places.{IsBytes, number_at}
 use Rattle.md_fields.proofs.Standing.{IsBytes-drop, IsBytes-take}
@@ -23,9 +23,9 @@ use Rattle.vdp_ports.specs.Saved.{vdp_fields}
 use Rattle.vdp_ports.specs.Spelling as video
 use Rattle.vdp_ports.specs.Vdp.{Vdp}
 use Rattle.vdp_ports.proofs.SavedLaws as video_laws
-use Rattle.vdp_chip.specs.Saved as saved_drawing
-use Rattle.vdp_chip.specs.Spelling as drawing
-use Rattle.vdp_chip.proofs.SavedLaws as drawing_laws
+use Rattle.vdp_chip.specs.Saved as saved_renderer_state
+use Rattle.vdp_chip.specs.Spelling as renderer_state
+use Rattle.vdp_chip.proofs.SavedLaws as renderer_state_laws
 use Rattle.fm_port.specs.Port.{Port}
 use Rattle.fm_port.specs.PortSpelling as fm_port
 use Rattle.fm_port.specs.declared.saved_port.SavedPort.{SavedPort as FmNumbers}
@@ -43,27 +43,27 @@ use Rattle.bus_shared.specs.Spelling as shared
 use Rattle.bus_shared.specs.declared.saved_lines.SavedLines.{SavedLines}
 use Rattle.bus_shared.proofs.SavedLaws as lines_laws
 use Rattle.bus_shared.proofs.SpellingLaws as shared_laws
-use Rattle.state_laws.proofs.Numbers.{main_there, sub_there, video_there, drawing_there, fm_port_there, psg_there, lines_there}
-use Rattle.state_laws.proofs.Deciding.{Verdict, fields_judged, sized}
+use Rattle.state_laws.proofs.Numbers.{main_there, sub_there, video_there, renderer_state_there, fm_port_there, psg_there, lines_there}
+use Rattle.state_laws.proofs.Deciding.{Verdict, fields_validated, sized}
 
 -- ---- the processors
 
-pub main_verdict : (cart : List ℕ) (at : ℕ) (bytes : List ℕ) → IsBytes bytes → Verdict (main.Spells cart at bytes) (main.GoesWrongAt cart at bytes)
+pub main_verdict : (cart : List ℕ) (at : ℕ) (bytes : List ℕ) → IsBytes bytes → Verdict (main.Spells cart at bytes) (main.InvalidAt cart at bytes)
 main_verdict cart at bytes fits =
     sized main.chip_size (saved68.chip_fields cart at) (main.Spells cart at bytes) bytes fits
     (λ long. (let s = main_there bytes long in (s.0, s.1 at (main_asks_more cart (main_from s.0)))))
     (λ long n keeps right. (main_from n, main_laws.spelled_by cart at bytes n keeps right))
 
-sub_read : (cart : List ℕ) (at : ℕ) (bytes : List ℕ) → IsBytes bytes → sub.IsLength bytes → Verdict (sub.Spells cart at bytes) (sub.GoesWrongAt cart at bytes)
+sub_read : (cart : List ℕ) (at : ℕ) (bytes : List ℕ) → IsBytes bytes → sub.IsLength bytes → Verdict (sub.Spells cart at bytes) (sub.InvalidAt cart at bytes)
 sub_read cart at bytes fits long =
     let n = sub_there bytes in
     let k : saved80.Kept80 = record { numbers = n.0; store = sub.store_at bytes } in
-    elim (fields_judged (saved80.chip_fields cart at) bytes k fits (sub_laws.stands_by at bytes n.0 long n.1 (saved80.asks_more cart k))) [
+    elim (fields_validated (saved80.chip_fields cart at) bytes k fits (sub_laws.stands_by at bytes n.0 long n.1 (saved80.asks_more cart k))) [
       | inl right ↦ inl (saved80.state_from n.0 (sub.store_at bytes), sub_laws.spelled_by cart at bytes k right.0 right.1)
-      | inr wrong ↦ inr (wrong.0, inr wrong.1)
+      | inr invalid ↦ inr (invalid.0, inr invalid.1)
     ]
 
-pub sub_verdict : (cart : List ℕ) (at : ℕ) (bytes : List ℕ) → IsBytes bytes → Verdict (sub.Spells cart at bytes) (sub.GoesWrongAt cart at bytes)
+pub sub_verdict : (cart : List ℕ) (at : ℕ) (bytes : List ℕ) → IsBytes bytes → Verdict (sub.Spells cart at bytes) (sub.InvalidAt cart at bytes)
 sub_verdict cart at bytes fits = elim (cases_eq (length bytes) (sub.spelled_size false)) [
   | inl short ↦ sub_read cart at bytes fits (inl short)
   | inr not_short ↦ (elim (cases_eq (length bytes) (sub.spelled_size true)) [
@@ -74,54 +74,54 @@ sub_verdict cart at bytes fits = elim (cases_eq (length bytes) (sub.spelled_size
 
 -- ---- the VDP
 
-pub video_verdict : (at : ℕ) (pal : Bool) (bytes : List ℕ) → IsBytes bytes → Verdict (video.Spells at pal bytes) (video.GoesWrongAt at pal bytes)
+pub video_verdict : (at : ℕ) (pal : Bool) (bytes : List ℕ) → IsBytes bytes → Verdict (video.Spells at pal bytes) (video.InvalidAt at pal bytes)
 video_verdict at pal bytes fits =
     sized video.vdp_size (vdp_fields at pal) (video.Spells at pal bytes) bytes fits
     (λ long. (let s = video_there bytes long in (s.0, s.1 at pal)))
     (λ long n keeps right. (vdp_of pal n, video_laws.read_spells at pal bytes n keeps right))
 
-pub drawing_verdict : (at : ℕ) (pal : Bool) (bytes : List ℕ) → IsBytes bytes → Verdict (drawing.Spells at pal bytes) (drawing.GoesWrongAt at pal bytes)
-drawing_verdict at pal bytes fits =
-    sized drawing.drawing_size (saved_drawing.drawing_fields at pal) (drawing.Spells at pal bytes) bytes fits
-    (λ long. (let s = drawing_there bytes long in (s.0, s.1 at pal)))
-    (λ long n keeps right. (saved_drawing.drawing_of pal n, drawing_laws.read_spells at pal bytes n keeps right))
+pub renderer_state_verdict : (at : ℕ) (pal : Bool) (bytes : List ℕ) → IsBytes bytes → Verdict (renderer_state.Spells at pal bytes) (renderer_state.InvalidAt at pal bytes)
+renderer_state_verdict at pal bytes fits =
+    sized renderer_state.renderer_state_size (saved_renderer_state.renderer_state_fields at pal) (renderer_state.Spells at pal bytes) bytes fits
+    (λ long. (let s = renderer_state_there bytes long in (s.0, s.1 at pal)))
+    (λ long n keeps right. (saved_renderer_state.renderer_state_of pal n, renderer_state_laws.read_spells at pal bytes n keeps right))
 
 -- ---- the sound chips
 
 fm_port_by : (at : ℕ) (bytes : List ℕ) (n : FmNumbers) → IsBytes bytes → length bytes ≡ 12316 → fm_port_laws.IsHead bytes n
-    → (first : Option ℕ) → first_wrong 0 (fm_port.number_fields at n) ≡ first → (right : Bool) → fm_port.are_writes at (fm_port_laws.count_in bytes) (fm_port_laws.entries_in bytes) ≡ right
-    → Verdict (fm_port.SpellsPort at bytes) (fm_port.PortGoesWrongAt at bytes)
+    → (first : Option ℕ) → first_invalid 0 (fm_port.number_fields at n) ≡ first → (right : Bool) → fm_port.are_writes at (fm_port_laws.count_in bytes) (fm_port_laws.entries_in bytes) ≡ right
+    → Verdict (fm_port.SpellsPort at bytes) (fm_port.PortInvalidAt at bytes)
 fm_port_by at bytes n fits long head (Some place) e right f = inr (place, fm_port_laws.breaks_number at bytes n place fits long head e)
 fm_port_by at bytes n fits long head None e true f =
     inl (fm_port.port_with n (fm_port.writes_from (fm_port_laws.count_in bytes) (fm_port_laws.entries_in bytes)), fm_port_laws.read_spells at bytes n fits long head e f)
 fm_port_by at bytes n fits long head None e false f = inr (26, fm_port_laws.breaks_writes at bytes n fits long head e f)
 
-pub fm_port_verdict : (at : ℕ) (bytes : List ℕ) → IsBytes bytes → Verdict (fm_port.SpellsPort at bytes) (fm_port.PortGoesWrongAt at bytes)
+pub fm_port_verdict : (at : ℕ) (bytes : List ℕ) → IsBytes bytes → Verdict (fm_port.SpellsPort at bytes) (fm_port.PortInvalidAt at bytes)
 fm_port_verdict at bytes fits = elim (cases_eq (length bytes) 12316) [
   | inl long ↦ (
       let n = fm_port_there bytes in
-      fm_port_by at bytes n.0 fits long n.1 (first_wrong 0 (fm_port.number_fields at n.0)) refl (fm_port.are_writes at (fm_port_laws.count_in bytes) (fm_port_laws.entries_in bytes)) refl)
+      fm_port_by at bytes n.0 fits long n.1 (first_invalid 0 (fm_port.number_fields at n.0)) refl (fm_port.are_writes at (fm_port_laws.count_in bytes) (fm_port_laws.entries_in bytes)) refl)
   | inr other ↦ inr (min (length bytes) 12316, inl (other, refl))
 ]
 
 psg_port_by : (at : ℕ) (bytes : List ℕ) → IsBytes bytes → length bytes ≡ 10242 → (right : Bool) → psg_port.are_writes at (psg_port_laws.read_port bytes) ≡ right
-    → Verdict (psg_port.SpellsPort at bytes) (psg_port.PortGoesWrongAt at bytes)
+    → Verdict (psg_port.SpellsPort at bytes) (psg_port.PortInvalidAt at bytes)
 psg_port_by at bytes fits long true e = inl (psg_port.writes_at (number_at w16 0 bytes) (take 10240 (drop 2 bytes)), psg_port_laws.read_spells at bytes fits long e)
 psg_port_by at bytes fits long false e = inr (0, psg_port_laws.breaks_port at bytes fits long e)
 
-pub psg_port_verdict : (at : ℕ) (bytes : List ℕ) → IsBytes bytes → Verdict (psg_port.SpellsPort at bytes) (psg_port.PortGoesWrongAt at bytes)
+pub psg_port_verdict : (at : ℕ) (bytes : List ℕ) → IsBytes bytes → Verdict (psg_port.SpellsPort at bytes) (psg_port.PortInvalidAt at bytes)
 psg_port_verdict at bytes fits = elim (cases_eq (length bytes) 10242) [
   | inl long ↦ psg_port_by at bytes fits long (psg_port.are_writes at (psg_port_laws.read_port bytes)) refl
   | inr other ↦ inr (min (length bytes) 10242, inl (other, refl))
 ]
 
-pub fm_verdict : (bytes : List ℕ) → IsBytes bytes → Verdict (fm.SpellsSynth bytes) (fm.SynthGoesWrongAt bytes)
+pub fm_verdict : (bytes : List ℕ) → IsBytes bytes → Verdict (fm.SpellsSynth bytes) (fm.SynthInvalidAt bytes)
 fm_verdict bytes fits =
     sized 741 fm.synth_fields (fm.SpellsSynth bytes) bytes fits
     (λ long. (fm.synth_at bytes, fm_laws.synth_stands bytes long))
     (λ long s keeps right. (fm.synth_from s, fm_laws.read_spells bytes s keeps right))
 
-pub psg_verdict : (bytes : List ℕ) → IsBytes bytes → Verdict (psg.SpellsSynth bytes) (psg.SynthGoesWrongAt bytes)
+pub psg_verdict : (bytes : List ℕ) → IsBytes bytes → Verdict (psg.SpellsSynth bytes) (psg.SynthInvalidAt bytes)
 psg_verdict bytes fits =
     sized 26 psg.synth_fields (psg.SpellsSynth bytes) bytes fits
     (λ long. psg_there bytes long)
@@ -129,7 +129,7 @@ psg_verdict bytes fits =
 
 -- ---- the board
 
-lines_verdict : (at : ℕ) (bytes : List ℕ) → IsBytes bytes → Verdict (λ n. Keeps (lines_fields at) bytes n × IsRight (lines_fields at) n) (shared.LinesGoWrongAt at bytes)
+lines_verdict : (at : ℕ) (bytes : List ℕ) → IsBytes bytes → Verdict (λ n. Keeps (lines_fields at) bytes n × IsRight (lines_fields at) n) (shared.LinesInvalidAt at bytes)
 lines_verdict at bytes fits =
     sized 36 (lines_fields at) (λ n. Keeps (lines_fields at) bytes n × IsRight (lines_fields at) n) bytes fits
     (λ long. (let s = lines_there bytes long in (s.0, s.1 at)))
@@ -139,15 +139,15 @@ lines_verdict at bytes fits =
 record StoreKept (bytes : List ℕ) (store : Option Store) : Type 0 where
   is : bytes ≡ shared.store_bytes store
   fits : IfSome store IsStore
-  right : (place : ℕ) → shared.StoreGoesWrongAt bytes place → ⊥
+  right : (place : ℕ) → shared.StoreInvalidAt bytes place → ⊥
 
-store_verdict : (bytes : List ℕ) → IsBytes bytes → (length bytes ≡ 0) ⊎ (length bytes ≡ 8194) → Verdict (StoreKept bytes) (shared.StoreGoesWrongAt bytes)
+store_verdict : (bytes : List ℕ) → IsBytes bytes → (length bytes ≡ 0) ⊎ (length bytes ≡ 8194) → Verdict (StoreKept bytes) (shared.StoreInvalidAt bytes)
 store_verdict bytes fits (inl empty) = inl (
   None,
   record {
     is = shared_laws.empty_store bytes empty;
     fits = tt;
-    right = λ place wrong. omega (arith, empty, wrong.0);
+    right = λ place invalid. omega (arith, empty, invalid.0);
   },
 )
 store_verdict bytes fits (inr long) = elim (cases_lt (number_at w16 8192 bytes) 512) [
@@ -155,7 +155,7 @@ store_verdict bytes fits (inr long) = elim (cases_lt (number_at w16 8192 bytes) 
       let store : Store = record { ram = take 8192 bytes; bank = number_at w16 8192 bytes } in
       let found = shared_laws.held_found bytes (take 8192 bytes) (number_at w16 8192 bytes) store fits long refl refl nine refl in
       inl (Some store, record { is = found.0; fits = found.1; right = shared_laws.held_right bytes (number_at w16 8192 bytes) refl nine }))
-  | inr more ↦ inr (8192, shared_laws.held_wrong bytes (number_at w16 8192 bytes) 8192 long refl more refl)
+  | inr more ↦ inr (8192, shared_laws.held_invalid bytes (number_at w16 8192 bytes) 8192 long refl more refl)
 ]
 
 store_long : (bytes : List ℕ) → shared.IsLength bytes → (length (take (shared.store_length bytes) bytes) ≡ 0) ⊎ (length (take (shared.store_length bytes) bytes) ≡ 8194)
@@ -163,11 +163,11 @@ store_long bytes (inl short) = inl (omega (arith, short, length-take (shared.sto
 store_long bytes (inr long) = inr (omega (arith, long, length-take (shared.store_length bytes) bytes))
 
 -- a part, and what follows it
-chained : {A B : Type 0} (start : ℕ) (Wrong Behind : ℕ → Type 0) → A ⊎ ((place : ℕ) × Wrong place) → (A → (place : ℕ) → Wrong place → ⊥)
-    → B ⊎ ((place : ℕ) × Behind place) → (A × B) ⊎ ((place : ℕ) × shared.GoesWrongFrom start Wrong Behind place)
-chained start Wrong Behind (inr (place, wrong)) none rest = inr (start + place, inl (place, wrong, refl))
-chained start Wrong Behind (inl a) none (inl b) = inl (a, b)
-chained start Wrong Behind (inl a) none (inr (place, wrong)) = inr (place, inr (none a, wrong))
+chained : {A B : Type 0} (start : ℕ) (Invalid Following : ℕ → Type 0) → A ⊎ ((place : ℕ) × Invalid place) → (A → (place : ℕ) → Invalid place → ⊥)
+    → B ⊎ ((place : ℕ) × Following place) → (A × B) ⊎ ((place : ℕ) × shared.InvalidFrom start Invalid Following place)
+chained start Invalid Following (inr (place, invalid)) none rest = inr (start + place, inl (place, invalid, refl))
+chained start Invalid Following (inl a) none (inl b) = inl (a, b)
+chained start Invalid Following (inl a) none (inr (place, invalid)) = inr (place, inr (none a, invalid))
 
 abbrev LinesKept : ℕ → List ℕ → SavedLines → Type 0
 LinesKept at bytes n = Keeps (lines_fields at) bytes n × IsRight (lines_fields at) n
@@ -189,22 +189,22 @@ record AreBytes (parts : shared.Parts) : Type 0 where
   lines : IsBytes parts.lines
 
 parts_verdict : (at : ℕ) (pal : Bool) (start : ℕ) (parts : shared.Parts) → AreBytes parts → (length parts.store ≡ 0) ⊎ (length parts.store ≡ 8194)
-    → PartsKept at pal parts ⊎ ((place : ℕ) × shared.PartsGoWrongAt at pal start parts place)
+    → PartsKept at pal parts ⊎ ((place : ℕ) × shared.PartsInvalidAt at pal start parts place)
 parts_verdict at pal start parts fits long =
-    chained 0 (shared.StoreGoesWrongAt parts.store) _ (store_verdict parts.store fits.store long) (λ kept. kept.1.right)
-    (chained start (video.GoesWrongAt at pal parts.vdp) _ (video_verdict at pal parts.vdp fits.vdp) (λ kept place. video_laws.right_not_refused at pal parts.vdp (numbers_of kept.0) place kept.1.keeps kept.1.right)
-    (chained _ (fm_port.PortGoesWrongAt at parts.fm) _ (fm_port_verdict at parts.fm fits.fm) (λ kept. fm_port_laws.right_nowhere at parts.fm kept.0 kept.1)
-    (chained _ (psg_port.PortGoesWrongAt at parts.psg) _ (psg_port_verdict at parts.psg fits.psg) (λ kept. psg_port_laws.right_nowhere at parts.psg kept.0 kept.1)
-    (chained _ (shared.LinesGoWrongAt at parts.lines) (λ place. ⊥) (lines_verdict at parts.lines fits.lines) (λ kept place. lines_laws.lines_right at parts.lines kept.0 place kept.1.0 kept.1.1) (inl tt)))))
+    chained 0 (shared.StoreInvalidAt parts.store) _ (store_verdict parts.store fits.store long) (λ kept. kept.1.right)
+    (chained start (video.InvalidAt at pal parts.vdp) _ (video_verdict at pal parts.vdp fits.vdp) (λ kept place. video_laws.right_not_refused at pal parts.vdp (numbers_of kept.0) place kept.1.keeps kept.1.right)
+    (chained _ (fm_port.PortInvalidAt at parts.fm) _ (fm_port_verdict at parts.fm fits.fm) (λ kept. fm_port_laws.right_nowhere at parts.fm kept.0 kept.1)
+    (chained _ (psg_port.PortInvalidAt at parts.psg) _ (psg_port_verdict at parts.psg fits.psg) (λ kept. psg_port_laws.right_nowhere at parts.psg kept.0 kept.1)
+    (chained _ (shared.LinesInvalidAt at parts.lines) (λ place. ⊥) (lines_verdict at parts.lines fits.lines) (λ kept place. lines_laws.lines_right at parts.lines kept.0 place kept.1.0 kept.1.1) (inl tt)))))
 
 cut_bytes : (bytes : List ℕ) → IsBytes bytes → AreBytes (shared.cut bytes)
 cut_bytes bytes fits =
-    let behind = IsBytes-drop (shared.store_length bytes) bytes fits in
-    let past_vdp = IsBytes-drop video.vdp_size (drop (shared.store_length bytes) bytes) behind in
+    let following = IsBytes-drop (shared.store_length bytes) bytes fits in
+    let past_vdp = IsBytes-drop video.vdp_size (drop (shared.store_length bytes) bytes) following in
     let past_fm = IsBytes-drop 12316 (drop video.vdp_size (drop (shared.store_length bytes) bytes)) past_vdp in
     record {
       store = IsBytes-take (shared.store_length bytes) bytes fits;
-      vdp = IsBytes-take video.vdp_size (drop (shared.store_length bytes) bytes) behind;
+      vdp = IsBytes-take video.vdp_size (drop (shared.store_length bytes) bytes) following;
       fm = IsBytes-take 12316 (drop video.vdp_size (drop (shared.store_length bytes) bytes)) past_vdp;
       psg = IsBytes-take 10242 (drop 12316 (drop video.vdp_size (drop (shared.store_length bytes) bytes))) past_fm;
       lines = IsBytes-drop 10242 (drop 12316 (drop video.vdp_size (drop (shared.store_length bytes) bytes))) past_fm;
@@ -231,13 +231,13 @@ board_of recording at pal bytes (store, (vdp, (port, (psg, (lines, nothing))))) 
   ),
 )
 
-board_read : (recording : Recorded) (at : ℕ) (pal : Bool) (bytes : List ℕ) → IsBytes bytes → shared.IsLength bytes → Verdict (BoardKept recording at pal bytes) (shared.GoesWrongAt at pal bytes)
+board_read : (recording : Recorded) (at : ℕ) (pal : Bool) (bytes : List ℕ) → IsBytes bytes → shared.IsLength bytes → Verdict (BoardKept recording at pal bytes) (shared.InvalidAt at pal bytes)
 board_read recording at pal bytes fits long = elim (parts_verdict at pal (shared.store_length bytes) (shared.cut bytes) (cut_bytes bytes fits) (store_long bytes long)) [
   | inl kept ↦ inl (board_of recording at pal bytes kept)
-  | inr wrong ↦ inr (wrong.0, inr (long, wrong.1))
+  | inr invalid ↦ inr (invalid.0, inr (long, invalid.1))
 ]
 
-pub board_verdict : (recording : Recorded) (at : ℕ) (pal : Bool) (bytes : List ℕ) → IsBytes bytes → Verdict (BoardKept recording at pal bytes) (shared.GoesWrongAt at pal bytes)
+pub board_verdict : (recording : Recorded) (at : ℕ) (pal : Bool) (bytes : List ℕ) → IsBytes bytes → Verdict (BoardKept recording at pal bytes) (shared.InvalidAt at pal bytes)
 board_verdict recording at pal bytes fits = elim (cases_eq (length bytes) (shared.board_size false)) [
   | inl short ↦ board_read recording at pal bytes fits (inl short)
   | inr not_short ↦ (elim (cases_eq (length bytes) (shared.board_size true)) [

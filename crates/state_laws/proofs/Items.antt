@@ -16,8 +16,8 @@ use Rattle.z80_chip.specs.States.{State80}
 use Rattle.z80_chip.specs.Validity.{Chip80Value}
 use Rattle.z80_chip.proofs.SpellingLaws as sub_laws
 use Rattle.vdp_chip.specs.Saved.{numbers_of}
-use Rattle.vdp_chip.specs.Spelling as drawing
-use Rattle.vdp_chip.proofs.SavedLaws as drawing_laws
+use Rattle.vdp_chip.specs.Spelling as renderer_state
+use Rattle.vdp_chip.proofs.SavedLaws as renderer_state_laws
 use Rattle.fm_chip.specs.SynthSpelling as fm
 use Rattle.fm_chip.proofs.SynthBytes as fm_laws
 use Rattle.psg_sound.specs.SynthSpelling as psg
@@ -26,11 +26,11 @@ use Rattle.bus_shared.specs.Spelling as shared
 use Rattle.bus_shared.proofs.SpellingLaws as shared_laws
 use Rattle.md_machine.specs.Starts.{first_batch}
 use Rattle.save_state.specs.declared.layout.Part.{Part}
-use Rattle.save_state.specs.Items.{at_of, region_of, holder_in, stage_of, seen_resets, resets_of, resets_place, fm_writes_place, main_bytes, sub_bytes, shared_bytes, drawing_bytes, IsMain, MainFails, IsSub, SubFails, IsShared, SharedFails, IsPicture, DrawingFails, HasLateFm, IsFm, FmFails, HasLatePsg, IsPsg, PsgFails}
+use Rattle.save_state.specs.Items.{at_of, region_of, holder_in, stage_of, seen_resets, resets_of, resets_place, fm_writes_place, main_bytes, sub_bytes, shared_bytes, renderer_state_bytes, IsMain, MainFails, IsSub, SubFails, IsShared, SharedFails, IsPicture, RendererStateFails, HasLateFm, IsFm, FmFails, HasLatePsg, IsPsg, PsgFails}
 use Rattle.save_state.specs.Joining.{Either, KeepsBoth, Reads, both, placed, with_rule}
-use Rattle.save_state.specs.Layout.{main_part, holder_part, drawing_part, fm_part, fm_next_part, psg_part, psg_next_part, psg_port_part, part_of, sub_parts, shared_parts}
+use Rattle.save_state.specs.Layout.{main_part, holder_part, renderer_state_part, fm_part, fm_next_part, psg_part, psg_next_part, psg_port_part, part_of, sub_parts, shared_parts}
 use Rattle.save_state.specs.States.{is_holder}
-use Rattle.save_state.proofs.ItemLaws.{main_read, sub_read, shared_read, drawing_read, fm_read, psg_read}
+use Rattle.save_state.proofs.ItemLaws.{main_read, sub_read, shared_read, renderer_state_read, fm_read, psg_read}
 use Rattle.save_state.proofs.Joins.{joined}
 use Rattle.state_laws.proofs.Chips.{BoardKept}
 use Rattle.state_laws.proofs.Deciding.{Decided, Verdict, decided_by}
@@ -75,20 +75,20 @@ two {A} {B} K L F G first second = record {
 abbrev MainKept : List ℕ → ℕ → List ℕ → Chip68Value → Type 0
 MainKept cart at bytes chip = (chip.cart ≡ cart) × main.Spells cart at bytes chip.state
 
-main_decided : (cart : List ℕ) (at : ℕ) (bytes : List ℕ) → Verdict (main.Spells cart at bytes) (main.GoesWrongAt cart at bytes) → Decided (MainKept cart at bytes) (main.GoesWrongAt cart at bytes)
+main_decided : (cart : List ℕ) (at : ℕ) (bytes : List ℕ) → Verdict (main.Spells cart at bytes) (main.InvalidAt cart at bytes) → Decided (MainKept cart at bytes) (main.InvalidAt cart at bytes)
 main_decided cart at bytes v =
-    decided_by (MainKept cart at bytes) (main.GoesWrongAt cart at bytes)
+    decided_by (MainKept cart at bytes) (main.InvalidAt cart at bytes)
     (λ x y k l. (let state = main_laws.no_other cart at bytes x.state y.state k.1 l.1 in λ i. record { cart = (k.0 ∙ sym l.0) i; state = state i }))
-    (λ x k place wrong. main_laws.right_not_refused cart at bytes x.state place k.1 wrong)
+    (λ x k place invalid. main_laws.right_not_refused cart at bytes x.state place k.1 invalid)
     (main_laws.only_place cart at bytes)
     (elim v [ inl k ↦ inl (record { cart = cart; state = k.0 }, (refl, k.1)) | inr w ↦ inr w ])
 
-pub main_answered : (cart bytes : List ℕ) → Verdict (main.Spells cart (at_of bytes) (main_bytes bytes)) (main.GoesWrongAt cart (at_of bytes) (main_bytes bytes)) → Answered (IsMain cart bytes) (MainFails cart bytes)
+pub main_answered : (cart bytes : List ℕ) → Verdict (main.Spells cart (at_of bytes) (main_bytes bytes)) (main.InvalidAt cart (at_of bytes) (main_bytes bytes)) → Answered (IsMain cart bytes) (MainFails cart bytes)
 main_answered cart bytes v =
     let d = main_decided cart (at_of bytes) (main_bytes bytes) v in
     record {
       answer = placed (main_part ∷ []) d.answer;
-      reads = main_read cart bytes (at_of bytes) (main_bytes bytes) d.answer (placed (main_part ∷ []) d.answer) refl refl refl d.found (λ state spells n. d.only (record { cart = cart; state = state }) (refl, spells)) d.rule d.wrong;
+      reads = main_read cart bytes (at_of bytes) (main_bytes bytes) d.answer (placed (main_part ∷ []) d.answer) refl refl refl d.found (λ state spells n. d.only (record { cart = cart; state = state }) (refl, spells)) d.rule d.invalid;
       memory = placed_memory (main_part ∷ []) d.answer d.memory;
     }
 
@@ -98,15 +98,15 @@ SubKept cart at bytes chip = (chip.cart ≡ cart) × sub.Spells cart at bytes ch
 sub_once : (cart : List ℕ) (at : ℕ) (bytes : List ℕ) (x y : State80) → sub.Spells cart at bytes x → sub.Spells cart at bytes y → x ≡ y
 sub_once cart at bytes x y p q = sym (sub_laws.no_other cart at bytes (kept_of x) x p.keeps p) ∙ sub_laws.no_other cart at bytes (kept_of x) y p.keeps q
 
-sub_decided : (cart : List ℕ) (at : ℕ) (bytes : List ℕ) → Verdict (sub.Spells cart at bytes) (sub.GoesWrongAt cart at bytes) → Decided (SubKept cart at bytes) (sub.GoesWrongAt cart at bytes)
+sub_decided : (cart : List ℕ) (at : ℕ) (bytes : List ℕ) → Verdict (sub.Spells cart at bytes) (sub.InvalidAt cart at bytes) → Decided (SubKept cart at bytes) (sub.InvalidAt cart at bytes)
 sub_decided cart at bytes v =
-    decided_by (SubKept cart at bytes) (sub.GoesWrongAt cart at bytes)
+    decided_by (SubKept cart at bytes) (sub.InvalidAt cart at bytes)
     (λ x y k l. (let state = sub_once cart at bytes x.state y.state k.1 l.1 in λ i. record { cart = (k.0 ∙ sym l.0) i; state = state i }))
-    (λ x k place wrong. sub_laws.right_not_refused cart at bytes (kept_of x.state) place k.1.keeps k.1.right wrong)
+    (λ x k place invalid. sub_laws.right_not_refused cart at bytes (kept_of x.state) place k.1.keeps k.1.right invalid)
     (sub_laws.only_place cart at bytes)
     (elim v [ inl k ↦ inl (record { cart = cart; state = k.0 }, (refl, k.1)) | inr w ↦ inr w ])
 
-pub sub_answered : (cart bytes : List ℕ) → Verdict (sub.Spells cart (at_of bytes) (sub_bytes bytes)) (sub.GoesWrongAt cart (at_of bytes) (sub_bytes bytes)) → Answered (IsSub cart bytes) (SubFails cart bytes)
+pub sub_answered : (cart bytes : List ℕ) → Verdict (sub.Spells cart (at_of bytes) (sub_bytes bytes)) (sub.InvalidAt cart (at_of bytes) (sub_bytes bytes)) → Answered (IsSub cart bytes) (SubFails cart bytes)
 sub_answered cart bytes v =
     let d = sub_decided cart (at_of bytes) (sub_bytes bytes) v in
     let parts : List Part = sub_parts (holder_in bytes == 0) in
@@ -114,20 +114,20 @@ sub_answered cart bytes v =
     record {
       answer = with_rule (placed parts d.answer) holds holder_part.place;
       reads = sub_read cart bytes (at_of bytes) parts (sub_bytes bytes) (holder_in bytes == 0) holds d.answer (placed parts d.answer) (with_rule (placed parts d.answer) holds holder_part.place) refl refl refl refl refl refl refl
-          d.found (λ state spells n. d.only (record { cart = cart; state = state }) (refl, spells)) d.rule (λ place wrong n. d.wrong place wrong);
+          d.found (λ state spells n. d.only (record { cart = cart; state = state }) (refl, spells)) d.rule (λ place invalid n. d.invalid place invalid);
       memory = ruled_memory (placed parts d.answer) holds holder_part.place (placed_memory parts d.answer d.memory);
     }
 
 -- ---- the board and the VDP renderer
 
-shared_decided : (recording : Recorded) (at : ℕ) (pal : Bool) (bytes : List ℕ) → Verdict (BoardKept recording at pal bytes) (shared.GoesWrongAt at pal bytes) → Decided (BoardKept recording at pal bytes) (shared.GoesWrongAt at pal bytes)
+shared_decided : (recording : Recorded) (at : ℕ) (pal : Bool) (bytes : List ℕ) → Verdict (BoardKept recording at pal bytes) (shared.InvalidAt at pal bytes) → Decided (BoardKept recording at pal bytes) (shared.InvalidAt at pal bytes)
 shared_decided recording at pal bytes v =
-    decided_by (BoardKept recording at pal bytes) (shared.GoesWrongAt at pal bytes)
+    decided_by (BoardKept recording at pal bytes) (shared.InvalidAt at pal bytes)
     (λ x y k l. shared_laws.spelled_once at pal bytes x y k.0 l.0 (k.1 ∙ sym l.1))
-    (λ x k place wrong. shared_laws.right_nowhere at pal bytes x k.0 place wrong)
-    (shared_laws.wrong_once at pal bytes) v
+    (λ x k place invalid. shared_laws.right_nowhere at pal bytes x k.0 place invalid)
+    (shared_laws.invalid_once at pal bytes) v
 
-pub shared_answered : (recording : Recorded) (bytes : List ℕ) → Verdict (BoardKept recording (at_of bytes) (region_of bytes) (shared_bytes bytes)) (shared.GoesWrongAt (at_of bytes) (region_of bytes) (shared_bytes bytes)) → Answered (IsShared recording bytes) (SharedFails bytes)
+pub shared_answered : (recording : Recorded) (bytes : List ℕ) → Verdict (BoardKept recording (at_of bytes) (region_of bytes) (shared_bytes bytes)) (shared.InvalidAt (at_of bytes) (region_of bytes) (shared_bytes bytes)) → Answered (IsShared recording bytes) (SharedFails bytes)
 shared_answered recording bytes v =
     let d = shared_decided recording (at_of bytes) (region_of bytes) (shared_bytes bytes) v in
     let parts : List Part = shared_parts (holder_in bytes == 1) in
@@ -135,24 +135,24 @@ shared_answered recording bytes v =
     record {
       answer = with_rule (placed parts d.answer) holds resets_place;
       reads = shared_read recording bytes (region_of bytes) (at_of bytes) parts (shared_bytes bytes) (holder_in bytes == 1) (seen_resets bytes) (resets_of bytes) d.answer (placed parts d.answer) (with_rule (placed parts d.answer) holds resets_place) refl refl refl refl refl refl refl refl refl
-          d.found (λ board spells pads n. d.only board (spells, pads)) d.rule (λ place wrong n. d.wrong place wrong);
+          d.found (λ board spells pads n. d.only board (spells, pads)) d.rule (λ place invalid n. d.invalid place invalid);
       memory = ruled_memory (placed parts d.answer) holds resets_place (placed_memory parts d.answer d.memory);
     }
 
-drawing_decided : (at : ℕ) (pal : Bool) (bytes : List ℕ) → Verdict (drawing.Spells at pal bytes) (drawing.GoesWrongAt at pal bytes) → Decided (drawing.Spells at pal bytes) (drawing.GoesWrongAt at pal bytes)
-drawing_decided at pal bytes v =
-    decided_by (drawing.Spells at pal bytes) (drawing.GoesWrongAt at pal bytes)
-    (λ x y p q. sym (drawing_laws.no_other at pal bytes (numbers_of x) x p.keeps p) ∙ drawing_laws.no_other at pal bytes (numbers_of x) y p.keeps q)
-    (λ x p place wrong. drawing_laws.right_not_refused at pal bytes (numbers_of x) place p.keeps p.right wrong)
-    (drawing_laws.only_place at pal bytes) v
+renderer_state_decided : (at : ℕ) (pal : Bool) (bytes : List ℕ) → Verdict (renderer_state.Spells at pal bytes) (renderer_state.InvalidAt at pal bytes) → Decided (renderer_state.Spells at pal bytes) (renderer_state.InvalidAt at pal bytes)
+renderer_state_decided at pal bytes v =
+    decided_by (renderer_state.Spells at pal bytes) (renderer_state.InvalidAt at pal bytes)
+    (λ x y p q. sym (renderer_state_laws.no_other at pal bytes (numbers_of x) x p.keeps p) ∙ renderer_state_laws.no_other at pal bytes (numbers_of x) y p.keeps q)
+    (λ x p place invalid. renderer_state_laws.right_not_refused at pal bytes (numbers_of x) place p.keeps p.right invalid)
+    (renderer_state_laws.only_place at pal bytes) v
 
-pub drawing_answered : (bytes : List ℕ) → Verdict (drawing.Spells (at_of bytes) (region_of bytes) (drawing_bytes bytes)) (drawing.GoesWrongAt (at_of bytes) (region_of bytes) (drawing_bytes bytes)) → Answered (IsPicture bytes) (DrawingFails bytes)
-drawing_answered bytes v =
-    let d = drawing_decided (at_of bytes) (region_of bytes) (drawing_bytes bytes) v in
+pub renderer_state_answered : (bytes : List ℕ) → Verdict (renderer_state.Spells (at_of bytes) (region_of bytes) (renderer_state_bytes bytes)) (renderer_state.InvalidAt (at_of bytes) (region_of bytes) (renderer_state_bytes bytes)) → Answered (IsPicture bytes) (RendererStateFails bytes)
+renderer_state_answered bytes v =
+    let d = renderer_state_decided (at_of bytes) (region_of bytes) (renderer_state_bytes bytes) v in
     record {
-      answer = placed (drawing_part ∷ []) d.answer;
-      reads = drawing_read bytes (region_of bytes) (at_of bytes) (drawing_bytes bytes) d.answer (placed (drawing_part ∷ []) d.answer) refl refl refl refl d.found (λ x spells n. d.only x spells) d.rule d.wrong;
-      memory = placed_memory (drawing_part ∷ []) d.answer d.memory;
+      answer = placed (renderer_state_part ∷ []) d.answer;
+      reads = renderer_state_read bytes (region_of bytes) (at_of bytes) (renderer_state_bytes bytes) d.answer (placed (renderer_state_part ∷ []) d.answer) refl refl refl refl d.found (λ x spells n. d.only x spells) d.rule d.invalid;
+      memory = placed_memory (renderer_state_part ∷ []) d.answer d.memory;
     }
 
 -- ---- the sound chips
@@ -162,14 +162,14 @@ early_of : {Late : Type 0} → Late ⊎ (Late → ⊥) → (early : Bool) × ((e
 early_of (inl late) = (false, (λ e. late, λ l. refl))
 early_of (inr none) = (true, (λ e. absurd cc, λ l. absurd (none l)))
 
-fm_decided : (bytes : List ℕ) → Verdict (fm.SpellsSynth bytes) (fm.SynthGoesWrongAt bytes) → Decided (fm.SpellsSynth bytes) (fm.SynthGoesWrongAt bytes)
+fm_decided : (bytes : List ℕ) → Verdict (fm.SpellsSynth bytes) (fm.SynthInvalidAt bytes) → Decided (fm.SpellsSynth bytes) (fm.SynthInvalidAt bytes)
 fm_decided bytes v =
-    decided_by (fm.SpellsSynth bytes) (fm.SynthGoesWrongAt bytes)
+    decided_by (fm.SpellsSynth bytes) (fm.SynthInvalidAt bytes)
     (λ x y p q. sym (fm_laws.read_only bytes (fm.saved_synth_of x) x p.keeps p) ∙ fm_laws.read_only bytes (fm.saved_synth_of x) y p.keeps q)
-    (λ x p place wrong. fm_laws.right_nowhere bytes (fm.saved_synth_of x) p.keeps p.right place wrong)
-    (fm_laws.wrong_once bytes) v
+    (λ x p place invalid. fm_laws.right_nowhere bytes (fm.saved_synth_of x) p.keeps p.right place invalid)
+    (fm_laws.invalid_once bytes) v
 
-pub fm_answered : (bytes : List ℕ) → Verdict (fm.SpellsSynth (part_of fm_part bytes)) (fm.SynthGoesWrongAt (part_of fm_part bytes)) → HasLateFm bytes ⊎ (HasLateFm bytes → ⊥) → Answered (IsFm bytes) (FmFails bytes)
+pub fm_answered : (bytes : List ℕ) → Verdict (fm.SpellsSynth (part_of fm_part bytes)) (fm.SynthInvalidAt (part_of fm_part bytes)) → HasLateFm bytes ⊎ (HasLateFm bytes → ⊥) → Answered (IsFm bytes) (FmFails bytes)
 fm_answered bytes v late =
     let d = fm_decided (part_of fm_part bytes) v in
     let early = early_of late in
@@ -180,18 +180,18 @@ fm_answered bytes v late =
     record {
       answer = with_rule timed early.0 fm_writes_place;
       reads = fm_read bytes (at_of bytes) (part_of fm_part bytes) next batch early.0 d.answer synth timed (with_rule timed early.0 fm_writes_place) refl refl refl refl refl refl refl early.1.0 early.1.1
-          d.found d.only d.rule d.wrong;
+          d.found d.only d.rule d.invalid;
       memory = ruled_memory timed early.0 fm_writes_place (ruled_memory synth (eqb next batch) fm_next_part.place (placed_memory (fm_part ∷ []) d.answer d.memory));
     }
 
-psg_decided : (bytes : List ℕ) → Verdict (psg.SpellsSynth bytes) (psg.SynthGoesWrongAt bytes) → Decided (psg.SpellsSynth bytes) (psg.SynthGoesWrongAt bytes)
+psg_decided : (bytes : List ℕ) → Verdict (psg.SpellsSynth bytes) (psg.SynthInvalidAt bytes) → Decided (psg.SpellsSynth bytes) (psg.SynthInvalidAt bytes)
 psg_decided bytes v =
-    decided_by (psg.SpellsSynth bytes) (psg.SynthGoesWrongAt bytes)
+    decided_by (psg.SpellsSynth bytes) (psg.SynthInvalidAt bytes)
     (λ x y p q. sym (psg_laws.read_only bytes (psg.saved_synth_of x) x p.keeps p) ∙ psg_laws.read_only bytes (psg.saved_synth_of x) y p.keeps q)
-    (λ x p place wrong. psg_laws.right_nowhere bytes (psg.saved_synth_of x) p.keeps p.right place wrong)
-    (psg_laws.wrong_once bytes) v
+    (λ x p place invalid. psg_laws.right_nowhere bytes (psg.saved_synth_of x) p.keeps p.right place invalid)
+    (psg_laws.invalid_once bytes) v
 
-pub psg_answered : (bytes : List ℕ) → Verdict (psg.SpellsSynth (part_of psg_part bytes)) (psg.SynthGoesWrongAt (part_of psg_part bytes)) → HasLatePsg bytes ⊎ (HasLatePsg bytes → ⊥) → Answered (IsPsg bytes) (PsgFails bytes)
+pub psg_answered : (bytes : List ℕ) → Verdict (psg.SpellsSynth (part_of psg_part bytes)) (psg.SynthInvalidAt (part_of psg_part bytes)) → HasLatePsg bytes ⊎ (HasLatePsg bytes → ⊥) → Answered (IsPsg bytes) (PsgFails bytes)
 psg_answered bytes v late =
     let d = psg_decided (part_of psg_part bytes) v in
     let early = early_of late in
@@ -202,6 +202,6 @@ psg_answered bytes v late =
     record {
       answer = with_rule timed early.0 psg_port_part.place;
       reads = psg_read bytes (at_of bytes) (part_of psg_part bytes) next batch early.0 d.answer synth timed (with_rule timed early.0 psg_port_part.place) refl refl refl refl refl refl refl early.1.0 early.1.1
-          d.found d.only d.rule d.wrong;
+          d.found d.only d.rule d.invalid;
       memory = ruled_memory timed early.0 psg_port_part.place (ruled_memory synth (eqb next batch) psg_next_part.place (placed_memory (psg_part ∷ []) d.answer d.memory));
     }

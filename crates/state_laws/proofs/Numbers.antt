@@ -12,8 +12,8 @@ use Rattle.vdp_ports.specs.Numbers.{VdpNumbers}
 use Rattle.vdp_ports.specs.Saved.{vdp_fields}
 use Rattle.vdp_ports.specs.Spelling as video
 use Rattle.vdp_chip.specs.Picture.{memory_length}
-use Rattle.vdp_chip.specs.Saved as saved_drawing
-use Rattle.vdp_chip.specs.Spelling as drawing
+use Rattle.vdp_chip.specs.Saved as saved_renderer_state
+use Rattle.vdp_chip.specs.Spelling as renderer_state
 use Rattle.fm_port.specs.PortSpelling as fm_port
 use Rattle.fm_port.specs.declared.saved_port.SavedPort.{SavedPort as FmNumbers}
 use Rattle.psg_sound.specs.SynthSpelling as psg
@@ -51,7 +51,7 @@ pub sub_there : (bytes : List ℕ) → (n : Saved80) × ((at : ℕ) (has : Bool)
 unfolding Stand
 sub_there bytes = (
   record { next = _; stage = _; start = _; af = _; bc = _; de = _; hl = _; af2 = _; bc2 = _; de2 = _; hl2 = _; ix = _; iy = _; sp = _; pc = _; i = _; r = _; iff1 = _; iff2 = _; mode = _; halted = _; after_ei = _; resets = _; cause = _; count = _; answers = _ },
-  λ at has rest behind. (refl, (refl, (refl, (refl, (refl, (refl, (refl, (refl, (refl, (refl, (refl, (refl, (refl, (refl, (refl, (refl, (refl, (refl, (refl, (refl, (refl, (refl, (refl, (refl, (refl, (refl, (refl, behind))))))))))))))))))))))))))),
+  λ at has rest following. (refl, (refl, (refl, (refl, (refl, (refl, (refl, (refl, (refl, (refl, (refl, (refl, (refl, (refl, (refl, (refl, (refl, (refl, (refl, (refl, (refl, (refl, (refl, (refl, (refl, (refl, (refl, following))))))))))))))))))))))))))),
 )
 
 -- the VDP
@@ -63,9 +63,9 @@ video_there bytes long = (
 )
 
 -- its renderer
-pub drawing_there : (bytes : List ℕ) → length bytes ≡ drawing.drawing_size → (n : saved_drawing.DrawingNumbers) × ((at : ℕ) (pal : Bool) → Stand 0 (saved_drawing.drawing_fields at pal n) bytes)
+pub renderer_state_there : (bytes : List ℕ) → length bytes ≡ renderer_state.renderer_state_size → (n : saved_renderer_state.RendererStateNumbers) × ((at : ℕ) (pal : Bool) → Stand 0 (saved_renderer_state.renderer_state_fields at pal n) bytes)
 unfolding Stand
-drawing_there bytes long = (
+renderer_state_there bytes long = (
   record { next = _; overflow = _; collision = _; picture = take memory_length (drop 10 bytes) },
   λ at pal. (refl, (refl, (refl, (refl, long)))),
 )
@@ -75,7 +75,7 @@ pub fm_port_there : (bytes : List ℕ) → (n : FmNumbers) × ((at : ℕ) (rest 
 unfolding Stand
 fm_port_there bytes = (
   record { first = _; second = _; high_a = _; low_a = _; number_b = _; control = _; run_a = _; next_a = _; run_b = _; next_b = _; flag_a = _; flag_b = _ },
-  λ at rest behind. (refl, (refl, (refl, (refl, (refl, (refl, (refl, (refl, (refl, (refl, (refl, (refl, behind)))))))))))),
+  λ at rest following. (refl, (refl, (refl, (refl, (refl, (refl, (refl, (refl, (refl, (refl, (refl, (refl, following)))))))))))),
 )
 
 -- the PSG's synthesis

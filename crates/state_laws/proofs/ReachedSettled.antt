@@ -66,7 +66,7 @@ reached-settled at m recording reached buttons parts valid = record {
   };
   video = record {
     rules = settled_kept at at m.shared.vdp (omega arith) reached.video.rules;
-    drawing = reached.video.drawing;
+    renderer_state = reached.video.renderer_state;
     near = reached.video.near;
   };
   lines = record { resets = reached.lines.resets; recording = buttons; pads = reached.lines.pads; falls1 = reached.lines.falls1; falls2 = reached.lines.falls2 };

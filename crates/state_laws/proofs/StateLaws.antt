@@ -49,7 +49,7 @@ saved-with cart at m recording is = record {
   main = is.main;
   sub = is.sub;
   shared = record { all = is.shared.all; store = is.shared.store; vdp = is.shared.vdp; fm = is.shared.fm; psg = is.shared.psg; lines = is.shared.lines; right = is.shared.right };
-  drawing = is.drawing;
+  renderer_state = is.renderer_state;
   fm_cycle = is.fm_cycle;
   psg_cycle = is.psg_cycle;
   fm = is.fm;

@@ -22,9 +22,9 @@ line_cut [] end within found before = absurd (omega (arith, within))
 line_cut (byte ∷ rest) zero within found before = feed_first byte rest found
 line_cut (byte ∷ rest) (suc end) within found before =
     let later = line_cut rest end (omega (arith, within)) found (λ k below. before (suc k) (omega arith)) in
-    let behind : suc end + 1 ≡ suc (end + 1) = omega arith in
+    let following : suc end + 1 ≡ suc (end + 1) = omega arith in
     byte_first byte rest (before 0 (omega arith)) ∙ ap (with_first byte) later
-    ∙ ap (λ (k : ℕ). (byte ∷ take end rest) ∷ lines_of (drop k (byte ∷ rest))) (sym behind)
+    ∙ ap (λ (k : ℕ). (byte ∷ take end rest) ∷ lines_of (drop k (byte ∷ rest))) (sym following)
 
 pub no_line : lines_of [] ≡ []
 unfolding lines_of

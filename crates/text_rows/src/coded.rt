@@ -23,7 +23,7 @@ fn low_bytes(values: [u16; 5]) -> [u8; 4] {
 /// `PROCESSOR ADDRESS`, and what follows it. It fails where there is none.
 pub fn begun(rest: &str) -> Result<(Coded, &str), RowError> {
     let (processor, rest) = rest.split_once(' ').ok_or(RowError::NoSuchLine)?;
-    let (at, behind) = rest.split_once(' ').ok_or(RowError::NoSuchLine)?;
+    let (at, following) = rest.split_once(' ').ok_or(RowError::NoSuchLine)?;
     let is_z80 = match processor {
         "68000" => false,
         "Z80" => true,
@@ -35,7 +35,7 @@ pub fn begun(rest: &str) -> Result<(Coded, &str), RowError> {
         values: [if is_z80 { 0xaa } else { 0 }; 5],
         count: 0,
     };
-    Ok((coded, behind))
+    Ok((coded, following))
 }
 
 impl Coded {
@@ -105,14 +105,14 @@ impl Coded {
     /// The instruction that a text is read as at its address, with 0 after it, or `None` where it is no instruction. It
     /// fails where memory runs out.
     pub fn read(&self, alloc: Global, text: &str) -> Result<Option<Coded>, AllocError> {
-        let pieces = split(alloc, text.as_bytes())?;
+        let tokens = split(alloc, text.as_bytes())?;
         if self.is_z80 {
-            match bytes_of(alloc, pieces.as_slice(), (self.at % 0x1_0000) as u16)? {
+            match bytes_of(alloc, tokens.as_slice(), (self.at % 0x1_0000) as u16)? {
                 Some(bytes) => Ok(Some(self.of_bytes(bytes.as_slice()))),
                 None => Ok(None),
             }
         } else {
-            match words_of(alloc, pieces.as_slice(), self.at)? {
+            match words_of(alloc, tokens.as_slice(), self.at)? {
                 Some(words) => Ok(Some(self.of_words(words.as_slice()))),
                 None => Ok(None),
             }

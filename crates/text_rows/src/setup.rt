@@ -1,6 +1,6 @@
 use crate::coded::{both, disassembled, encoded};
 use crate::ranges::ranged;
-use crate::sources::{assembled, fault_of, piece};
+use crate::sources::{assembled, fault_of, token};
 use row_lines::{Fixture, RowError};
 use std::alloc::Global;
 
@@ -36,7 +36,7 @@ impl Fixture for Setup {
         Ok(())
     }
 
-    fn obey(&mut self, _said: &str) -> Result<(), RowError> {
+    fn obey(&mut self, _round_trips: &str) -> Result<(), RowError> {
         Err(RowError::NoSuchLine)
     }
 
@@ -48,7 +48,7 @@ impl Fixture for Setup {
             "disassemble" => disassembled(alloc, rest),
             "assemble" => encoded(alloc, rest),
             "source" => self.source(alloc, rest),
-            "bytes" => piece(alloc, self.image.as_slice(), rest),
+            "bytes" => token(alloc, self.image.as_slice(), rest),
             _ => ranged(alloc, verb, rest),
         }
     }

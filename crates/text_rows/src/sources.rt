@@ -66,11 +66,11 @@ pub fn fault_of(alloc: Global, fault: (u32, u8)) -> Result<String, RowError> {
 }
 
 /// `PLACE COUNT`: bytes of an image. It fails where it does not have them, or where memory runs out.
-pub fn piece(alloc: Global, image: &[u8], rest: &str) -> Result<String, RowError> {
+pub fn token(alloc: Global, image: &[u8], rest: &str) -> Result<String, RowError> {
     let (place, count) = rest.split_once(' ').ok_or(RowError::NoSuchLine)?;
     let place = hexadecimal(place)? % 0x1_0000_0000;
     let count = number(count)? % 0x1_0000_0000;
-    let behind = image.get(place as usize..).ok_or(RowError::NoSuchLine)?;
-    let part = behind.get(..count as usize).ok_or(RowError::NoSuchLine)?;
+    let following = image.get(place as usize..).ok_or(RowError::NoSuchLine)?;
+    let part = following.get(..count as usize).ok_or(RowError::NoSuchLine)?;
     Ok(hex::encode_upper(alloc, part)?)
 }

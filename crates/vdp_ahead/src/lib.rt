@@ -5,11 +5,11 @@
 //! of no use, and nothing is lost.
 #![tactic(auto)]
 
+mod double_buffer;
 mod line;
+mod line_buffer;
 mod place;
-mod sheet;
-mod tray;
 
+pub use double_buffer::DoubleBuffer;
+pub use line_buffer::LineBuffer;
 pub use place::Place;
-pub use sheet::Sheet;
-pub use tray::Tray;

@@ -1,23 +1,23 @@
 ghost use Rattle.std.specs.Prelude.{◌≡◌, ◌<◌, length};
 ghost use Rattle.vdp_sprites.specs.Lines.{note_on};
-ghost use Rattle.vdp_chip.specs.Picture.{row_length};
-ghost use Rattle.vdp_ahead.specs.Lines.{row_on};
+ghost use Rattle.vdp_chip.specs.Picture.{scanline_length};
+ghost use Rattle.vdp_ahead.specs.Lines.{scanline_on};
 
-use vdp_chip::{clear_dots, fill_row};
+use vdp_chip::{clear_dots, fill_scanline};
 use vdp_planes::{LineView, SpriteNote};
 use vdp_sprites::draw_line_sprites;
 
 /// Draws a scanline of the picture as a view has it: what the sprites of its line set.
-#[tactic(auto, using(crate::proofs::Drawn::row_drawn))]
-pub(crate) fn draw_line(view: &LineView, line: u32, row: &mut [u8]) -> SpriteNote
+#[tactic(auto, using(crate::proofs::Drawn::scanline_drawn))]
+pub(crate) fn draw_line(view: &LineView, line: u32, scanline: &mut [u8]) -> SpriteNote
     requires line { line < 240 }
-    requires whole { length row.old ≡ row_length }
-    ensures row { row.new ≡ row_on line view.now }
+    requires whole { length scanline.old ≡ scanline_length }
+    ensures scanline { scanline.new ≡ scanline_on line view.now }
     ensures note { result ≡ note_on line view.now }
 {
     let scene = view.scene();
     let mut dots = clear_dots();
     let note = draw_line_sprites(&scene, line, &mut dots);
-    fill_row(&scene, line, &dots, row);
+    fill_scanline(&scene, line, &dots, scanline);
     note
 }

@@ -1,4 +1,4 @@
-use crate::Sheet;
+use crate::LineBuffer;
 use std::sync::atomic::{AtomicBool, Ordering};
 use std::sync::{Mutex, Wait};
 
@@ -6,9 +6,9 @@ use std::sync::{Mutex, Wait};
 #[derive(Drop)]
 struct Laid {
     /// To be drawn.
-    asked: Option<Box<Sheet>>,
+    asked: Option<Box<LineBuffer>>,
     /// Drawn.
-    drawn: Option<Box<Sheet>>,
+    drawn: Option<Box<LineBuffer>>,
 }
 
 /// A slot of the double buffer: by it a line buffer reaches the worker that renders, and returns.
@@ -43,18 +43,18 @@ impl Place {
     }
 
     /// Offers a buffer to be drawn. `None`: it was taken; where the worker has the slot, it is returned.
-    pub fn ask(&self, sheet: Box<Sheet>) -> Option<Box<Sheet>> {
+    pub fn ask(&self, line_buffer: Box<LineBuffer>) -> Option<Box<LineBuffer>> {
         let Some(mut guard) = self.laid.try_lock() else {
-            return Some(sheet);
+            return Some(line_buffer);
         };
         let laid = &mut *guard;
-        laid.asked = Some(sheet);
+        laid.asked = Some(line_buffer);
         self.asked.store(true, Ordering::SeqCst);
         None
     }
 
     /// Takes the buffer that was drawn. `None`: there is none, or the worker has the slot.
-    pub fn take_drawn(&self) -> Option<Box<Sheet>> {
+    pub fn take_drawn(&self) -> Option<Box<LineBuffer>> {
         if !self.drawn.load(Ordering::SeqCst) {
             return None;
         }
@@ -67,7 +67,7 @@ impl Place {
     }
 
     /// Takes the buffer that is still to be drawn. `None`: there is none, or the worker has the slot.
-    fn take_back(&self) -> Option<Box<Sheet>> {
+    fn take_back(&self) -> Option<Box<LineBuffer>> {
         if !self.is_asked() {
             return None;
         }
@@ -80,15 +80,15 @@ impl Place {
     }
 
     /// Takes the buffer that is here, drawn or not. `None`: there is none, or the worker has the slot.
-    pub fn take(&self) -> Option<Box<Sheet>> {
+    pub fn take(&self) -> Option<Box<LineBuffer>> {
         match self.take_drawn() {
-            Some(sheet) => Some(sheet),
+            Some(line_buffer) => Some(line_buffer),
             None => self.take_back(),
         }
     }
 
     /// Takes the buffer that is to be drawn, `None` where there is none. It may wait.
-    fn begin<R: Wait>(&self, rt: &R) -> Option<Box<Sheet>> {
+    fn begin<R: Wait>(&self, rt: &R) -> Option<Box<LineBuffer>> {
         let mut guard = self.laid.lock(rt);
         let laid = &mut *guard;
         self.asked.store(false, Ordering::SeqCst);
@@ -96,18 +96,18 @@ impl Place {
     }
 
     /// Returns a buffer that was drawn. It may wait.
-    fn end<R: Wait>(&self, rt: &R, sheet: Box<Sheet>) {
+    fn end<R: Wait>(&self, rt: &R, line_buffer: Box<LineBuffer>) {
         let mut guard = self.laid.lock(rt);
         let laid = &mut *guard;
-        laid.drawn = Some(sheet);
+        laid.drawn = Some(line_buffer);
         self.drawn.store(true, Ordering::SeqCst);
     }
 
     /// Draws the lines of the buffer that is to be drawn; false: there is none.
     pub(crate) fn draw<R: Wait>(&self, rt: &R) -> bool {
-        if let Some(mut sheet) = self.begin(rt) {
-            sheet.draw();
-            self.end(rt, sheet);
+        if let Some(mut line_buffer) = self.begin(rt) {
+            line_buffer.draw();
+            self.end(rt, line_buffer);
             return true;
         }
         false

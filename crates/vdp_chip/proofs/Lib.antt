@@ -1,4 +1,4 @@
 mod Framed
 pub mod Lined
-pub mod Rows
+pub mod Scanlines
 pub mod SavedLaws

@@ -9,33 +9,33 @@ use Rattle.md_fields.specs.Items.{IsRight, Keeps}
 use Rattle.md_fields.specs.Padding.{are_zeros}
 use Rattle.md_fields.specs.Places.{Stand}
 use Rattle.md_fields.proofs.Flags.{flag_again, flag_back, flag_byte, flag_small}
-use Rattle.md_fields.proofs.Items.{rules_hold, none_wrong, not_both, one_place, same}
+use Rattle.md_fields.proofs.Items.{rules_hold, none_invalid, not_both, one_place, same}
 use Rattle.md_word.specs.Clock.{line}
-use Rattle.vdp_chip.specs.Drawing.{Drawing, IsDrawing, undrawn_from}
+use Rattle.vdp_chip.specs.RendererState.{RendererState, IsRendererState, undrawn_from}
 use Rattle.md_word.specs.Region.{lines, rows}
-use Rattle.vdp_chip.specs.Picture.{memory_length, row_length}
-use Rattle.vdp_chip.specs.Saved.{DrawingNumbers, drawing_fields, drawing_of, fields_by, is_picture, numbers_of}
-use Rattle.vdp_chip.specs.Spelling.{GoesWrongAt, IsDrained, IsReady, Spells, drained, drawing_bytes, drawing_size}
-use Rattle.vdp_chip.proofs.Lined.{row_above}
+use Rattle.vdp_chip.specs.Picture.{memory_length, scanline_length}
+use Rattle.vdp_chip.specs.Saved.{RendererStateNumbers, renderer_state_fields, renderer_state_of, fields_by, is_picture, numbers_of}
+use Rattle.vdp_chip.specs.Spelling.{InvalidAt, IsDrained, IsReady, Spells, drained, renderer_state_bytes, renderer_state_size}
+use Rattle.vdp_chip.proofs.Lined.{scanline_above}
 
 -- the bytes depend neither on the cycle nor on whether the picture's rule holds
-pub bytes_by : (at other : ℕ) (holds more : Bool) (n : DrawingNumbers) → spelling (fields_by at holds n) ≡ spelling (fields_by other more n)
+pub bytes_by : (at other : ℕ) (holds more : Bool) (n : RendererStateNumbers) → spelling (fields_by at holds n) ≡ spelling (fields_by other more n)
 unfolding spelling
 bytes_by at other holds more n = refl
 
 -- nor on the region
-pub same_bytes : (at other : ℕ) (pal region : Bool) (n : DrawingNumbers) → spelling (drawing_fields at pal n) ≡ spelling (drawing_fields other region n)
+pub same_bytes : (at other : ℕ) (pal region : Bool) (n : RendererStateNumbers) → spelling (renderer_state_fields at pal n) ≡ spelling (renderer_state_fields other region n)
 same_bytes at other pal region n = bytes_by at other (is_picture at pal n.picture) (is_picture other region n.picture) n
 
-pub size_by : (at : ℕ) (holds : Bool) (n : DrawingNumbers) → sizes (fields_by at holds n) ≡ drawing_size
+pub size_by : (at : ℕ) (holds : Bool) (n : RendererStateNumbers) → sizes (fields_by at holds n) ≡ renderer_state_size
 unfolding sizes
 size_by at holds n = refl
 
-pub fields_size : (at : ℕ) (pal : Bool) (n : DrawingNumbers) → sizes (drawing_fields at pal n) ≡ drawing_size
+pub fields_size : (at : ℕ) (pal : Bool) (n : RendererStateNumbers) → sizes (renderer_state_fields at pal n) ≡ renderer_state_size
 fields_size at pal n = size_by at (is_picture at pal n.picture) n
 
 -- bytes have one list of numbers only
-pub only_one : (at : ℕ) (pal : Bool) (bytes : List ℕ) (s t : DrawingNumbers) → Stand 0 (drawing_fields at pal s) bytes → Stand 0 (drawing_fields at pal t) bytes → s ≡ t
+pub only_one : (at : ℕ) (pal : Bool) (bytes : List ℕ) (s t : RendererStateNumbers) → Stand 0 (renderer_state_fields at pal s) bytes → Stand 0 (renderer_state_fields at pal t) bytes → s ≡ t
 unfolding Stand
 only_one at pal bytes s t p0 q0 =
     let p1 = p0.1 in let q1 = q0.1 in
@@ -49,8 +49,8 @@ only_one at pal bytes s t p0 q0 =
     }
 
 -- a chip is that of its numbers
-drawing_again : (d : Drawing) → IsDrained d → drawing_of d.pal (numbers_of d) ≡ d
-drawing_again d is = λ i. record {
+renderer_state_again : (d : RendererState) → IsDrained d → renderer_state_of d.pal (numbers_of d) ≡ d
+renderer_state_again d is = λ i. record {
   next = d.next;
   note = record { overflow = flag_again d.note.overflow i; collision = flag_again d.note.collision i };
   has_view = sym is.view i;
@@ -60,10 +60,10 @@ drawing_again d is = λ i. record {
 }
 
 -- the numbers that are right are those of their chip
-numbers_back : (at : ℕ) (pal : Bool) (n : DrawingNumbers) → IsRight (drawing_fields at pal) n → numbers_of (drawing_of pal n) ≡ n
+numbers_back : (at : ℕ) (pal : Bool) (n : RendererStateNumbers) → IsRight (renderer_state_fields at pal) n → numbers_of (renderer_state_of pal n) ≡ n
 unfolding AllHold
 numbers_back at pal n right =
-    let h = rules_hold 0 (drawing_fields at pal n) right in
+    let h = rules_hold 0 (renderer_state_fields at pal n) right in
     let note = and_parts _ _ h.1.0 in
     λ i. record {
       next = n.next;
@@ -74,26 +74,26 @@ numbers_back at pal n right =
 
 -- ---- what bytes keep
 
-pub read_spells : (at : ℕ) (pal : Bool) (bytes : List ℕ) (n : DrawingNumbers) → Keeps (drawing_fields at pal) bytes n → IsRight (drawing_fields at pal) n → Spells at pal bytes (drawing_of pal n)
+pub read_spells : (at : ℕ) (pal : Bool) (bytes : List ℕ) (n : RendererStateNumbers) → Keeps (renderer_state_fields at pal) bytes n → IsRight (renderer_state_fields at pal) n → Spells at pal bytes (renderer_state_of pal n)
 read_spells at pal bytes n keeps right =
-    let e : numbers_of (drawing_of pal n) ≡ n = numbers_back at pal n right in
+    let e : numbers_of (renderer_state_of pal n) ≡ n = numbers_back at pal n right in
     record {
-      keeps = subst (Keeps (drawing_fields at pal) bytes) (sym e) keeps;
-      right = subst (λ (x : DrawingNumbers). IsRight (drawing_fields at pal) x) (sym e) right;
+      keeps = subst (Keeps (renderer_state_fields at pal) bytes) (sym e) keeps;
+      right = subst (λ (x : RendererStateNumbers). IsRight (renderer_state_fields at pal) x) (sym e) right;
       region = refl;
       drained = record { view = refl; frame = refl };
     }
 
-pub no_other : (at : ℕ) (pal : Bool) (bytes : List ℕ) (n : DrawingNumbers) (d : Drawing) → Keeps (drawing_fields at pal) bytes n → Spells at pal bytes d → drawing_of pal n ≡ d
+pub no_other : (at : ℕ) (pal : Bool) (bytes : List ℕ) (n : RendererStateNumbers) (d : RendererState) → Keeps (renderer_state_fields at pal) bytes n → Spells at pal bytes d → renderer_state_of pal n ≡ d
 no_other at pal bytes n d keeps p =
-    ap (drawing_of pal) (same (drawing_fields at pal) bytes (only_one at pal bytes) n (numbers_of d) keeps p.keeps)
-    ∙ ap (λ (b : Bool). drawing_of b (numbers_of d)) (sym p.region) ∙ drawing_again d p.drained
+    ap (renderer_state_of pal) (same (renderer_state_fields at pal) bytes (only_one at pal bytes) n (numbers_of d) keeps p.keeps)
+    ∙ ap (λ (b : Bool). renderer_state_of b (numbers_of d)) (sym p.region) ∙ renderer_state_again d p.drained
 
-pub right_not_refused : (at : ℕ) (pal : Bool) (bytes : List ℕ) (n : DrawingNumbers) (place : ℕ) → Keeps (drawing_fields at pal) bytes n → IsRight (drawing_fields at pal) n → GoesWrongAt at pal bytes place → ⊥
-right_not_refused at pal bytes n place keeps right wrong = not_both (drawing_fields at pal) bytes (only_one at pal bytes) drawing_size n place keeps right (fields_size at pal n) wrong
+pub right_not_refused : (at : ℕ) (pal : Bool) (bytes : List ℕ) (n : RendererStateNumbers) (place : ℕ) → Keeps (renderer_state_fields at pal) bytes n → IsRight (renderer_state_fields at pal) n → InvalidAt at pal bytes place → ⊥
+right_not_refused at pal bytes n place keeps right invalid = not_both (renderer_state_fields at pal) bytes (only_one at pal bytes) renderer_state_size n place keeps right (fields_size at pal n) invalid
 
-pub only_place : (at : ℕ) (pal : Bool) (bytes : List ℕ) (p q : ℕ) → GoesWrongAt at pal bytes p → GoesWrongAt at pal bytes q → p ≡ q
-only_place at pal bytes p q a b = one_place (drawing_fields at pal) bytes (only_one at pal bytes) drawing_size (fields_size at pal) p q a b
+pub only_place : (at : ℕ) (pal : Bool) (bytes : List ℕ) (p q : ℕ) → InvalidAt at pal bytes p → InvalidAt at pal bytes q → p ≡ q
+only_place at pal bytes p q a b = one_place (renderer_state_fields at pal) bytes (only_one at pal bytes) renderer_state_size (fields_size at pal) p q a b
 
 -- ---- undrawn rows
 
@@ -104,9 +104,9 @@ same_line at next m from near some = omega (arith, m, from, near, some)
 undrawn_same : (at next : ℕ) (pal : Bool) → next % line ≡ 0 → at ≤ next → next < at + line → undrawn_from next pal ≡ undrawn_from at pal
 undrawn_same zero next pal m from near = let none : next ≡ 0 = omega (arith, m, near) in ap (λ (n : ℕ). undrawn_from n pal) none
 undrawn_same (suc below) next pal m from near =
-    row_above next pal (omega (arith, from))
+    scanline_above next pal (omega (arith, from))
     ∙ ap (λ (l : ℕ). min (l % lines pal + 1) (rows pal)) (same_line (suc below) next m from near (omega arith))
-    ∙ sym (row_above (suc below) pal (omega arith))
+    ∙ sym (scanline_above (suc below) pal (omega arith))
 
 zero_at : (k : ℕ) (l : List ℕ) (n : ℕ) → are_zeros (drop k l) ≡ true → k ≤ n → n < length l → slice_index l n ≡ 0
 zero_at k l n e from below =
@@ -116,10 +116,10 @@ zero_at k l n e from below =
     ap (λ (i : ℕ). get_or l i 0) (omega (arith, from)) ∙ sym (get_or-drop k l (n - k) 0) ∙ here
 
 -- the chip that bytes keep has its lengths, and its undrawn rows are 0
-pub valid : (at : ℕ) (pal : Bool) (bytes : List ℕ) (n : DrawingNumbers) → Keeps (drawing_fields at pal) bytes n → IsRight (drawing_fields at pal) n → IsDrawing (drawing_of pal n)
+pub valid : (at : ℕ) (pal : Bool) (bytes : List ℕ) (n : RendererStateNumbers) → Keeps (renderer_state_fields at pal) bytes n → IsRight (renderer_state_fields at pal) n → IsRendererState (renderer_state_of pal n)
 unfolding AllHold AreWithin
 valid at pal bytes n keeps right =
-    let h = rules_hold 0 (drawing_fields at pal n) right in
+    let h = rules_hold 0 (renderer_state_fields at pal n) right in
     let first = and_parts _ _ h.0 in
     let soon = and_parts _ _ first.1 in
     let m = eqb-true (n.next % line) 0 first.0 in
@@ -131,7 +131,7 @@ valid at pal bytes n keeps right =
       picture = whole;
       frame = tt;
       at_line = m;
-      undrawn = λ k le lt. zero_at (row_length * undrawn_from at pal) n.picture k h.1.1.1.0 (omega (arith, le, undrawn)) (omega (arith, lt, whole));
+      undrawn = λ k le lt. zero_at (scanline_length * undrawn_from at pal) n.picture k h.1.1.1.0 (omega (arith, le, undrawn)) (omega (arith, lt, whole));
     }
 
 -- ---- what is spelled is read again
@@ -142,29 +142,29 @@ zeros_from k l h =
     (All-from_get_or (λ m. (m == 0) ≡ true) (drop k l) 0 (λ i lt.
     eq-eqb _ 0 (get_or-drop k l i 0 ∙ h (k + i) (omega arith) (omega (arith, length-drop k l, lt)))))
 
-right_to : (at : ℕ) (d : Drawing) → IsDrawing d → IsReady at d → IsRight (drawing_fields at d.pal) (numbers_of d)
+right_to : (at : ℕ) (d : RendererState) → IsRendererState d → IsReady at d → IsRight (renderer_state_fields at d.pal) (numbers_of d)
 unfolding AllHold
 right_to at d ok is =
     let undrawn = undrawn_same at d.next d.pal ok.at_line is.from is.near in
-    none_wrong 0 (drawing_fields at d.pal (numbers_of d)) (
+    none_invalid 0 (renderer_state_fields at d.pal (numbers_of d)) (
       and_from _ _ (eq-eqb (d.next % line) 0 ok.at_line) (and_from _ _ (le-leb at d.next is.from) (lt-ltb (d.next - at) line (omega (arith, is.from, is.near)))),
       (
         and_from _ _ (flag_small d.note.overflow) (flag_small d.note.collision),
         (
           refl,
           (
-            zeros_from (row_length * undrawn_from at d.pal) d.picture (λ n from below. ok.undrawn n (omega (arith, from, undrawn)) (omega (arith, below, ok.picture))),
+            zeros_from (scanline_length * undrawn_from at d.pal) d.picture (λ n from below. ok.undrawn n (omega (arith, from, undrawn)) (omega (arith, below, ok.picture))),
             tt,
           ),
         ),
       ),
     )
 
-within : (at : ℕ) (d : Drawing) → IsDrawing d → d.next < 2 ^ 64 → AreWithin (drawing_fields at d.pal (numbers_of d))
+within : (at : ℕ) (d : RendererState) → IsRendererState d → d.next < 2 ^ 64 → AreWithin (renderer_state_fields at d.pal (numbers_of d))
 unfolding AreWithin
 within at d ok small = (small, (flag_byte d.note.overflow, (flag_byte d.note.collision, (ok.picture, tt))))
 
-pub spelled_back : (at : ℕ) (d : Drawing) → IsDrawing d → d.next < 2 ^ 64 → IsReady at d → Spells at d.pal (drawing_bytes d) (drained d)
+pub spelled_back : (at : ℕ) (d : RendererState) → IsRendererState d → d.next < 2 ^ 64 → IsReady at d → Spells at d.pal (renderer_state_bytes d) (drained d)
 spelled_back at d ok small is = record {
   keeps = record { within = within at d ok small; all = same_bytes 0 at false d.pal (numbers_of d) };
   right = right_to at d ok is;
@@ -174,14 +174,14 @@ spelled_back at d ok small is = record {
 
 -- ---- a chip that bytes keep
 
-pub spelled_drawing : (at : ℕ) (pal : Bool) (bytes : List ℕ) (d : Drawing) → Spells at pal bytes d → IsDrawing d
-spelled_drawing at pal bytes d p =
-    subst IsDrawing (ap (λ (b : Bool). drawing_of b (numbers_of d)) (sym p.region) ∙ drawing_again d p.drained) (valid at pal bytes (numbers_of d) p.keeps p.right)
+pub spelled_renderer_state : (at : ℕ) (pal : Bool) (bytes : List ℕ) (d : RendererState) → Spells at pal bytes d → IsRendererState d
+spelled_renderer_state at pal bytes d p =
+    subst IsRendererState (ap (λ (b : Bool). renderer_state_of b (numbers_of d)) (sym p.region) ∙ renderer_state_again d p.drained) (valid at pal bytes (numbers_of d) p.keeps p.right)
 
-pub spelled_ready : (at : ℕ) (pal : Bool) (bytes : List ℕ) (d : Drawing) → Spells at pal bytes d → IsReady at d
+pub spelled_ready : (at : ℕ) (pal : Bool) (bytes : List ℕ) (d : RendererState) → Spells at pal bytes d → IsReady at d
 unfolding AllHold
 spelled_ready at pal bytes d p =
-    let h = rules_hold 0 (drawing_fields at pal (numbers_of d)) p.right in
+    let h = rules_hold 0 (renderer_state_fields at pal (numbers_of d)) p.right in
     let soon = and_parts _ _ (and_parts _ _ h.0).1 in
     let from : at ≤ d.next = leb-true at d.next soon.0 in
     let near : d.next - at < line = ltb-true (d.next - at) line soon.1 in

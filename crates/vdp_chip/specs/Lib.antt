@@ -1,4 +1,4 @@
-pub mod Drawing
+pub mod RendererState
 pub mod Frames
 pub mod Kept
 pub mod Picture

@@ -10,8 +10,8 @@ use Rattle.vdp_planes.specs.Mixing.{line_byte}
 use Rattle.vdp_planes.specs.View.{display_height, register}
 
 -- the bytes of a row: red, green and blue of 320 dots
-abbrev pub row_length : ℕ
-row_length = 960
+abbrev pub scanline_length : ℕ
+scanline_length = 960
 
 -- the bytes that a picture takes, row by row: as many as one for PAL has
 abbrev pub memory_length : ℕ
@@ -34,20 +34,20 @@ unfoldable pub hidden : LineView → LineView
 hidden view = record view { registers = slice_set view.registers 1 (without_bit_6 (register view 1)) }
 
 -- what a row is drawn from: after the lines of the display that is as where it is off
-unfoldable pub on_row : ℕ → LineView → LineView
-on_row y view = if nat_lt y (display_height view) then view else hidden view
+unfoldable pub on_scanline : ℕ → LineView → LineView
+on_scanline y view = if nat_lt y (display_height view) then view else hidden view
 
 -- a row as a view has line y, with these dots of the sprites
-unfoldable pub line_row : LineView → List Dot → ℕ → List ℕ
-line_row view sprites y = map (line_byte view (plane_dots view false y) (plane_dots view true y) sprites) (range_with_len 0 row_length)
+unfoldable pub line_scanline : LineView → List Dot → ℕ → List ℕ
+line_scanline view sprites y = map (line_byte view (plane_dots view false y) (plane_dots view true y) sprites) (range_with_len 0 scanline_length)
 
 -- row y of the picture
-unfoldable pub row_of : LineView → List Dot → ℕ → List ℕ
-row_of view sprites y = line_row (on_row y view) sprites y
+unfoldable pub scanline_of : LineView → List Dot → ℕ → List ℕ
+scanline_of view sprites y = line_scanline (on_scanline y view) sprites y
 
 -- a picture with another row y; the other rows stay
-unfoldable pub with_row : ℕ → List ℕ → List ℕ → List ℕ
-with_row y row picture = replace_range picture (row_length * y) (row_length * y + row_length) row
+unfoldable pub with_scanline : ℕ → List ℕ → List ℕ → List ℕ
+with_scanline y scanline picture = replace_range picture (scanline_length * y) (scanline_length * y + scanline_length) scanline
 
 -- line 0 begins a picture
 unfoldable pub cleared : ℕ → List ℕ → List ℕ
@@ -55,7 +55,7 @@ cleared line picture = if line == 0 then blank else picture
 
 -- each line of the picture draws its row, the others none
 unfoldable pub drawn : Bool → ℕ → List ℕ → List ℕ → List ℕ
-drawn pal line row picture = if nat_lt line (rows pal) then with_row line row picture else picture
+drawn pal line scanline picture = if nat_lt line (rows pal) then with_scanline line scanline picture else picture
 
 -- the frame is the rows of the region
 abbrev pub frame_of : Bool → List ℕ → List ℕ

@@ -6,18 +6,18 @@ use Rattle.md_fields.specs.Fields.{Field, byte, quad, block}
 use Rattle.md_fields.specs.Padding.{are_zeros}
 use Rattle.md_word.specs.Clock.{line}
 use Rattle.md_word.specs.Coding.{flag_number}
-use Rattle.vdp_chip.specs.Drawing.{Drawing, undrawn_from}
-use Rattle.vdp_chip.specs.Picture.{memory_length, row_length}
+use Rattle.vdp_chip.specs.RendererState.{RendererState, undrawn_from}
+use Rattle.vdp_chip.specs.Picture.{memory_length, scanline_length}
 
 -- what is kept: the next event, what the sprites have set, and the picture
-pub record DrawingNumbers : Type 0 where
+pub record RendererStateNumbers : Type 0 where
   pub next : ℕ
   pub overflow : ℕ
   pub collision : ℕ
   pub picture : List ℕ
 
 -- what is kept of a chip: a flag is 0 or 1
-abbrev pub numbers_of : Drawing → DrawingNumbers
+abbrev pub numbers_of : RendererState → RendererStateNumbers
 numbers_of d = record {
   next = d.next;
   overflow = flag_number d.note.overflow;
@@ -26,8 +26,8 @@ numbers_of d = record {
 }
 
 -- the chip of a region of which these numbers are kept
-abbrev pub drawing_of : Bool → DrawingNumbers → Drawing
-drawing_of pal n = record {
+abbrev pub renderer_state_of : Bool → RendererStateNumbers → RendererState
+renderer_state_of pal n = record {
   next = n.next;
   note = record { overflow = n.overflow == 1; collision = n.collision == 1 };
   has_view = true;
@@ -41,15 +41,15 @@ abbrev pub is_first : ℕ → ℕ → Bool
 is_first next at = (next % line == 0) && (nat_le at next && nat_lt (next - at) line)
 
 -- both are flags
-abbrev pub is_note : DrawingNumbers → Bool
+abbrev pub is_note : RendererStateNumbers → Bool
 is_note n = nat_le n.overflow 1 && nat_le n.collision 1
 
 -- scanlines after the line of the last cycle below `at` are not drawn
 abbrev pub is_picture : ℕ → Bool → List ℕ → Bool
-is_picture at pal picture = are_zeros (drop (row_length * undrawn_from at pal) picture)
+is_picture at pal picture = are_zeros (drop (scanline_length * undrawn_from at pal) picture)
 
 -- the fields in their order, and their rules, by the cycle of the state and by whether that of the picture holds
-abbrev pub fields_by : ℕ → Bool → DrawingNumbers → List Field
+abbrev pub fields_by : ℕ → Bool → RendererStateNumbers → List Field
 fields_by at holds n =
     quad n.next (is_first n.next at)
     ∷ byte n.overflow (is_note n)
@@ -58,5 +58,5 @@ fields_by at holds n =
     ∷ []
 
 -- the same by the cycle of the state and its region
-abbrev pub drawing_fields : ℕ → Bool → DrawingNumbers → List Field
-drawing_fields at pal n = fields_by at (is_picture at pal n.picture) n
+abbrev pub renderer_state_fields : ℕ → Bool → RendererStateNumbers → List Field
+renderer_state_fields at pal n = fields_by at (is_picture at pal n.picture) n

@@ -3,8 +3,8 @@ ghost use Rattle.vdp_planes.specs.View.{AllColours, seen};
 ghost use Rattle.vdp_planes.specs.Dots.{Dot};
 ghost use Rattle.vdp_planes.specs.declared.view.LineView.{LineView};
 ghost use Rattle.vdp_time.specs.Lines.{line_of};
-ghost use Rattle.vdp_chip.specs.Picture.{blank, row_of};
-ghost use Rattle.vdp_chip.specs.Drawing.{IsDrawing, answered, at_power_on, line_drawn, next_of};
+ghost use Rattle.vdp_chip.specs.Picture.{blank, scanline_of};
+ghost use Rattle.vdp_chip.specs.RendererState.{IsRendererState, answered, at_power_on, line_drawn, next_of};
 
 use crate::kept::{Kept, draw, place};
 use crate::picture::PICTURE;
@@ -17,7 +17,7 @@ use vdp_planes::{Dot, LineView, Scene, SpriteNote};
 use vdp_time::line_of;
 
 /// The number of this chip.
-const DRAWING: u8 = 2;
+const RENDERER_STATE: u8 = 2;
 
 /// The VDP renderer. Its events are the lines, each 3,420 master cycles after the one before: those of
 /// lines 0 to 223, on PAL 0 to 239, draw a scanline of the picture, the event of the next
@@ -40,14 +40,14 @@ pub struct ChipVdp {
 
 impl Model for ChipVdp {
     ghost use Rattle.std.specs.Prelude.{is_some};
-    ghost use Rattle.vdp_chip.specs.Drawing.{Drawing, IsDrawing};
+    ghost use Rattle.vdp_chip.specs.RendererState.{RendererState, IsRendererState};
     ghost use Rattle.vdp_chip.specs.Kept.{IsKept, kept_frame};
 
-    ghost Value = { Drawing };
+    ghost Value = { RendererState };
 
     ghost view = { λ c. record { next = c.next; note = c.note; has_view = is_some c.view; picture = c.picture.value; frame = kept_frame c.pal c.kept c.picture.value c.aside.value; pal = c.pal } };
 
-    ghost invariant = { λ c. IsDrawing (record { next = c.next; note = c.note; has_view = is_some c.view; picture = c.picture.value; frame = kept_frame c.pal c.kept c.picture.value c.aside.value; pal = c.pal }) × IsKept c.pal c.kept c.next c.aside.value };
+    ghost invariant = { λ c. IsRendererState (record { next = c.next; note = c.note; has_view = is_some c.view; picture = c.picture.value; frame = kept_frame c.pal c.kept c.picture.value c.aside.value; pal = c.pal }) × IsKept c.pal c.kept c.next c.aside.value };
 }
 
 impl ChipVdp {
@@ -65,12 +65,12 @@ impl ChipVdp {
     /// The next line's event.
     pub fn next(&self) -> Next
         ensures value { result ≡ next_of self.now }
-        ensures drawing { IsDrawing self.now }
+        ensures renderer_state { IsRendererState self.now }
     {
         Next {
             key: Key {
                 cycle: self.next,
-                chip: DRAWING,
+                chip: RENDERER_STATE,
             },
             sample: false,
         }
@@ -116,7 +116,7 @@ impl ChipVdp {
 
     /// Makes the event of the next line, and takes the view back: the line is drawn from it and from
     /// the dots of the line's sprites. The note of those is kept for the next request.
-    #[tactic(auto, unfolding(crate::specs::Drawing::answered))]
+    #[tactic(auto, unfolding(crate::specs::RendererState::answered))]
     pub fn answer_with(&mut self, view: Box<LineView>, sprites: &[Dot; 320], note: SpriteNote)
         requires view { self.old.has_view ≡ false }
         requires colours { AllColours sprites.now }
@@ -128,7 +128,7 @@ impl ChipVdp {
     }
 
     /// `answer_with` from borrowed registers and memories: the view stays where it is.
-    #[tactic(auto, unfolding(crate::specs::Drawing::line_drawn, crate::specs::Drawing::picture_after))]
+    #[tactic(auto, unfolding(crate::specs::RendererState::line_drawn, crate::specs::RendererState::picture_after))]
     pub fn draw_line(&mut self, scene: &Scene, sprites: &[Dot; 320], note: SpriteNote)
         requires colours { AllColours sprites.now }
         requires cycle { self.old.next < 2 ^ 50 }
@@ -149,18 +149,18 @@ impl ChipVdp {
     }
 
     /// `draw_line` with the scanline of the picture as it results, and what the line's sprites have set.
-    #[tactic(auto, unfolding(crate::specs::Drawing::line_drawn, crate::specs::Drawing::picture_after))]
-    pub fn place_line(&mut self, row: &[u8], note: SpriteNote)
-        requires row { (view : LineView) × (sprites : List Dot) × (row.now ≡ row_of view sprites (line_of self.old.next self.old.pal)) }
+    #[tactic(auto, unfolding(crate::specs::RendererState::line_drawn, crate::specs::RendererState::picture_after))]
+    pub fn place_line(&mut self, scanline: &[u8], note: SpriteNote)
+        requires scanline { (view : LineView) × (sprites : List Dot) × (scanline.now ≡ scanline_of view sprites (line_of self.old.next self.old.pal)) }
         requires cycle { self.old.next < 2 ^ 50 }
-        ensures { (view : LineView) (sprites : List Dot) → row.now ≡ row_of view sprites (line_of self.old.next self.old.pal)
+        ensures { (view : LineView) (sprites : List Dot) → scanline.now ≡ scanline_of view sprites (line_of self.old.next self.old.pal)
             → self.new ≡ line_drawn view sprites note self.old }
     {
         let line = line_of(self.next, self.pal);
         self.kept = place(
             self.pal,
             line,
-            row,
+            scanline,
             self.kept,
             &mut self.picture,
             &mut self.aside,

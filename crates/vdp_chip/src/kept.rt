@@ -1,11 +1,11 @@
 ghost use Rattle.std.specs.Prelude.{◌≡◌, ℕ, ◌<◌, ◌≤◌, List, length};
 ghost use Rattle.md_word.specs.Region as region;
 ghost use Rattle.vdp_planes.specs.View.{AllColours, seen};
-ghost use Rattle.vdp_chip.specs.Picture.{cleared, drawn, finished, memory_length, row_length, row_of};
+ghost use Rattle.vdp_chip.specs.Picture.{cleared, drawn, finished, memory_length, scanline_length, scanline_of};
 ghost use Rattle.vdp_chip.specs.Kept.{kept_frame};
 ghost use Rattle.vdp_chip.specs.declared.kept.Kept.TheVariants as kinds;
 
-use crate::picture::{PICTURE, clear, draw_row, put_row};
+use crate::picture::{PICTURE, clear, draw_scanline, put_scanline};
 use md_word::region::rows;
 use std::mem::swap;
 use vdp_planes::{Dot, Scene};
@@ -84,14 +84,14 @@ pub fn draw(
     requires free { kept ≡ kinds.Picture → 0 < line → region.rows pal < line }
     requires picture { length picture.old.value ≡ memory_length }
     requires aside { length aside.old.value ≡ memory_length }
-    ensures picture { picture.new.value ≡ drawn pal line (row_of (seen scene.now) sprites.now line) (cleared line picture.old.value) }
+    ensures picture { picture.new.value ≡ drawn pal line (scanline_of (seen scene.now) sprites.now line) (cleared line picture.old.value) }
     ensures frame { kept_frame pal result picture.new.value aside.new.value ≡ finished pal line picture.new.value (kept_frame pal kept picture.old.value aside.old.value) }
     ensures whole { length aside.new.value ≡ memory_length }
     ensures free { result ≡ kinds.Picture → region.rows pal ≤ line }
 {
     if line < rows(pal) {
         let kept = make_room(pal, line, kept, picture, aside);
-        draw_row(scene, line, sprites, picture);
+        draw_scanline(scene, line, sprites, picture);
         return kept;
     }
     if line == rows(pal) {
@@ -106,23 +106,23 @@ pub fn draw(
 pub fn place(
     pal: bool,
     line: u32,
-    row: &[u8],
+    scanline: &[u8],
     kept: Kept,
     picture: &mut Box<[u8; PICTURE]>,
     aside: &mut Box<[u8; PICTURE]>,
 ) -> Kept
-    requires row { length row.now ≡ row_length }
+    requires scanline { length scanline.now ≡ scanline_length }
     requires free { kept ≡ kinds.Picture → 0 < line → region.rows pal < line }
     requires picture { length picture.old.value ≡ memory_length }
     requires aside { length aside.old.value ≡ memory_length }
-    ensures picture { picture.new.value ≡ drawn pal line row.now (cleared line picture.old.value) }
+    ensures picture { picture.new.value ≡ drawn pal line scanline.now (cleared line picture.old.value) }
     ensures frame { kept_frame pal result picture.new.value aside.new.value ≡ finished pal line picture.new.value (kept_frame pal kept picture.old.value aside.old.value) }
     ensures whole { length aside.new.value ≡ memory_length }
     ensures free { result ≡ kinds.Picture → region.rows pal ≤ line }
 {
     if line < rows(pal) {
         let kept = make_room(pal, line, kept, picture, aside);
-        put_row(row, line, picture);
+        put_scanline(scanline, line, picture);
         return kept;
     }
     if line == rows(pal) {

@@ -10,4 +10,4 @@ mod saved;
 mod spelling;
 
 pub use chip::ChipVdp;
-pub use picture::{ROW, clear_dots, fill_row};
+pub use picture::{SCANLINE, clear_dots, fill_scanline};

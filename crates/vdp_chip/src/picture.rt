@@ -1,13 +1,13 @@
 ghost use Rattle.std.specs.Prelude.{◌≡◌, ℕ, ◌<◌, true, false, length, slice_index, slice_set};
 ghost use Rattle.vdp_planes.specs.Planes.{plane_dot};
 ghost use Rattle.vdp_planes.specs.View.{AllColours, clear, dot_at, has_bit, register, seen};
-ghost use Rattle.vdp_chip.specs.Picture.{blank, line_row, memory_length, row_length, row_of, with_row, without_bit_6};
+ghost use Rattle.vdp_chip.specs.Picture.{blank, line_scanline, memory_length, scanline_length, scanline_of, with_scanline, without_bit_6};
 
 use vdp_planes::register::MODE_2;
 use vdp_planes::{Dot, Scene, draw_plane, mix_dots};
 
 /// Bytes of a row: red, green and blue of 320 dots.
-pub const ROW: usize = 960;
+pub const SCANLINE: usize = 960;
 
 /// Bytes that a picture takes: as many as one for PAL has.
 pub const PICTURE: usize = 230_400;
@@ -49,15 +49,15 @@ pub fn clear_dots() -> [Dot; 320]
 
 /// Fills a scanline of the picture from the two planes and the sprites' dots. After the lines of the display
 /// it shows the backdrop.
-#[tactic(auto, unfolding(crate::specs::Picture::row_of, crate::specs::Picture::on_row, crate::specs::Picture::hidden))]
-pub fn fill_row(scene: &Scene, line: u32, sprites: &[Dot; 320], row: &mut [u8])
+#[tactic(auto, unfolding(crate::specs::Picture::scanline_of, crate::specs::Picture::on_scanline, crate::specs::Picture::hidden))]
+pub fn fill_scanline(scene: &Scene, line: u32, sprites: &[Dot; 320], scanline: &mut [u8])
     requires line { line < 240 }
     requires colours { AllColours sprites.now }
-    requires whole { length row.old ≡ row_length }
-    ensures { row.new ≡ row_of (seen scene.now) sprites.now line }
+    requires whole { length scanline.old ≡ scanline_length }
+    ensures { scanline.new ≡ scanline_of (seen scene.now) sprites.now line }
 {
     if line < scene.height() {
-        fill_line(scene, line, sprites, row);
+        fill_line(scene, line, sprites, scanline);
     } else {
         let registers = without_display(scene.registers);
         let hidden = Scene {
@@ -68,7 +68,7 @@ pub fn fill_row(scene: &Scene, line: u32, sprites: &[Dot; 320], row: &mut [u8])
             pal: scene.pal,
             tall: scene.tall,
         };
-        fill_line(&hidden, line, sprites, row);
+        fill_line(&hidden, line, sprites, scanline);
     }
 }
 
@@ -82,36 +82,36 @@ fn without_display(registers: &[u8; 24]) -> [u8; 24]
 }
 
 /// Fills a row with a line as a scene has it.
-fn fill_line(scene: &Scene, line: u32, sprites: &[Dot; 320], row: &mut [u8])
+fn fill_line(scene: &Scene, line: u32, sprites: &[Dot; 320], scanline: &mut [u8])
     requires line { line < 240 }
     requires colours { AllColours sprites.now }
-    requires whole { length row.old ≡ row_length }
-    ensures { row.new ≡ line_row (seen scene.now) sprites.now line }
+    requires whole { length scanline.old ≡ scanline_length }
+    ensures { scanline.new ≡ line_scanline (seen scene.now) sprites.now line }
 {
     let mut a = clear_dots();
     let mut b = clear_dots();
     draw_planes(scene, line, &mut a, &mut b);
-    mix_dots(scene, &a, &b, sprites, row);
+    mix_dots(scene, &a, &b, sprites, scanline);
 }
 
 /// Draws a scanline of the picture in its place.
-pub fn draw_row(scene: &Scene, line: u32, sprites: &[Dot; 320], picture: &mut [u8; PICTURE])
+pub fn draw_scanline(scene: &Scene, line: u32, sprites: &[Dot; 320], picture: &mut [u8; PICTURE])
     requires line { line < 240 }
     requires colours { AllColours sprites.now }
     requires whole { length picture.old ≡ memory_length }
-    ensures { picture.new ≡ with_row line (row_of (seen scene.now) sprites.now line) picture.old }
+    ensures { picture.new ≡ with_scanline line (scanline_of (seen scene.now) sprites.now line) picture.old }
 {
-    let at = line as usize * ROW;
-    fill_row(scene, line, sprites, &mut picture[at..at + ROW]);
+    let at = line as usize * SCANLINE;
+    fill_scanline(scene, line, sprites, &mut picture[at..at + SCANLINE]);
 }
 
 /// Writes a scanline into the picture.
-pub fn put_row(row: &[u8], line: u32, picture: &mut [u8; PICTURE])
+pub fn put_scanline(scanline: &[u8], line: u32, picture: &mut [u8; PICTURE])
     requires line { line < 240 }
-    requires row { length row.now ≡ row_length }
+    requires scanline { length scanline.now ≡ scanline_length }
     requires whole { length picture.old ≡ memory_length }
-    ensures { picture.new ≡ with_row line row.now picture.old }
+    ensures { picture.new ≡ with_scanline line scanline.now picture.old }
 {
-    let at = line as usize * ROW;
-    picture[at..at + ROW].copy_from_slice(row);
+    let at = line as usize * SCANLINE;
+    picture[at..at + SCANLINE].copy_from_slice(scanline);
 }

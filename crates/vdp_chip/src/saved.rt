@@ -2,14 +2,14 @@ ghost use Rattle.std.specs.Prelude.{◌≡◌, ◌^◌, ◌<◌, ◌≤◌, ℕ,
 ghost use Rattle.md_fields.specs.Fields.{AreSized, seen};
 ghost use Rattle.md_fields.specs.Items.{IsRefused, IsRight, Keeps};
 ghost use Rattle.md_fields.specs.Places.{Stand};
-ghost use Rattle.vdp_chip.specs.Drawing as drawing;
+ghost use Rattle.vdp_chip.specs.RendererState as renderer_state;
 ghost use Rattle.vdp_chip.specs.Picture.{memory_length};
 ghost use Rattle.vdp_chip.specs.Saved as rules;
-ghost use Rattle.vdp_chip.specs.Saved.{drawing_fields, fields_by};
-ghost use Rattle.vdp_chip.specs.Spelling.{drawing_size};
+ghost use Rattle.vdp_chip.specs.Saved.{renderer_state_fields, fields_by};
+ghost use Rattle.vdp_chip.specs.Spelling.{renderer_state_size};
 
-use crate::picture::ROW;
-use md_fields::{Field, are_zeros, first_wrong, u8_at, u64_at};
+use crate::picture::SCANLINE;
+use md_fields::{Field, are_zeros, first_invalid, u8_at, u64_at};
 use md_word::clock::LINE;
 use md_word::region::rows;
 use std::marker::Model;
@@ -24,33 +24,33 @@ const DOTS: usize = 10;
 /// The numbers that a saved state keeps of the VDP renderer, whatever they are, in their
 /// order. Cycles are master cycles.
 #[derive(Drop)]
-pub struct SavedDrawing<'a> {
+pub struct SavedRendererState<'a> {
     pub next: u64,
     pub overflow: u8,
     pub collision: u8,
     pub picture: &'a [u8],
 }
 
-impl<'a> Model for SavedDrawing<'a> {
+impl<'a> Model for SavedRendererState<'a> {
     ghost use Rattle.std.specs.Prelude.{◌≡◌, length};
     ghost use Rattle.vdp_chip.specs.Picture.{memory_length};
-    ghost use Rattle.vdp_chip.specs.Saved.{DrawingNumbers};
+    ghost use Rattle.vdp_chip.specs.Saved.{RendererStateNumbers};
 
-    ghost Value = { DrawingNumbers };
+    ghost Value = { RendererStateNumbers };
 
     ghost view = { λ s. record { next = s.next; overflow = s.overflow; collision = s.collision; picture = s.picture.now } };
 
     ghost invariant = { λ s. length s.picture.now ≡ memory_length };
 }
 
-impl<'a> SavedDrawing<'a> {
+impl<'a> SavedRendererState<'a> {
     /// The numbers in the bytes.
     #[tactic(auto, unfolding(md_fields::specs::Places::Stand))]
-    fn read(bytes: &'a [u8]) -> SavedDrawing<'a>
-        requires { length bytes.now ≡ drawing_size }
-        ensures { (at : ℕ) (pal : Bool) → Stand 0 (drawing_fields at pal result) bytes.now }
+    fn read(bytes: &'a [u8]) -> SavedRendererState<'a>
+        requires { length bytes.now ≡ renderer_state_size }
+        ensures { (at : ℕ) (pal : Bool) → Stand 0 (renderer_state_fields at pal result) bytes.now }
     {
-        SavedDrawing {
+        SavedRendererState {
             next: u64_at(bytes, 0),
             overflow: u8_at(bytes, 8),
             collision: u8_at(bytes, 9),
@@ -77,21 +77,21 @@ impl<'a> SavedDrawing<'a> {
     fn is_picture(&self, at: u64, pal: bool) -> bool
         ensures { result ≡ rules.is_picture at pal self.now.picture }
     {
-        are_zeros(&self.picture[ROW * undrawn_from(at, pal) as usize..])
+        are_zeros(&self.picture[SCANLINE * undrawn_from(at, pal) as usize..])
     }
 
     /// The numbers that the bytes keep, where the rules hold of them. The error is the offset of the first
     /// field whose rule fails, or the lesser of the number of bytes and 230,410 where it is not 230,410.
-    pub fn checked(bytes: &'a [u8], at: u64, pal: bool) -> Result<SavedDrawing<'a>, usize>
-        ensures found { IfOk result (λ n. Keeps (drawing_fields at pal) bytes.now n × IsRight (drawing_fields at pal) n) }
-        ensures refused { IfErr result (λ place. IsRefused drawing_size (drawing_fields at pal) bytes.now place) }
+    pub fn checked(bytes: &'a [u8], at: u64, pal: bool) -> Result<SavedRendererState<'a>, usize>
+        ensures found { IfOk result (λ n. Keeps (renderer_state_fields at pal) bytes.now n × IsRight (renderer_state_fields at pal) n) }
+        ensures refused { IfErr result (λ place. IsRefused renderer_state_size (renderer_state_fields at pal) bytes.now place) }
     {
         if bytes.len() != LENGTH {
             return Err(bytes.len().min(LENGTH));
         }
-        let saved = SavedDrawing::read(bytes);
+        let saved = SavedRendererState::read(bytes);
         let holds = saved.is_picture(at, pal);
-        match first_wrong(&saved.fields(at, holds)) {
+        match first_invalid(&saved.fields(at, holds)) {
             Some(place) => Err(place),
             None => Ok(saved),
         }
@@ -105,9 +105,9 @@ fn is_first(next: u64, at: u64) -> bool
 }
 
 /// The first row that is not drawn below a cycle: 224, on PAL 240, where all are.
-#[tactic(auto, unfolding(crate::specs::Drawing::undrawn_from))]
+#[tactic(auto, unfolding(crate::specs::RendererState::undrawn_from))]
 fn undrawn_from(at: u64, pal: bool) -> u32
-    ensures row { result ≡ drawing.undrawn_from at pal }
+    ensures scanline { result ≡ renderer_state.undrawn_from at pal }
     ensures most { result ≤ 240 }
 {
     if at == 0 {

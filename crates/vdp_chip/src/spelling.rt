@@ -1,13 +1,13 @@
 ghost use Rattle.std.specs.Prelude.{◌≡◌, ◌≢◌, ◌+◌, ◌^◌, ◌<◌, ◌≤◌, ◌++◌, ◌↔◌, ℕ, length, vec_len, vec_capacity, IfOk, IsErrOf, Ok, Err};
-ghost use Rattle.vdp_chip.specs.Drawing.{Drawing, IsDrawing};
+ghost use Rattle.vdp_chip.specs.RendererState.{RendererState, IsRendererState};
 ghost use Rattle.vdp_chip.specs.Picture.{memory_length};
-ghost use Rattle.vdp_chip.specs.Saved.{drawing_of, numbers_of};
-ghost use Rattle.vdp_chip.specs.Spelling.{GoesWrongAt, IsReady, Spells, drained, drawing_bytes, drawing_size};
+ghost use Rattle.vdp_chip.specs.Saved.{renderer_state_of, numbers_of};
+ghost use Rattle.vdp_chip.specs.Spelling.{InvalidAt, IsReady, Spells, drained, renderer_state_bytes, renderer_state_size};
 
 use crate::chip::{ChipVdp, black, empty_view};
 use crate::kept::Kept;
 use crate::picture::PICTURE;
-use crate::saved::SavedDrawing;
+use crate::saved::SavedRendererState;
 use md_fields::put;
 use md_word::{NoMemory, Unspell};
 use std::alloc::Global;
@@ -15,10 +15,10 @@ use vdp_planes::SpriteNote;
 
 impl ChipVdp {
     /// What is kept of the chip.
-    fn saved(&self) -> SavedDrawing<'_>
+    fn saved(&self) -> SavedRendererState<'_>
         ensures { result ≡ numbers_of self.now }
     {
-        SavedDrawing {
+        SavedRendererState {
             next: self.next,
             overflow: u8::from(self.note.overflow),
             collision: u8::from(self.note.collision),
@@ -28,7 +28,7 @@ impl ChipVdp {
 
     /// States what holds of every chip: its lengths and its lines, and that its cycle has eight bytes.
     fn known(&self)
-        ensures drawing { IsDrawing self.now }
+        ensures renderer_state { IsRendererState self.now }
         ensures next { self.now.next < 2 ^ 64 }
     {
         let _next = self.next;
@@ -38,11 +38,11 @@ impl ChipVdp {
     /// for them. A frame that waits to be handed out is not kept. They are read again where the next event
     /// is the first of a line from the cycle on.
     pub fn spell(&self, at: u64, into: &mut Vec<u8>)
-        requires { vec_len into.old + drawing_size ≤ vec_capacity into.old }
-        ensures bytes { into.new.items ≡ into.old.items ++ drawing_bytes self.now }
-        ensures length { vec_len into.new ≡ vec_len into.old + drawing_size }
+        requires { vec_len into.old + renderer_state_size ≤ vec_capacity into.old }
+        ensures bytes { into.new.items ≡ into.old.items ++ renderer_state_bytes self.now }
+        ensures length { vec_len into.new ≡ vec_len into.old + renderer_state_size }
         ensures room { vec_capacity into.old ≤ vec_capacity into.new }
-        ensures kept { IsReady at self.now → Spells at self.now.pal (drawing_bytes self.now) (drained self.now) }
+        ensures kept { IsReady at self.now → Spells at self.now.pal (renderer_state_bytes self.now) (drained self.now) }
     {
         self.known();
         put(&self.saved().fields(at, true), into);
@@ -51,7 +51,7 @@ impl ChipVdp {
     /// States that the bytes of this chip are read again where its next event is the first of a line from a cycle
     /// on, with its view here and without a frame.
     pub fn is_read_again(&self)
-        ensures { (at : ℕ) → IsReady at self.now → Spells at self.now.pal (drawing_bytes self.now) (drained self.now) }
+        ensures { (at : ℕ) → IsReady at self.now → Spells at self.now.pal (renderer_state_bytes self.now) (drained self.now) }
     {
         self.known();
     }
@@ -64,10 +64,10 @@ impl ChipVdp {
     /// memory.
     pub fn unspell(alloc: Global, bytes: &[u8], at: u64, pal: bool) -> Result<ChipVdp, Unspell>
         ensures found { IfOk result (λ d. Spells at pal bytes.now d) }
-        ensures only { (d : Drawing) → Spells at pal bytes.now d → result ≢ Err Unspell.NoMemory → result ≡ Ok d }
-        ensures rule { (place : ℕ) → IsErrOf result (Unspell.Rule place) ↔ GoesWrongAt at pal bytes.now place }
+        ensures only { (d : RendererState) → Spells at pal bytes.now d → result ≢ Err Unspell.NoMemory → result ≡ Ok d }
+        ensures rule { (place : ℕ) → IsErrOf result (Unspell.Rule place) ↔ InvalidAt at pal bytes.now place }
     {
-        match SavedDrawing::checked(bytes, at, pal) {
+        match SavedRendererState::checked(bytes, at, pal) {
             Ok(saved) => Ok(saved.chip(alloc, pal)?),
             Err(place) => Err(Unspell::Rule {
                 place: place as u64,
@@ -76,12 +76,12 @@ impl ChipVdp {
     }
 }
 
-impl<'a> SavedDrawing<'a> {
+impl<'a> SavedRendererState<'a> {
     /// The chip of a region of which these numbers are kept. The picture is copied. The only error is out of
     /// memory.
     fn chip(&self, alloc: Global, pal: bool) -> Result<ChipVdp, NoMemory>
-        requires { IsDrawing (drawing_of pal self.now) }
-        ensures { IfOk result (λ chip. chip ≡ drawing_of pal self.now) }
+        requires { IsRendererState (renderer_state_of pal self.now) }
+        ensures { IfOk result (λ chip. chip ≡ renderer_state_of pal self.now) }
     {
         let view = empty_view(alloc, pal)?;
         let picture = copied(alloc, self.picture)?;

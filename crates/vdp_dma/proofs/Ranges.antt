@@ -83,15 +83,15 @@ advanced-range at n v s long far r = by (nat_lt n s.left) where
   by false h = finished-range v s long r
 
 pub settled_range : (earlier at : ℕ) (s : Vdp) → earlier ≤ at → at ≤ 2 ^ 50 → IsInRange s → HasRules earlier s → IsInRange (settled at s)
-settled_range earlier at s behind far r h = elim (cases_lt 0 (count at s)) [
+settled_range earlier at s following far r h = elim (cases_lt 0 (count at s)) [
   | inl some ↦ (let e : settled at s ≡ advanced (count at s) (vram_after s (count at s)) s = by-some at s (count at s) (omega arith) some in
-      let rules : HasRules at (advanced (count at s) (vram_after s (count at s)) s) = rw (← e) (settled_kept earlier at s behind h) in
+      let rules : HasRules at (advanced (count at s) (vram_after s (count at s)) s) = rw (← e) (settled_kept earlier at s following h) in
       rw e (advanced-range at (count at s) (vram_after s (count at s)) s (after-long s (count at s)) far r rules))
   | inr none ↦ (let e : settled at s ≡ s = by-none at s (omega (arith, none)) in rw e r)
 ]
 
 -- the bytes of a VDP whose rules hold at a cycle, settled to a later one, are read again
 pub settled_spelled : (earlier at : ℕ) (s : Vdp) → earlier ≤ at → at ≤ 2 ^ 50 → IsInRange s → HasRules earlier s → Spells at s.pal (vdp_bytes (settled at s)) (settled at s)
-settled_spelled earlier at s behind far r h =
+settled_spelled earlier at s following far r h =
     subst (λ (pal : Bool). Spells at pal (vdp_bytes (settled at s)) (settled at s)) (settled_region at s)
-    (spelled_back at (settled at s) (settled_range earlier at s behind far r h) (settled_is earlier at s behind h))
+    (spelled_back at (settled at s) (settled_range earlier at s following far r h) (settled_is earlier at s following h))

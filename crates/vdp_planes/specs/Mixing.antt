@@ -14,20 +14,20 @@ unfoldable pub is_opaque : Dot → Bool
 is_opaque d = not (d.colour % 16 == 0)
 
 -- opaque and with priority
-unfoldable pub is_front : Dot → Bool
-is_front d = is_opaque d && d.priority
+unfoldable pub is_prefix : Dot → Bool
+is_prefix d = is_opaque d && d.priority
 
 -- the colour in front but for the sprite, in this order: A and B with priority, A and B without, backdrop
-unfoldable pub behind : ℕ → Dot → Dot → ℕ
-behind back a b =
-    if is_front a then a.colour else (
-    if is_front b then b.colour else (
+unfoldable pub following : ℕ → Dot → Dot → ℕ
+following back a b =
+    if is_prefix a then a.colour else (
+    if is_prefix b then b.colour else (
     if is_opaque a then a.colour else (
     if is_opaque b then b.colour else back)))
 
 -- whether the sprite is in front, in this order: sprite, A, B with priority; sprite, A, B without
 unfoldable pub sprite_leads : Dot → Dot → Dot → Bool
-sprite_leads a b s = is_opaque s && (s.priority || not (is_front a || is_front b))
+sprite_leads a b s = is_opaque s && (s.priority || not (is_prefix a || is_prefix b))
 
 -- a colour, and how bright it is shown
 pub record ShadedColour : Type 0 where
@@ -58,11 +58,11 @@ shaded_sprite under base s =
 -- what a dot shows with shadow and highlight
 unfoldable pub shaded : ℕ → Dot → Dot → Dot → ShadedColour
 shaded back a b s =
-    if sprite_leads a b s then shaded_sprite (behind back a b) (base_shade a b) s else at_shade (behind back a b) (base_shade a b)
+    if sprite_leads a b s then shaded_sprite (following back a b) (base_shade a b) s else at_shade (following back a b) (base_shade a b)
 
 -- what a dot shows without shadow and highlight
 unfoldable pub unshaded : ℕ → Dot → Dot → Dot → ShadedColour
-unshaded back a b s = at_shade (if sprite_leads a b s then s.colour else behind back a b) shades.Normal
+unshaded back a b s = at_shade (if sprite_leads a b s then s.colour else following back a b) shades.Normal
 
 -- the colour behind all
 unfoldable pub backdrop : LineView → ℕ

@@ -8,5 +8,5 @@ unfoldable pub rank_key : ℕ → Dot → ℕ
 rank_key rank d = if is_opaque d then (if d.priority then rank + 4 else rank) * 64 + d.colour else 0
 
 -- the greatest of backdrop, B and A
-abbrev pub behind_key : ℕ → Dot → Dot → ℕ
-behind_key back a b = max (max back (rank_key 1 b)) (rank_key 2 a)
+abbrev pub after_key : ℕ → Dot → Dot → ℕ
+after_key back a b = max (max back (rank_key 1 b)) (rank_key 2 a)

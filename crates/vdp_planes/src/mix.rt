@@ -1,7 +1,7 @@
 ghost use Rattle.std.specs.Prelude.{◌≡◌, ℕ, ◌+◌, ◌*◌, ◌/◌, ◌%◌, ◌<◌, ◌≤◌, Bool, length, max, if◌then◌else◌};
-ghost use Rattle.vdp_planes.specs.Mixing.{base_shade, behind, index_of, is_opaque, shaded, shaded_sprite, shade_number, at_shade, sprite_leads, unshaded};
+ghost use Rattle.vdp_planes.specs.Mixing.{base_shade, following, index_of, is_opaque, shaded, shaded_sprite, shade_number, at_shade, sprite_leads, unshaded};
 ghost use Rattle.vdp_planes.specs.declared.colours.Shade.{Shade as TheShade};
-ghost use Rattle.vdp_planes.specs.Ranks.{behind_key, rank_key};
+ghost use Rattle.vdp_planes.specs.Ranks.{after_key, rank_key};
 
 use crate::colours::Shade;
 use crate::view::Dot;
@@ -21,11 +21,11 @@ fn rank_key(dot: Dot, rank: u16) -> u16
 
 /// The greatest key of the planes and the backdrop.
 #[inline(always)]
-fn behind_key(back: u8, a: Dot, b: Dot) -> u16
+fn after_key(back: u8, a: Dot, b: Dot) -> u16
     requires back { back < 64 }
     requires a { a.colour < 64 }
     requires b { b.colour < 64 }
-    ensures { result ≡ behind_key back a b }
+    ensures { result ≡ after_key back a b }
 {
     u16::from(back).max(rank_key(b, 1)).max(rank_key(a, 2))
 }
@@ -40,7 +40,7 @@ pub fn unshaded(back: u8, a: Dot, b: Dot, s: Dot) -> u8
     ensures value { result ≡ index_of (unshaded back a b s) }
     ensures below { result < 192 }
 {
-    let key = behind_key(back, a, b).max(rank_key(s, 3));
+    let key = after_key(back, a, b).max(rank_key(s, 3));
     (key % 64) as u8 + 64
 }
 
@@ -106,7 +106,7 @@ pub fn shaded(back: u8, a: Dot, b: Dot, s: Dot) -> u8
     ensures value { result ≡ index_of (shaded back a b s) }
     ensures below { result < 192 }
 {
-    let key = behind_key(back, a, b);
+    let key = after_key(back, a, b);
     let under = key % 64;
     let base = base_place(a, b);
     if key < rank_key(s, 3) {

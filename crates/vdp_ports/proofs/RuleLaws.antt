@@ -8,7 +8,7 @@ use Rattle.std.proofs.lemmas.List.Sums.{AllPass-from_list_all, list_all-from_All
 use Rattle.md_fields.specs.Distances.{is_after}
 use Rattle.md_fields.specs.Fields.{AllHold, AreWithin}
 use Rattle.md_fields.specs.Items.{IsRight}
-use Rattle.md_fields.proofs.Items.{rules_hold, none_wrong}
+use Rattle.md_fields.proofs.Items.{rules_hold, none_invalid}
 use Rattle.md_word.specs.Clock.{line}
 use Rattle.md_word.specs.Coding.{flag_number}
 pub use Rattle.md_fields.proofs.Flags.{flag_byte, flag_small}
@@ -195,7 +195,7 @@ unfolding AllHold
 right_to at s is =
     let r = is.rules in
     let g = goes_to at s.dma_kind s.byte s.source s.address s.left s.next_stamp r.going is.settled in
-    none_wrong 0 (vdp_fields at s.pal (numbers_of s)) (
+    none_invalid 0 (vdp_fields at s.pal (numbers_of s)) (
       refl,
       (
         refl,

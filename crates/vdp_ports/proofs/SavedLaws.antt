@@ -9,7 +9,7 @@ use Rattle.md_fields.proofs.Items.{rules_hold, not_both, one_place, same, same_w
 use Rattle.md_word.specs.Coding.{flag_number}
 use Rattle.vdp_ports.specs.Numbers.{VdpNumbers, numbers_of, vdp_of}
 use Rattle.vdp_ports.specs.Saved.{vdp_fields}
-use Rattle.vdp_ports.specs.Spelling.{GoesWrongAt, Spells, vdp_size}
+use Rattle.vdp_ports.specs.Spelling.{InvalidAt, Spells, vdp_size}
 use Rattle.vdp_ports.specs.Vdp.{Vdp}
 
 -- the bytes depend neither on the cycle nor on the region
@@ -171,8 +171,8 @@ no_other at pal bytes n s keeps p =
     ap (vdp_of pal) (same (vdp_fields at pal) bytes (only_one at pal bytes) n (numbers_of s) keeps p.keeps)
     ∙ ap (λ (b : Bool). vdp_of b (numbers_of s)) (sym p.region) ∙ vdp_again s
 
-pub right_not_refused : (at : ℕ) (pal : Bool) (bytes : List ℕ) (n : VdpNumbers) (place : ℕ) → Keeps (vdp_fields at pal) bytes n → IsRight (vdp_fields at pal) n → GoesWrongAt at pal bytes place → ⊥
-right_not_refused at pal bytes n place keeps right wrong = not_both (vdp_fields at pal) bytes (only_one at pal bytes) vdp_size n place keeps right (fields_size at pal n) wrong
+pub right_not_refused : (at : ℕ) (pal : Bool) (bytes : List ℕ) (n : VdpNumbers) (place : ℕ) → Keeps (vdp_fields at pal) bytes n → IsRight (vdp_fields at pal) n → InvalidAt at pal bytes place → ⊥
+right_not_refused at pal bytes n place keeps right invalid = not_both (vdp_fields at pal) bytes (only_one at pal bytes) vdp_size n place keeps right (fields_size at pal n) invalid
 
-pub only_place : (at : ℕ) (pal : Bool) (bytes : List ℕ) (p q : ℕ) → GoesWrongAt at pal bytes p → GoesWrongAt at pal bytes q → p ≡ q
+pub only_place : (at : ℕ) (pal : Bool) (bytes : List ℕ) (p q : ℕ) → InvalidAt at pal bytes p → InvalidAt at pal bytes q → p ≡ q
 only_place at pal bytes p q a b = one_place (vdp_fields at pal) bytes (only_one at pal bytes) vdp_size (fields_size at pal) p q a b

@@ -23,8 +23,8 @@ pub record Spells (at : ℕ) (pal : Bool) (bytes : List ℕ) (s : Vdp) : Type 0 
 
 -- bytes of a state at a cycle and of a region that keep no VDP are invalid at this offset: by their
 -- length, or by the first rule that fails
-abbrev pub GoesWrongAt : ℕ → Bool → List ℕ → ℕ → Type 0
-GoesWrongAt at pal bytes place = IsRefused vdp_size (vdp_fields at pal) bytes place
+abbrev pub InvalidAt : ℕ → Bool → List ℕ → ℕ → Type 0
+InvalidAt at pal bytes place = IsRefused vdp_size (vdp_fields at pal) bytes place
 
 -- the values that a state at a cycle may have: those that the ports keep, where a fill or copy is
 -- settled to it

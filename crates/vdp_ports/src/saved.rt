@@ -11,7 +11,7 @@ use crate::data::{COLOUR, SCROLL};
 use crate::dma::{COPY, FILL, Rest};
 use crate::saved_rules::have_only;
 use crate::state::VdpState;
-use md_fields::{Field, first_wrong, u8_at, u16_at, u32_at, u64_at, words_at};
+use md_fields::{Field, first_invalid, u8_at, u16_at, u32_at, u64_at, words_at};
 use md_word::NoMemory;
 use std::alloc::Global;
 use std::marker::Model;
@@ -201,7 +201,7 @@ impl<'a> SavedVdp<'a> {
             return Err(bytes.len().min(LENGTH));
         }
         let saved = SavedVdp::read(bytes);
-        match first_wrong(&saved.fields(at, pal)) {
+        match first_invalid(&saved.fields(at, pal)) {
             Some(place) => Err(place),
             None => Ok(saved),
         }

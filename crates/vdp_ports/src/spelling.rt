@@ -1,7 +1,7 @@
 ghost use Rattle.std.specs.Prelude.{◌≡◌, ◌≢◌, ◌+◌, ◌≤◌, ◌++◌, ◌↔◌, ℕ, vec_len, vec_capacity, IfOk, IsErrOf, Ok, Err};
 ghost use Rattle.vdp_ports.specs.Dma.{with_rest};
 ghost use Rattle.vdp_ports.specs.Ranges.{IsInRange};
-ghost use Rattle.vdp_ports.specs.Spelling.{GoesWrongAt, IsSettled, Spells, vdp_bytes, vdp_size};
+ghost use Rattle.vdp_ports.specs.Spelling.{InvalidAt, IsSettled, Spells, vdp_bytes, vdp_size};
 ghost use Rattle.vdp_ports.specs.Vdp.{Vdp};
 
 use crate::dma::Rest;
@@ -64,7 +64,7 @@ impl VdpState {
         ensures found { IfOk result (λ s. Spells at pal bytes.now s) }
         ensures settled { IfOk result (λ s. IsSettled at s) }
         ensures only { (s : Vdp) → Spells at pal bytes.now s → result ≢ Err Unspell.NoMemory → result ≡ Ok s }
-        ensures rule { (place : ℕ) → IsErrOf result (Unspell.Rule place) ↔ GoesWrongAt at pal bytes.now place }
+        ensures rule { (place : ℕ) → IsErrOf result (Unspell.Rule place) ↔ InvalidAt at pal bytes.now place }
     {
         match SavedVdp::checked(bytes, at, pal) {
             Ok(saved) => Ok(saved.state(alloc, pal)?),

@@ -1,11 +1,11 @@
 //! Rows of the VDP: registers, ports, memories, lines, the picture and saved states, as the files of `data` say.
 #![tactic(auto)]
 
-mod drawing;
 mod field;
+mod line_buffer;
 mod ports;
+mod renderer_state;
 mod saved;
-mod sheet;
 mod time;
 mod video;
 

@@ -8,7 +8,7 @@ use vdp_ports::VdpState;
 
 const VDP: usize = 65_813;
 
-const DRAWING: usize = 230_410;
+const RENDERER_STATE: usize = 230_410;
 
 /// Writes why bytes are no state.
 fn tell_refusal(error: Unspell, answer: &mut Answer) -> Result<(), RowError> {
@@ -28,9 +28,9 @@ impl Video {
     ) -> Result<(), RowError> {
         match verb {
             "save-vdp" => self.save_vdp(alloc, rest),
-            "save-drawing" => self.save_drawing(alloc, rest),
+            "save-drawing" => self.save_renderer_state(alloc, rest),
             "load-vdp" => self.load_vdp(alloc, rest, answer),
-            "load-drawing" => self.load_drawing(alloc, rest, answer),
+            "load-drawing" => self.load_renderer_state(alloc, rest, answer),
             "zeros" | "hold" | "length" | "bytes" | "held" | "same" => {
                 self.buffer.obey(alloc, verb, rest, answer)
             }
@@ -49,9 +49,9 @@ impl Video {
     }
 
     /// The same of the renderer; the frame that is kept, if one is, follows.
-    fn save_drawing(&mut self, alloc: Global, rest: &str) -> Result<(), RowError> {
+    fn save_renderer_state(&mut self, alloc: Global, rest: &str) -> Result<(), RowError> {
         let at = arguments(rest, "d")?[0];
-        let mut bytes = Vec::with_capacity(alloc, DRAWING)?;
+        let mut bytes = Vec::with_capacity(alloc, RENDERER_STATE)?;
         self.chip.spell(u64::from(at), &mut bytes);
         self.buffer.take(bytes);
         self.buffer.append(self.chip.frame().unwrap_or(&[]))
@@ -70,7 +70,7 @@ impl Video {
         }
     }
 
-    fn load_drawing(
+    fn load_renderer_state(
         &mut self,
         alloc: Global,
         rest: &str,

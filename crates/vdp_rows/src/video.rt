@@ -1,6 +1,6 @@
 use row_lines::{Answer, Buffer, Fixture, RowError, arguments};
 use std::alloc::{AllocError, Global};
-use vdp_ahead::Sheet;
+use vdp_ahead::LineBuffer;
 use vdp_chip::ChipVdp;
 use vdp_planes::LineView;
 use vdp_ports::VdpState;
@@ -13,7 +13,7 @@ pub(crate) struct Video {
     pub(crate) vdp: VdpState,
     pub(crate) chip: ChipVdp,
     pub(crate) view: Box<LineView>,
-    pub(crate) sheet: Box<Sheet>,
+    pub(crate) line_buffer: Box<LineBuffer>,
     pub(crate) buffer: Buffer,
 }
 
@@ -33,7 +33,7 @@ fn blank_view(alloc: Global) -> Result<Box<LineView>, AllocError> {
 impl Video {
     pub(crate) fn power_on(alloc: Global) -> Result<Video, AllocError> {
         let view = blank_view(alloc)?;
-        let sheet = Sheet::blank(alloc)?;
+        let line_buffer = LineBuffer::blank(alloc)?;
         let vdp = VdpState::power_on(alloc, false)?;
         let chip = ChipVdp::power_on(alloc, false)?;
         Ok(Video {
@@ -41,7 +41,7 @@ impl Video {
             vdp,
             chip,
             view,
-            sheet,
+            line_buffer,
             buffer: Buffer::new(alloc),
         })
     }
@@ -81,7 +81,7 @@ impl Video {
             "blank" => self.tell_blank(rest, answer),
             "start" => self.start(rest),
             "interrupts" => self.tell_interrupts(rest, answer),
-            _ => self.obey_drawing(alloc, verb, rest, answer),
+            _ => self.obey_renderer_state(alloc, verb, rest, answer),
         }
     }
 }

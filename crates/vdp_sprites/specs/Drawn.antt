@@ -26,7 +26,7 @@ pub record IsReach (part : Part) (width first last : ℕ) : Type 0 where
   pub within : last ≤ width
   pub before : (x : ℕ) → x < first → reaches part x ≡ false
   pub inside : (x : ℕ) → first ≤ x → x < last → reaches part x ≡ true
-  pub behind : (x : ℕ) → last ≤ x → x < width → reaches part x ≡ false
+  pub following : (x : ℕ) → last ≤ x → x < width → reaches part x ≡ false
 
 -- a line's dots after a part was drawn
 abbrev pub over_at : LineView → ℕ → Part → List Dot → ℕ → Dot

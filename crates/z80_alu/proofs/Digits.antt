@@ -14,7 +14,7 @@ use Rattle.z80_alu.specs.declared.flags80.Flags80.{Flags80}
 use Rattle.z80_alu.specs.declared.out80.Out80.{Out80}
 use Rattle.z80_alu.specs.Arithmetic.{added, subtracted}
 use Rattle.z80_alu.specs.Decimal.{AddsDecimals, IsDecimal, SubtractsDecimals, adjusted, corrected, correction, corrects_upper, decimal_value}
-use Rattle.z80_alu.specs.Flags.{byte_of, flags_of, shown, sign, told}
+use Rattle.z80_alu.specs.Flags.{byte_of, flags_of, shown, sign, reported}
 use Rattle.z80_alu.specs.Laws.{AddsDigits, SubtractsDigits, then_adjusted}
 use Rattle.z80_alu.proofs.FlagBits.{flags_of-byte}
 
@@ -31,7 +31,7 @@ abbrev sum_spelt : Bool → Bool → Bool → ℕ → ℕ → Bool
 sum_spelt s z pv u v = is_spelling (adjusted ((16 * u + v) % 0x100) (summed s z pv u v)) (10 * u + v)
 
 sums_spelt : (s z pv : Bool) → map (λ k. sum_spelt s z pv (k / 20) (k % 20)) (range 380 0) ≡ map (λ k. true) (range 380 0)
-unfolding range adjusted corrected correction corrects_upper shown told byte_of flags_of lib.Count.ones
+unfolding range adjusted corrected correction corrects_upper shown reported byte_of flags_of lib.Count.ones
 sums_spelt s z pv = refl
 
 sum_at : (s z pv : Bool) (u v : ℕ) → u < 19 → v < 20 → sum_spelt s z pv u v ≡ true
@@ -59,7 +59,7 @@ sum_spells s z pv whole u v e h k = rw e (spelt (adjusted ((16 * u + v) % 0x100)
 -- what ADD and ADC leave to DAA
 after_sum : (x y : ℕ) (carry : Bool) → then_adjusted (added x y carry)
     ≡ adjusted ((x + y + flag_number carry) % 0x100) (record { s = sign ((x + y + flag_number carry) % 0x100); z = (x + y + flag_number carry) % 0x100 == 0; h = nat_le 16 (x % 16 + y % 16 + flag_number carry); pv = sum_overflows Byte x y carry; n = false; c = nat_le 0x100 (x + y + flag_number carry) })
-unfolding added shown told
+unfolding added shown reported
 after_sum x y carry = ap (adjusted ((x + y + flag_number carry) % 0x100)) (flags_of-byte _)
 
 adds : (x y : ℕ) (carry : Bool) → IsDecimal x → IsDecimal y → AddsDecimals x y carry (then_adjusted (added x y carry))
@@ -85,7 +85,7 @@ difference_spelt s z pv u v =
     nat_lt (out.value / 16) 10 && nat_lt (out.value % 16) 10 && (decimal_value out.value + 100 == 10 * u + v + 100 * flag_number (flags_of out.f).c)
 
 differences_spelt : (s z pv : Bool) → map (λ k. difference_spelt s z pv (k / 20) (k % 20)) (range 380 0) ≡ map (λ k. true) (range 380 0)
-unfolding range adjusted corrected correction corrects_upper shown told byte_of flags_of lib.Count.ones
+unfolding range adjusted corrected correction corrects_upper shown reported byte_of flags_of lib.Count.ones
 differences_spelt s z pv = refl
 
 difference_at : (s z pv : Bool) (u v : ℕ) → u < 19 → v < 20 → difference_spelt s z pv u v ≡ true
@@ -99,8 +99,8 @@ pub record SpellsDifference (out : Out80) (n : ℕ) : Type 0 where
   pub digits : IsDecimal out.value
   pub number : decimal_value out.value + 100 ≡ n + 100 * flag_number (flags_of out.f).c
 
-difference_told : (out : Out80) (n : ℕ) → (nat_lt (out.value / 16) 10 && nat_lt (out.value % 16) 10 && (decimal_value out.value + 100 == n + 100 * flag_number (flags_of out.f).c)) ≡ true → SpellsDifference out n
-difference_told out n e =
+difference_reported : (out : Out80) (n : ℕ) → (nat_lt (out.value / 16) 10 && nat_lt (out.value % 16) 10 && (decimal_value out.value + 100 == n + 100 * flag_number (flags_of out.f).c)) ≡ true → SpellsDifference out n
+difference_reported out n e =
     let parts = and_parts (nat_lt (out.value / 16) 10 && nat_lt (out.value % 16) 10) (decimal_value out.value + 100 == n + 100 * flag_number (flags_of out.f).c) e in
     let halves = and_parts (nat_lt (out.value / 16) 10) (nat_lt (out.value % 16) 10) parts.0 in
     record { digits = record { upper = grind (arith, nat_tests); lower = grind (arith, nat_tests) }; number = grind (arith, nat_tests) }
@@ -108,12 +108,12 @@ difference_told out n e =
 difference_spells : (s z pv : Bool) (value : ℕ) (half below : Bool) (u v : ℕ) → value ≡ (16 * u + v + 102) % 0x100 → half ≡ nat_lt v 10 → below ≡ nat_lt (16 * u + v) 154 → u < 19 → v < 20
     → SpellsDifference (adjusted value (record { s = s; z = z; h = half; pv = pv; n = true; c = below })) (10 * u + v)
 difference_spells s z pv value half below u v e f g h k =
-    rw (e, f, g) (difference_told (adjusted ((16 * u + v + 102) % 0x100) (differing s z pv u v)) (10 * u + v) (difference_at s z pv u v h k))
+    rw (e, f, g) (difference_reported (adjusted ((16 * u + v + 102) % 0x100) (differing s z pv u v)) (10 * u + v) (difference_at s z pv u v h k))
 
 -- what SUB and SBC leave to DAA
 after_difference : (x y : ℕ) (borrow : Bool) → then_adjusted (subtracted x y borrow)
     ≡ adjusted (word_of 0x100 (pos x -ℤ pos y -ℤ pos (flag_number borrow))) (record { s = sign (word_of 0x100 (pos x -ℤ pos y -ℤ pos (flag_number borrow))); z = word_of 0x100 (pos x -ℤ pos y -ℤ pos (flag_number borrow)) == 0; h = nat_lt (x % 16) (y % 16 + flag_number borrow); pv = difference_overflows Byte x y borrow; n = true; c = nat_lt x (y + flag_number borrow) })
-unfolding subtracted shown told
+unfolding subtracted shown reported
 after_difference x y borrow = ap (adjusted (word_of 0x100 (pos x -ℤ pos y -ℤ pos (flag_number borrow)))) (flags_of-byte _)
 
 within_byte : (x y b whole : ℕ) → x < 0x100 → y < 0x100 → b ≤ 1 → whole + y + b ≡ x + 154 → word_of 0x100 (pos x -ℤ pos y -ℤ pos b) ≡ (whole + 102) % 0x100

@@ -9,7 +9,7 @@ use Rattle.md_word.specs.Width.{difference_overflows, fits, signed_of, sum_overf
 use Rattle.md_word.specs.declared.size.Size.TheVariants.{Byte}
 use Rattle.z80_alu.specs.declared.flags80.Flags80.{Flags80}
 use Rattle.z80_alu.specs.Arithmetic.{added, subtracted}
-use Rattle.z80_alu.specs.Flags.{flags_of, shown, told}
+use Rattle.z80_alu.specs.Flags.{flags_of, shown, reported}
 use Rattle.z80_alu.specs.Laws.{AddsNumbers, IsDifference, IsSum, SubtractsNumbers}
 use Rattle.z80_alu.proofs.FlagBits.{flags_of-byte}
 
@@ -24,15 +24,15 @@ signed_sum a b false h k e = grind (arith, ints, nat_tests)
 
 -- C and P/V of a sum
 carry_of_sum : (a b : ℕ) (carry : Bool) → (flags_of (added a b carry).f).c ≡ nat_le 0x100 (a + b + flag_number carry)
-unfolding added shown told
+unfolding added shown reported
 carry_of_sum a b carry = ap (λ (flags : Flags80). flags.c) (flags_of-byte _)
 
 overflow_of_sum : (a b : ℕ) (carry : Bool) → (flags_of (added a b carry).f).pv ≡ sum_overflows Byte a b carry
-unfolding added shown told
+unfolding added shown reported
 overflow_of_sum a b carry = ap (λ (flags : Flags80). flags.pv) (flags_of-byte _)
 
 value_of_sum : (a b : ℕ) (carry : Bool) → (added a b carry).value ≡ (a + b + flag_number carry) % 0x100
-unfolding added shown told
+unfolding added shown reported
 value_of_sum a b carry = refl
 
 sum : (a b : ℕ) (carry : Bool) → a < 0x100 → b < 0x100 → IsSum a b carry (added a b carry)
@@ -48,15 +48,15 @@ numbers_added a b f h k = (sum a b false h k, sum a b (flags_of f).c h k)
 
 -- C and P/V of a difference
 borrow_of_difference : (a b : ℕ) (borrow : Bool) → (flags_of (subtracted a b borrow).f).c ≡ nat_lt a (b + flag_number borrow)
-unfolding subtracted shown told
+unfolding subtracted shown reported
 borrow_of_difference a b borrow = ap (λ (flags : Flags80). flags.c) (flags_of-byte _)
 
 overflow_of_difference : (a b : ℕ) (borrow : Bool) → (flags_of (subtracted a b borrow).f).pv ≡ difference_overflows Byte a b borrow
-unfolding subtracted shown told
+unfolding subtracted shown reported
 overflow_of_difference a b borrow = ap (λ (flags : Flags80). flags.pv) (flags_of-byte _)
 
 value_of_difference : (a b : ℕ) (borrow : Bool) → (subtracted a b borrow).value ≡ word_of 0x100 (pos a -ℤ pos b -ℤ pos (flag_number borrow))
-unfolding subtracted shown told
+unfolding subtracted shown reported
 value_of_difference a b borrow = refl
 
 whole_difference : (a b : ℕ) (borrow : Bool) → a < 0x100 → b < 0x100

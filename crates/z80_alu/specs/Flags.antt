@@ -30,9 +30,9 @@ abbrev pub sign : ℕ → Bool
 sign value = nat_le 0x80 value
 
 -- a value with these flags
-unfoldable pub told : ℕ → Flags80 → Out80
-told value flags = record { value = value; f = byte_of flags }
+unfoldable pub reported : ℕ → Flags80 → Out80
+reported value flags = record { value = value; f = byte_of flags }
 
 -- a value with S and Z by it
 unfoldable pub shown : ℕ → Bool → Bool → Bool → Bool → Out80
-shown value h pv n c = told value (record { s = sign value; z = value == 0; h = h; pv = pv; n = n; c = c })
+shown value h pv n c = reported value (record { s = sign value; z = value == 0; h = h; pv = pv; n = n; c = c })

@@ -4,7 +4,7 @@ use Rattle.std.specs.Prelude.{ℕ, ◌+◌, ◌*◌, ◌/◌, ◌%◌, Bool, fal
 use Rattle.md_word.specs.Coding.{flag_number}
 use Rattle.z80_alu.specs.declared.flags80.Flags80.{Flags80}
 use Rattle.z80_alu.specs.declared.out80.Out80.{Out80}
-use Rattle.z80_alu.specs.Flags.{parity, shown, told}
+use Rattle.z80_alu.specs.Flags.{parity, shown, reported}
 
 -- to the left, with this bit coming in on the right; bit 7 goes out
 abbrev pub left : ℕ → Bool → ℕ
@@ -24,7 +24,7 @@ shifted value out = shown value false (parity value) false out
 
 -- the same of the accumulator's rotates: S, Z and P/V as they were
 unfoldable pub turned : ℕ → Bool → Flags80 → Out80
-turned value out flags = told value (record flags { h = false; n = false; c = out })
+turned value out flags = reported value (record flags { h = false; n = false; c = out })
 
 -- a with another low digit. RLD and RRD: the accumulator's low digit, the byte's upper and its
 -- lower change places. Of RLD the upper comes into the accumulator, of RRD the lower

@@ -4,7 +4,7 @@ ghost use Rattle.md_word.specs.Width.{word_of};
 ghost use Rattle.z80_alu.specs.Arithmetic as arithmetic;
 ghost use Rattle.z80_alu.specs.Flags as flags;
 
-use crate::out80::told;
+use crate::out80::reported;
 use crate::{Flags80, Out80};
 use md_word::Size;
 
@@ -14,7 +14,7 @@ use md_word::Size;
 pub fn shown(value: u8, h: bool, pv: bool, n: bool, c: bool) -> Out80
     ensures { result ≡ flags.shown value h pv n c }
 {
-    told(
+    reported(
         value,
         Flags80 {
             s: value >= 0x80,

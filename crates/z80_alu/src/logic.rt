@@ -3,7 +3,7 @@ ghost use Rattle.z80_alu.specs.Flags as flags;
 ghost use Rattle.z80_alu.specs.Logic as logic;
 
 use crate::arithmetic::shown;
-use crate::out80::told;
+use crate::out80::reported;
 use crate::{Bit, Flags80, Out80};
 
 /// Whether the number of ones is even.
@@ -35,7 +35,7 @@ pub fn read_in(value: u8, flags: Flags80) -> Out80
 pub fn complemented(a: u8, flags: Flags80) -> Out80
     ensures { result ≡ logic.complemented a flags }
 {
-    told(
+    reported(
         0xff - a,
         Flags80 {
             h: true,
@@ -50,7 +50,7 @@ pub fn complemented(a: u8, flags: Flags80) -> Out80
 pub fn carry_set(a: u8, flags: Flags80) -> Out80
     ensures { result ≡ logic.carry_set a flags }
 {
-    told(
+    reported(
         a,
         Flags80 {
             h: false,
@@ -66,7 +66,7 @@ pub fn carry_set(a: u8, flags: Flags80) -> Out80
 pub fn carry_changed(a: u8, flags: Flags80) -> Out80
     ensures { result ≡ logic.carry_changed a flags }
 {
-    told(
+    reported(
         a,
         Flags80 {
             h: flags.c,
@@ -99,7 +99,7 @@ fn worth(bit: Bit) -> u8
 pub fn bit_tested(bit: Bit, b: u8, flags: Flags80) -> Out80
     ensures { result ≡ logic.bit_tested bit b flags }
 {
-    told(
+    reported(
         b,
         Flags80 {
             z: b / worth(bit) % 2 == 0,

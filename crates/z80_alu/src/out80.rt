@@ -1,5 +1,5 @@
 ghost use Rattle.std.specs.Prelude.{◌≡◌};
-ghost use Rattle.z80_alu.specs.Flags.{told};
+ghost use Rattle.z80_alu.specs.Flags.{reported};
 
 use crate::Flags80;
 
@@ -14,9 +14,9 @@ pub struct Out80 {
 
 /// A value with these flags.
 #[inline(always)]
-#[tactic(auto, unfolding(crate::specs::Flags::told))]
-pub fn told(value: u8, flags: Flags80) -> Out80
-    ensures { result ≡ told value flags }
+#[tactic(auto, unfolding(crate::specs::Flags::reported))]
+pub fn reported(value: u8, flags: Flags80) -> Out80
+    ensures { result ≡ reported value flags }
 {
     Out80 {
         value,

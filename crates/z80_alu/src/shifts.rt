@@ -3,7 +3,7 @@ ghost use Rattle.z80_alu.specs.Shifts as shifts;
 
 use crate::arithmetic::shown;
 use crate::logic::parity;
-use crate::out80::told;
+use crate::out80::reported;
 use crate::{Flags80, Out80};
 
 /// A byte shifted to the left, with the bit that comes in.
@@ -35,7 +35,7 @@ pub fn shifted(value: u8, out: bool) -> Out80
 pub fn turned(value: u8, out: bool, flags: Flags80) -> Out80
     ensures { result ≡ shifts.turned value out flags }
 {
-    told(
+    reported(
         value,
         Flags80 {
             h: false,

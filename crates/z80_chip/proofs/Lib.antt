@@ -1,5 +1,5 @@
 pub mod Ahead
-pub mod Foresight
+pub mod Prediction
 pub mod Kept
 pub mod Laws
 pub mod Recent

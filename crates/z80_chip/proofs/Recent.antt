@@ -121,7 +121,7 @@ begun_rules at v pins ok kind below =
 
 is_answered : (request : Request80) (answer : AnswerValue80) → Fits (request_value80_of request) answer → is_answer (need_of (Err request)) (value_in answer) ≡ true
 is_answered (requests.Read at) answer fits = refl
-is_answered (requests.Write at value) (Byte told) fits = absurd fits
+is_answered (requests.Write at value) (Byte reported) fits = absurd fits
 is_answered (requests.Write at value) Nothing fits = refl
 is_answered (requests.Write at value) (Returned store) fits = absurd fits
 is_answered (requests.Yield parcel) answer fits = refl

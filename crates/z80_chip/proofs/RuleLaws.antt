@@ -8,7 +8,7 @@ use Rattle.md_fields.specs.Distances.{is_after}
 use Rattle.md_fields.specs.Fields.{AllHold, AreWithin, spelling}
 use Rattle.md_fields.specs.Items.{IsRight}
 use Rattle.md_fields.proofs.Distances.{is_after_by}
-use Rattle.md_fields.proofs.Items.{none_wrong}
+use Rattle.md_fields.proofs.Items.{none_invalid}
 use Rattle.md_fields.proofs.Padding.{padded_length, padded_zeros}
 use Rattle.md_word.specs.declared.sub_bus.Request80.{Request80}
 use Rattle.md_word.specs.declared.sub_bus.Request80.TheVariants as requests
@@ -208,7 +208,7 @@ holding at v ok rules late =
 
 right_to : (at : ℕ) (v : Chip80Value) → IsChip80 v → HasRules v.cart at v.state → at ≤ v.state.next → IsRight (chip_fields v.cart at) (kept_of v.state)
 right_to at v ok rules late =
-    none_wrong 0 (chip_fields v.cart at (kept_of v.state))
+    none_invalid 0 (chip_fields v.cart at (kept_of v.state))
     (subst (λ (b : Bool). AllHold (fields_by at b (kept_of v.state))) (sym (asks_to v.cart at v ok rules)) (holding at v ok rules late))
 
 -- ---- what is spelled is read again

@@ -6,7 +6,7 @@ use Rattle.std.proofs.lemmas.List.{length-take, nil_from_length}
 use Rattle.std.proofs.Math.Seq.{take-length}
 use Rattle.md_word.specs.declared.sub_bus.Request80.{Request80}
 use Rattle.md_fields.specs.Distances.{is_after, is_soon}
-use Rattle.md_fields.specs.Fields.{AllHold, first_wrong}
+use Rattle.md_fields.specs.Fields.{AllHold, first_invalid}
 use Rattle.md_fields.specs.Padding.{are_zeros}
 use Rattle.md_fields.specs.Places.{Stand}
 use Rattle.md_fields.proofs.Distances.{after_is}
@@ -141,7 +141,7 @@ pub record Rules (at : ℕ) (holds : Bool) (k : Kept80) : Type 0 where
   pub holder : is_holder (is_some k.store) k.numbers ≡ true
   pub store : AllHold (store_fields holds k.store)
 
-pub rules_of : (at : ℕ) (holds : Bool) (k : Kept80) → first_wrong 0 (fields_by at holds k) ≡ None → Rules at holds k
+pub rules_of : (at : ℕ) (holds : Bool) (k : Kept80) → first_invalid 0 (fields_by at holds k) ≡ None → Rules at holds k
 unfolding AllHold
 rules_of at holds k right =
     let h0 = rules_hold 0 (fields_by at holds k) right in

@@ -4,7 +4,7 @@ use Rattle.std.specs.Int.{w16}
 use Rattle.std.proofs.Math.Bool.{and-false}
 use Rattle.std.proofs.lemmas.Bool.{ltb-true, eqb-true}
 use Rattle.std.proofs.lemmas.List.{length-take, length-drop}
-use Rattle.md_fields.specs.Fields.{AllHold, AreSized, AreWithin, Field, first_wrong, or_else, sizes, spelling}
+use Rattle.md_fields.specs.Fields.{AllHold, AreSized, AreWithin, Field, first_invalid, or_else, sizes, spelling}
 use Rattle.md_fields.specs.Items.{IsRight, Keeps}
 use Rattle.md_fields.specs.Places.{IsBytes, Stand, number_at}
 use Rattle.md_fields.proofs.Items.{kept, same}
@@ -12,7 +12,7 @@ use Rattle.md_fields.proofs.Standing.{long_as, long_as_sized}
 use Rattle.z80_parcel.specs.Parcels.{IsStore, Store, banks, ram_size}
 use Rattle.z80_parcel.specs.Spelling.{store_fields}
 use Rattle.z80_chip.specs.Saved.{Kept80, asks_more, chip_fields, fields_by, is_bank_right, kept_of, number_fields, numbers_of, state_from}
-use Rattle.z80_chip.specs.Spelling.{GoesWrongAt, IsLength, IsRead, Spells, bank_offset, chip_bytes, full_size, ram_offset, spelled_size, store_at}
+use Rattle.z80_chip.specs.Spelling.{InvalidAt, IsLength, IsRead, Spells, bank_offset, chip_bytes, full_size, ram_offset, spelled_size, store_at}
 use Rattle.z80_chip.specs.States.{State80}
 use Rattle.z80_chip.specs.declared.saved.Saved80.{Saved80}
 use Rattle.z80_chip.proofs.SavedLaws.{Rules, kept_back, only_one, rules_of, state_again}
@@ -88,60 +88,60 @@ has_store bytes = has_by (eqb (length bytes) ram_offset) (there bytes)
 -- a rule of a number fails
 pub breaks_number : (cart : List ℕ) (at : ℕ) (bytes : List ℕ) (s : Saved80) (place : ℕ) → IsBytes bytes
     → ((holds : Bool) → Stand 0 (fields_by at holds (record { numbers = s; store = store_at bytes })) bytes)
-    → first_wrong 0 (number_fields at (is_some (store_at bytes)) s) ≡ Some place → GoesWrongAt cart at bytes place
+    → first_invalid 0 (number_fields at (is_some (store_at bytes)) s) ≡ Some place → InvalidAt cart at bytes place
 breaks_number cart at bytes s place fits stands e =
     let k : Kept80 = record { numbers = s; store = store_at bytes } in
     inr (record {
       saved = k;
       keeps = kept (chip_fields cart at) bytes k fits (stands (asks_more cart k));
       first = first_append 0 (number_fields at (is_some k.store) s) (store_fields (asks_more cart k) k.store)
-          ∙ ap (λ (f : Option ℕ). or_else f (first_wrong (0 + sizes (number_fields at (is_some k.store) s)) (store_fields (asks_more cart k) k.store))) e;
+          ∙ ap (λ (f : Option ℕ). or_else f (first_invalid (0 + sizes (number_fields at (is_some k.store) s)) (store_fields (asks_more cart k) k.store))) e;
     })
 
-wrong_behind : (at : ℕ) (holds : Bool) (s : Saved80) (store : Option Store) → first_wrong 0 (number_fields at (is_some store) s) ≡ None
-    → first_wrong 0 (fields_by at holds (record { numbers = s; store = store })) ≡ first_wrong ram_offset (store_fields holds store)
-wrong_behind at holds s store e =
+invalid_completion : (at : ℕ) (holds : Bool) (s : Saved80) (store : Option Store) → first_invalid 0 (number_fields at (is_some store) s) ≡ None
+    → first_invalid 0 (fields_by at holds (record { numbers = s; store = store })) ≡ first_invalid ram_offset (store_fields holds store)
+invalid_completion at holds s store e =
     first_append 0 (number_fields at (is_some store) s) (store_fields holds store)
-    ∙ ap (λ (f : Option ℕ). or_else f (first_wrong (0 + sizes (number_fields at (is_some store) s)) (store_fields holds store))) e
-    ∙ ap (λ (n : ℕ). first_wrong (0 + n) (store_fields holds store)) (number_size at (is_some store) s)
+    ∙ ap (λ (f : Option ℕ). or_else f (first_invalid (0 + sizes (number_fields at (is_some store) s)) (store_fields holds store))) e
+    ∙ ap (λ (n : ℕ). first_invalid (0 + n) (store_fields holds store)) (number_size at (is_some store) s)
 
 -- RAM's rule is not looked at over a wrong bank register, or where there is no RAM
 asks_none : (cart : List ℕ) (k : Kept80) → is_bank_right k.store ≡ false → asks_more cart k ≡ true
 asks_none cart k e =
     rw (e, and-false (eqb k.numbers.stage 1)) refl
 
-bank_wrong : (holds : Bool) (store : Store) → holds ≡ true → ltb store.bank banks ≡ false → first_wrong ram_offset (store_fields holds (Some store)) ≡ Some bank_offset
-unfolding first_wrong
-bank_wrong true store h e = rw e refl
-bank_wrong false store h e = absurd cc
+bank_invalid : (holds : Bool) (store : Store) → holds ≡ true → ltb store.bank banks ≡ false → first_invalid ram_offset (store_fields holds (Some store)) ≡ Some bank_offset
+unfolding first_invalid
+bank_invalid true store h e = rw e refl
+bank_invalid false store h e = absurd cc
 
 -- the bank register is wrong
 pub breaks_bank : (cart : List ℕ) (at : ℕ) (bytes : List ℕ) (s : Saved80) → IsBytes bytes
     → ((holds : Bool) → Stand 0 (fields_by at holds (record { numbers = s; store = store_at bytes })) bytes)
-    → first_wrong 0 (number_fields at (is_some (store_at bytes)) s) ≡ None
-    → eqb (length bytes) ram_offset ≡ false → ltb (number_at w16 bank_offset bytes) banks ≡ false → GoesWrongAt cart at bytes bank_offset
-breaks_bank cart at bytes s fits stands e long wrong =
+    → first_invalid 0 (number_fields at (is_some (store_at bytes)) s) ≡ None
+    → eqb (length bytes) ram_offset ≡ false → ltb (number_at w16 bank_offset bytes) banks ≡ false → InvalidAt cart at bytes bank_offset
+breaks_bank cart at bytes s fits stands e long invalid =
     let k : Kept80 = record { numbers = s; store = store_at bytes } in
     let is : store_at bytes ≡ Some (there bytes) = ap (λ (b : Bool). cond b None (Some (there bytes))) long in
-    let none : asks_more cart k ≡ true = asks_none cart k (ap is_bank_right is ∙ wrong) in
+    let none : asks_more cart k ≡ true = asks_none cart k (ap is_bank_right is ∙ invalid) in
     inr (record {
       saved = k;
       keeps = kept (chip_fields cart at) bytes k fits (stands (asks_more cart k));
-      first = wrong_behind at (asks_more cart k) s (store_at bytes) e
-          ∙ ap (λ (o : Option Store). first_wrong ram_offset (store_fields (asks_more cart k) o)) is
-          ∙ bank_wrong (asks_more cart k) (there bytes) none wrong;
+      first = invalid_completion at (asks_more cart k) s (store_at bytes) e
+          ∙ ap (λ (o : Option Store). first_invalid ram_offset (store_fields (asks_more cart k) o)) is
+          ∙ bank_invalid (asks_more cart k) (there bytes) none invalid;
     })
 
-right_by : (short : Bool) (store : Store) → (short ≡ false → ltb store.bank banks ≡ true) → first_wrong ram_offset (store_fields true (cond short None (Some store))) ≡ None
-unfolding first_wrong
+right_by : (short : Bool) (store : Store) → (short ≡ false → ltb store.bank banks ≡ true) → first_invalid ram_offset (store_fields true (cond short None (Some store))) ≡ None
+unfolding first_invalid
 right_by true store h = refl
 right_by false store h = rw (h refl) refl
 
 -- all rules hold but RAM's
-pub right_numbers : (at : ℕ) (bytes : List ℕ) (s : Saved80) → first_wrong 0 (number_fields at (is_some (store_at bytes)) s) ≡ None
+pub right_numbers : (at : ℕ) (bytes : List ℕ) (s : Saved80) → first_invalid 0 (number_fields at (is_some (store_at bytes)) s) ≡ None
     → (eqb (length bytes) ram_offset ≡ false → ltb (number_at w16 bank_offset bytes) banks ≡ true)
-    → first_wrong 0 (fields_by at true (record { numbers = s; store = store_at bytes })) ≡ None
-right_numbers at bytes s e h = wrong_behind at true s (store_at bytes) e ∙ right_by (eqb (length bytes) ram_offset) (there bytes) h
+    → first_invalid 0 (fields_by at true (record { numbers = s; store = store_at bytes })) ≡ None
+right_numbers at bytes s e h = invalid_completion at true s (store_at bytes) e ∙ right_by (eqb (length bytes) ram_offset) (there bytes) h
 
 -- ---- what is read
 
@@ -166,23 +166,23 @@ pub read_keeps : (cart : List ℕ) (at : ℕ) (bytes : List ℕ) (s : Saved80) �
 read_keeps cart at bytes s fits is = kept (chip_fields cart at) bytes (read_of bytes s) fits (is.stands (asks_more cart (read_of bytes s)))
 
 pub read_right : (cart : List ℕ) (at : ℕ) (bytes : List ℕ) (s : Saved80) → IsRead at bytes s → asks_more cart (read_of bytes s) ≡ true → IsRight (chip_fields cart at) (read_of bytes s)
-read_right cart at bytes s is asks = subst (λ (b : Bool). first_wrong 0 (fields_by at b (read_of bytes s)) ≡ None) (sym asks) is.right
+read_right cart at bytes s is asks = subst (λ (b : Bool). first_invalid 0 (fields_by at b (read_of bytes s)) ≡ None) (sym asks) is.right
 
-ram_wrong : (cart : List ℕ) (s : Saved80) (store : Option Store) → asks_more cart (record { numbers = s; store = store }) ≡ false
-    → first_wrong ram_offset (store_fields (asks_more cart (record { numbers = s; store = store })) store) ≡ Some ram_offset
-unfolding first_wrong
-ram_wrong cart s None e = absurd (let t = asks_none cart (record { numbers = s; store = None }) refl in cc)
-ram_wrong cart s (Some store) e = rw e refl
+ram_invalid : (cart : List ℕ) (s : Saved80) (store : Option Store) → asks_more cart (record { numbers = s; store = store }) ≡ false
+    → first_invalid ram_offset (store_fields (asks_more cart (record { numbers = s; store = store })) store) ≡ Some ram_offset
+unfolding first_invalid
+ram_invalid cart s None e = absurd (let t = asks_none cart (record { numbers = s; store = None }) refl in cc)
+ram_invalid cart s (Some store) e = rw e refl
 
 -- RAM's rule fails
-pub breaks_ram : (cart : List ℕ) (at : ℕ) (bytes : List ℕ) (s : Saved80) → IsBytes bytes → IsRead at bytes s → asks_more cart (read_of bytes s) ≡ false → GoesWrongAt cart at bytes ram_offset
+pub breaks_ram : (cart : List ℕ) (at : ℕ) (bytes : List ℕ) (s : Saved80) → IsBytes bytes → IsRead at bytes s → asks_more cart (read_of bytes s) ≡ false → InvalidAt cart at bytes ram_offset
 breaks_ram cart at bytes s fits is asks =
     let k : Kept80 = read_of bytes s in
     let parts = none_of 0 (number_fields at (is_some k.store) s) (store_fields true k.store) is.right in
     inr (record {
       saved = k;
       keeps = read_keeps cart at bytes s fits is;
-      first = wrong_behind at (asks_more cart k) s k.store parts.0 ∙ ram_wrong cart s k.store asks;
+      first = invalid_completion at (asks_more cart k) s k.store parts.0 ∙ ram_invalid cart s k.store asks;
     })
 
 -- ---- what bytes keep
@@ -211,19 +211,19 @@ no_length n false e short long = short e
 long_kept : (cart : List ℕ) (at : ℕ) (bytes : List ℕ) (k : Kept80) → Keeps (chip_fields cart at) bytes k → length bytes ≡ spelled_size (is_some k.store)
 long_kept cart at bytes k keeps = ap length keeps.all ∙ long_as (chip_fields cart at k) keeps.within ∙ size_by at (asks_more cart k) k.numbers k.store
 
-pub right_not_refused : (cart : List ℕ) (at : ℕ) (bytes : List ℕ) (k : Kept80) (place : ℕ) → Keeps (chip_fields cart at) bytes k → IsRight (chip_fields cart at) k → GoesWrongAt cart at bytes place → ⊥
-right_not_refused cart at bytes k place keeps right (inl wrong) = no_length (length bytes) (is_some k.store) (long_kept cart at bytes k keeps) wrong.0 wrong.1
+pub right_not_refused : (cart : List ℕ) (at : ℕ) (bytes : List ℕ) (k : Kept80) (place : ℕ) → Keeps (chip_fields cart at) bytes k → IsRight (chip_fields cart at) k → InvalidAt cart at bytes place → ⊥
+right_not_refused cart at bytes k place keeps right (inl invalid) = no_length (length bytes) (is_some k.store) (long_kept cart at bytes k keeps) invalid.0 invalid.1
 right_not_refused cart at bytes k place keeps right (inr b) =
     let e : k ≡ b.saved = same (chip_fields cart at) bytes (only_one cart at bytes) k b.saved keeps b.keeps in
-    let e2 : first_wrong 0 (chip_fields cart at k) ≡ Some place = ap (λ (x : Kept80). first_wrong 0 (chip_fields cart at x)) e ∙ b.first in
+    let e2 : first_invalid 0 (chip_fields cart at k) ≡ Some place = ap (λ (x : Kept80). first_invalid 0 (chip_fields cart at x)) e ∙ b.first in
     absurd cc
 
-pub only_place : (cart : List ℕ) (at : ℕ) (bytes : List ℕ) (p q : ℕ) → GoesWrongAt cart at bytes p → GoesWrongAt cart at bytes q → p ≡ q
+pub only_place : (cart : List ℕ) (at : ℕ) (bytes : List ℕ) (p q : ℕ) → InvalidAt cart at bytes p → InvalidAt cart at bytes q → p ≡ q
 only_place cart at bytes p q (inl a) (inl b) = a.2 ∙ sym b.2
 only_place cart at bytes p q (inl a) (inr b) = absurd (no_length (length bytes) (is_some b.saved.store) (long_kept cart at bytes b.saved b.keeps) a.0 a.1)
 only_place cart at bytes p q (inr a) (inl b) = absurd (no_length (length bytes) (is_some a.saved.store) (long_kept cart at bytes a.saved a.keeps) b.0 b.1)
 only_place cart at bytes p q (inr a) (inr b) =
     let e : a.saved ≡ b.saved = same (chip_fields cart at) bytes (only_one cart at bytes) a.saved b.saved a.keeps b.keeps in
-    let e2 : first_wrong 0 (chip_fields cart at a.saved) ≡ Some q = ap (λ (x : Kept80). first_wrong 0 (chip_fields cart at x)) e ∙ b.first in
-    let e3 : first_wrong 0 (chip_fields cart at a.saved) ≡ Some p = a.first in
+    let e2 : first_invalid 0 (chip_fields cart at a.saved) ≡ Some q = ap (λ (x : Kept80). first_invalid 0 (chip_fields cart at x)) e ∙ b.first in
+    let e3 : first_invalid 0 (chip_fields cart at a.saved) ≡ Some p = a.first in
     cc

@@ -1,7 +1,7 @@
 -- The bytes of a saved state that keep the Z80. This project's profile.
 use Rattle.std.specs.Prelude.{◌≡◌, ◌≢◌, ℕ, ◌==◌, Bool, true, false, if◌then◌else◌, List, length, take, drop, min, Option, Some, None, ◌⊎◌}
 use Rattle.std.specs.Int.{w16}
-use Rattle.md_fields.specs.Fields.{first_wrong, spelling}
+use Rattle.md_fields.specs.Fields.{first_invalid, spelling}
 use Rattle.md_fields.specs.Items.{Breaks, IsRight, Keeps}
 use Rattle.md_fields.specs.Places.{Stand, number_at}
 use Rattle.z80_parcel.specs.Parcels.{Store, ram_size}
@@ -41,8 +41,8 @@ IsLength bytes = (length bytes ≡ ram_offset) ⊎ (length bytes ≡ full_size)
 
 -- bytes that keep no Z80 are refused at this offset: by their length, or by the first rule that fails.
 -- Of a wrong length the lesser one is the offset, where more than 62 bytes are to be 8,256
-abbrev pub GoesWrongAt : List ℕ → ℕ → List ℕ → ℕ → Type 0
-GoesWrongAt cart at bytes place =
+abbrev pub InvalidAt : List ℕ → ℕ → List ℕ → ℕ → Type 0
+InvalidAt cart at bytes place =
     ((length bytes ≢ ram_offset) × (length bytes ≢ full_size) × (place ≡ min (length bytes) full_size)) ⊎ Breaks (chip_fields cart at) bytes place
 
 -- RAM and bank register as they are in the bytes
@@ -55,4 +55,4 @@ store_at bytes =
 pub record IsRead (at : ℕ) (bytes : List ℕ) (numbers : Saved80) : Type 0 where
   pub sized : IsLength bytes
   pub stands : (holds : Bool) → Stand 0 (fields_by at holds (record { numbers = numbers; store = store_at bytes })) bytes
-  pub right : first_wrong 0 (fields_by at true (record { numbers = numbers; store = store_at bytes })) ≡ None
+  pub right : first_invalid 0 (fields_by at true (record { numbers = numbers; store = store_at bytes })) ≡ None

@@ -5,7 +5,7 @@ ghost use Rattle.md_word.specs.Clock.{cycle_limit};
 ghost use Rattle.md_word.specs.declared.sub_bus.Parcel.{Parcel as Held};
 ghost use Rattle.z80_chip.specs.Events as events;
 ghost use Rattle.z80_chip.specs.Events.{answered, asked_of, carried_out, handed, went_on};
-ghost use Rattle.z80_chip.specs.Foresight.{Foretells, IsForeseen};
+ghost use Rattle.z80_chip.specs.Prediction.{PredictsEnd, IsPredicted};
 ghost use Rattle.z80_chip.specs.States.{State80, state_of};
 ghost use Rattle.z80_chip.specs.declared.stage.Stage.TheVariants as stages;
 ghost use Rattle.z80_parcel.specs.Parcels.{Store, store_of};
@@ -31,10 +31,10 @@ impl Sequencer {
         progress: &mut Progress80,
     ) -> Request80
         requires access { events.Waits self.old.stage cart.now (state_of self.old parcel.old) }
-        requires foreseen { IsForeseen self.old.stage cart.now (state_of self.old parcel.old) self.old.behind }
+        requires predicted { IsPredicted self.old.stage cart.now (state_of self.old parcel.old) self.old.completion }
         ensures request { request_value80_of result ≡ asked_of cart.now (state_of self.old parcel.old) }
         ensures state { state_of self.new parcel.new ≡ handed (state_of self.old parcel.old) }
-        ensures foreseen { IsForeseen self.new.stage cart.now (state_of self.new parcel.new) self.new.behind }
+        ensures predicted { IsPredicted self.new.stage cart.now (state_of self.new parcel.new) self.new.completion }
     {
         match self.stage {
             Stage::Access => self.waiting(cart, parcel, progress),
@@ -52,12 +52,12 @@ impl Sequencer {
     ) -> Request80
         requires ram { IsSome parcel.now }
         requires asked { events.Asks cart.now (state_of self.old parcel.now) }
-        requires foretells { Foretells self.old.behind cart.now (state_of self.old parcel.now) self.old.cause }
+        requires predicts_end { PredictsEnd self.old.completion cart.now (state_of self.old parcel.now) self.old.cause }
         ensures request { request_value80_of result ≡ events.asked_in (carried_out cart.now (state_of self.old parcel.now) self.old.cause) }
         ensures state { self.new ≡ self.old }
     {
-        if self.behind.end.known {
-            return Request80::Write(self.behind.address, self.behind.value);
+        if self.completion.end.known {
+            return Request80::Write(self.completion.address, self.completion.value);
         }
         match parcel {
             None => Request80::Take,
@@ -88,8 +88,8 @@ impl Sequencer {
         requires start { self.old.start < cycle_limit }
         requires few { array_vec_len self.old.answers < 4 }
         requires ram { events.HasRam self.old.stage (state_of self.old parcel.old) }
-        requires foreseen { IsForeseen self.old.stage cart.now (state_of self.old parcel.old) self.old.behind }
-        ensures foreseen { IsForeseen self.new.stage cart.now (state_of self.new parcel.new) self.new.behind }
+        requires predicted { IsPredicted self.old.stage cart.now (state_of self.old parcel.old) self.old.completion }
+        ensures predicted { IsPredicted self.new.stage cart.now (state_of self.new parcel.new) self.new.completion }
         ensures state { state_of self.new parcel.new ≡ answered cart.now (state_of self.old parcel.old) (answer_value80_of answer) }
     {
         match self.stage {
@@ -114,12 +114,12 @@ impl Sequencer {
         requires start { self.old.start < cycle_limit }
         requires few { array_vec_len self.old.answers < 4 }
         requires ram { IsSome parcel.old }
-        requires foretells { Foretells self.old.behind cart.now (state_of self.old parcel.old) self.old.cause }
+        requires predicts_end { PredictsEnd self.old.completion cart.now (state_of self.old parcel.old) self.old.cause }
         ensures state { state_of self.new parcel.new ≡ events.went_on_with cart.now (state_of self.old parcel.old) value }
-        ensures foreseen { IsForeseen self.new.stage cart.now (state_of self.new parcel.new) self.new.behind }
+        ensures predicted { IsPredicted self.new.stage cart.now (state_of self.new parcel.new) self.new.completion }
     {
-        if self.behind.end.known {
-            self.end_foreseen();
+        if self.completion.end.known {
+            self.end_predicted();
             return;
         }
         self.answers.push(value);

@@ -27,7 +27,7 @@ pub struct Chip80 {
 
 impl Model for Chip80 {
     ghost use Rattle.std.specs.Arc.{arc_value};
-    ghost use Rattle.z80_chip.specs.Foresight.{IsHeld};
+    ghost use Rattle.z80_chip.specs.Prediction.{IsHeld};
     ghost use Rattle.z80_chip.specs.Validity.{Chip80Value};
     ghost use Rattle.z80_chip.specs.States.{state_of};
 
@@ -35,7 +35,7 @@ impl Model for Chip80 {
 
     ghost view = { λ chip. record { cart = arc_value chip.cart; state = state_of chip.sequencer chip.parcel } };
 
-    ghost invariant = { λ chip. IsHeld (record { cart = arc_value chip.cart; state = state_of chip.sequencer chip.parcel }) chip.sequencer.behind };
+    ghost invariant = { λ chip. IsHeld (record { cart = arc_value chip.cart; state = state_of chip.sequencer chip.parcel }) chip.sequencer.completion };
 }
 
 impl Chip80 {

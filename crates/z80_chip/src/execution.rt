@@ -4,7 +4,7 @@ ghost use Rattle.md_word.specs.Clock.{cycle_limit};
 ghost use Rattle.md_word.specs.declared.sub_bus.Parcel.{Parcel as Held};
 ghost use Rattle.z80_chip.specs.Events as events;
 ghost use Rattle.z80_chip.specs.Events.{carried_out, went_on};
-ghost use Rattle.z80_chip.specs.Foresight.{Foretells, IsForeseen};
+ghost use Rattle.z80_chip.specs.Prediction.{PredictsEnd, IsPredicted};
 ghost use Rattle.z80_chip.specs.States.{State80, state_of};
 ghost use Rattle.z80_chip.specs.declared.stage.Stage.TheVariants as stages;
 ghost use Rattle.z80_exec.specs.Access.Clauses.{done_of};
@@ -15,7 +15,7 @@ use crate::stage::Stage;
 use md_word::Parcel;
 use md_word::clock::SUB_CLOCK;
 use rom_header::Cart;
-use z80_exec::{DecodeCache80, Finish80, Progress80, Step80, foresee};
+use z80_exec::{DecodeCache80, Finish80, Progress80, Step80, predict};
 use z80_parcel::store_bytes;
 
 impl Sequencer {
@@ -23,7 +23,7 @@ impl Sequencer {
     fn ask(&mut self, cause: u8)
         requires { self.old.start < cycle_limit }
         ensures state { (parcel : Option Held) → state_of self.new parcel ≡ events.asking (state_of self.old parcel) cause }
-        ensures behind { self.new.behind ≡ self.old.behind }
+        ensures completion { self.new.completion ≡ self.old.completion }
     {
         self.next = self.start + FIRST_STEP + STEP * self.answers.len() as u64;
         self.stage = Stage::Access;
@@ -46,15 +46,15 @@ impl Sequencer {
     }
 
     /// Ends what was carried out as it was predicted.
-    pub fn end_foreseen(&mut self)
+    pub fn end_predicted(&mut self)
         requires start { self.old.start < cycle_limit }
-        requires t { self.old.behind.end.finish.t ≤ 23 }
+        requires t { self.old.completion.end.finish.t ≤ 23 }
         ensures state { (parcel : Option Held) → state_of self.new parcel
-            ≡ events.ended_at (record (state_of self.old parcel) { regs = self.old.behind.end.regs }) self.old.behind.end.finish }
+            ≡ events.ended_at (record (state_of self.old parcel) { regs = self.old.completion.end.regs }) self.old.completion.end.finish }
         ensures stage { self.new.stage ≡ stages.Sample }
     {
-        self.regs = self.behind.end.regs;
-        let finish = self.behind.end.finish;
+        self.regs = self.completion.end.regs;
+        let finish = self.completion.end.finish;
         self.finish(&finish);
     }
 
@@ -70,12 +70,12 @@ impl Sequencer {
     ) -> Option<Finish80>
         ensures value { events.ended_by result self.new.regs (done_of progress.new)
             ≡ events.ended_in (carried_out cart.now (state_of self.old (Some parcel.now)) cause) }
-        ensures kept { result ≡ None → self.new ≡ record self.old { behind = self.new.behind } }
-        ensures others { self.new ≡ record self.old { regs = self.new.regs; behind = self.new.behind } }
-        ensures foretells { result ≡ None → Foretells self.new.behind cart.now (state_of self.old (Some parcel.now)) cause }
+        ensures kept { result ≡ None → self.new ≡ record self.old { completion = self.new.completion } }
+        ensures others { self.new ≡ record self.old { regs = self.new.regs; completion = self.new.completion } }
+        ensures predicts_end { result ≡ None → PredictsEnd self.new.completion cart.now (state_of self.old (Some parcel.now)) cause }
         ensures most { IfSome result (λ finish. finish.t ≤ 23) }
     {
-        match foresee(
+        match predict(
             &mut self.regs,
             cart,
             parcel,
@@ -83,10 +83,10 @@ impl Sequencer {
             cause,
             cache,
             progress,
-            &mut self.behind.end,
+            &mut self.completion.end,
         ) {
             Step80::Need(request) => {
-                self.behind.keep(&request);
+                self.completion.keep(&request);
                 None
             }
             Step80::Done(finish) => Some(finish),
@@ -105,7 +105,7 @@ impl Sequencer {
     )
         requires { self.old.start < cycle_limit }
         ensures state { state_of self.new (Some parcel.new) ≡ went_on cart.now (state_of self.old (Some parcel.old)) cause }
-        ensures foreseen { IsForeseen self.new.stage cart.now (state_of self.new (Some parcel.new)) self.new.behind }
+        ensures predicted { IsPredicted self.new.stage cart.now (state_of self.new (Some parcel.new)) self.new.completion }
     {
         match self.step(cause, cart, parcel, cache, progress) {
             None => self.ask(cause),
@@ -129,7 +129,7 @@ impl Sequencer {
         requires start { self.old.start < cycle_limit }
         requires ram { IsSome parcel.old }
         ensures state { state_of self.new parcel.new ≡ went_on cart.now (state_of self.old parcel.old) cause }
-        ensures foreseen { IsForeseen self.new.stage cart.now (state_of self.new parcel.new) self.new.behind }
+        ensures predicted { IsPredicted self.new.stage cart.now (state_of self.new parcel.new) self.new.completion }
     {
         if let Some(parcel) = parcel {
             self.go_on(cause, cart, parcel, cache, progress);

@@ -3,9 +3,9 @@
 #![tactic(auto)]
 
 mod accesses;
-mod behind;
 mod case;
 mod chip;
+mod completion;
 mod execution;
 mod known;
 mod need;

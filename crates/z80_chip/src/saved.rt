@@ -6,7 +6,7 @@ ghost use Rattle.z80_chip.specs.Saved as rules;
 ghost use Rattle.z80_chip.specs.States.{state_of};
 ghost use Rattle.z80_parcel.specs.Parcels.{store_of};
 
-use crate::behind::Behind;
+use crate::completion::Completion;
 use crate::numbers::{ACCESS, four_at, mode_number, mode_of, padded, stage_number, stage_of};
 use crate::resuming::first_answers;
 use crate::sequencer::{FIRST_STEP, STEP, Sequencer};
@@ -203,7 +203,7 @@ impl Saved80 {
     pub fn sequencer(&self) -> Sequencer
         requires { self.now.count ≤ 4 }
         ensures state { (parcel : Option Held) → state_of result parcel ≡ rules.state_from self.now (option_map store_of parcel) }
-        ensures unknown { result.behind.end.known ≡ false }
+        ensures unknown { result.completion.end.known ≡ false }
     {
         Sequencer {
             regs: self.regs(),
@@ -215,7 +215,7 @@ impl Saved80 {
             resets: self.resets,
             cause: self.cause,
             answers: first_answers(&self.answers, usize::from(self.count)),
-            behind: Behind::nothing(),
+            completion: Completion::nothing(),
         }
     }
 

@@ -6,7 +6,7 @@ ghost use Rattle.z80_chip.specs.declared.stage.Stage.TheVariants as stages;
 ghost use Rattle.z80_chip.specs.States.{State80, no_regs, power_on, state_of};
 ghost use Rattle.z80_parcel.specs.Parcels.{Store, store_of};
 
-use crate::behind::Behind;
+use crate::completion::Completion;
 use crate::stage::Stage;
 use arrayvec::ArrayVec;
 use md_word::clock::SUB_GAP;
@@ -41,7 +41,7 @@ pub struct Sequencer {
     /// What its accesses have answered so far.
     pub answers: ArrayVec<u8, 4>,
     /// What follows the answer to the write that waits, where it is predicted.
-    pub behind: Behind,
+    pub completion: Completion,
 }
 
 impl Sequencer {
@@ -78,7 +78,7 @@ impl Sequencer {
             resets: 0,
             cause: 0,
             answers: ArrayVec::new(),
-            behind: Behind::nothing(),
+            completion: Completion::nothing(),
         }
     }
 

@@ -1,13 +1,13 @@
 ghost use Rattle.std.specs.Prelude.{◌≡◌, ◌≢◌, ◌+◌, ◌≤◌, ◌++◌, ℕ, List, length, true, option_map, is_some, vec_len, vec_capacity, IfErr, IfOk, IfSome, IsErrOf, Ok, Err};
 ghost use Rattle.z80_chip.specs.Rules.{HasRules};
-ghost use Rattle.z80_chip.specs.Spelling.{GoesWrongAt, IsLength, IsRead, Spells, chip_bytes, spelled_size, store_at};
+ghost use Rattle.z80_chip.specs.Spelling.{InvalidAt, IsLength, IsRead, Spells, chip_bytes, spelled_size, store_at};
 ghost use Rattle.z80_chip.specs.States.{State80};
 ghost use Rattle.z80_parcel.specs.Parcels.{IsStore, store_of};
 
 use crate::chip::Chip80;
 use crate::known::{known_counts, known_pairs, known_pointers};
 use crate::saved::Saved80;
-use md_fields::{first_wrong, put, u16_at};
+use md_fields::{first_invalid, put, u16_at};
 use md_word::{NoMemory, Parcel, Unspell};
 use rom_header::Cart;
 use std::alloc::Global;
@@ -67,8 +67,8 @@ impl Chip80 {
         ensures recent { IfOk result (λ chip. HasRules (arc_value cart) at chip.state) }
         ensures only { (state : State80) → Spells (arc_value cart) at bytes.now state → result ≢ Err Unspell.NoMemory
             → result ≡ Ok (record { cart = arc_value cart; state = state }) }
-        ensures rule { (place : ℕ) → IsErrOf result (Unspell.Rule place) → GoesWrongAt (arc_value cart) at bytes.now place }
-        ensures refused { (place : ℕ) → GoesWrongAt (arc_value cart) at bytes.now place → result ≢ Err Unspell.NoMemory
+        ensures rule { (place : ℕ) → IsErrOf result (Unspell.Rule place) → InvalidAt (arc_value cart) at bytes.now place }
+        ensures refused { (place : ℕ) → InvalidAt (arc_value cart) at bytes.now place → result ≢ Err Unspell.NoMemory
             → IsErrOf result (Unspell.Rule place) }
     {
         cart.bytes();
@@ -99,14 +99,14 @@ impl Chip80 {
 /// The error is the offset at which the bytes are refused.
 fn checked(bytes: &[u8], at: u64) -> Result<Saved80, usize>
     ensures found { IfOk result (λ saved. IsRead at bytes.now saved) }
-    ensures refused { IfErr result (λ place. (cart : List ℕ) → GoesWrongAt cart at bytes.now place) }
+    ensures refused { IfErr result (λ place. (cart : List ℕ) → InvalidAt cart at bytes.now place) }
 {
     if bytes.len() != RAM && bytes.len() != LENGTH {
         return Err(bytes.len().min(LENGTH));
     }
     let saved = Saved80::read(bytes);
     let has = bytes.len() != RAM;
-    if let Some(place) = first_wrong(&saved.fields(at, has)) {
+    if let Some(place) = first_invalid(&saved.fields(at, has)) {
         return Err(place);
     }
     if has && u16_at(bytes, BANK) >= BANKS {

@@ -7,7 +7,7 @@ use Rattle.md_word.specs.Coding.{flag_number}
 use Rattle.md_word.specs.Width.{word_of}
 use Rattle.z80_alu.proofs.FlagBits.{flags_of-byte}
 use Rattle.z80_alu.specs.Arithmetic.{compared, subtracted}
-use Rattle.z80_alu.specs.Flags.{flags_of, shown, sign, told}
+use Rattle.z80_alu.specs.Flags.{flags_of, shown, sign, reported}
 use Rattle.z80_alu.specs.declared.flags80.Flags80.{Flags80}
 use Rattle.z80_exec.specs.Access.Conditions.{holds}
 use Rattle.z80_exec.specs.Laws.{ConditionsCompare, f_after}
@@ -33,15 +33,15 @@ flags : ℕ → ℕ → ℕ → Flags80
 flags a b f = flags_of (f_after a b f)
 
 zero : (a b f : ℕ) → (flags a b f).z ≡ (difference a b == 0)
-unfolding flags compared subtracted shown told
+unfolding flags compared subtracted shown reported
 zero a b f = ap (λ (flags : Flags80). flags.z) (flags_of-byte _)
 
 carry : (a b f : ℕ) → (flags a b f).c ≡ nat_lt a (b + flag_number false)
-unfolding flags compared subtracted shown told
+unfolding flags compared subtracted shown reported
 carry a b f = ap (λ (flags : Flags80). flags.c) (flags_of-byte _)
 
 negative : (a b f : ℕ) → (flags a b f).s ≡ sign (difference a b)
-unfolding flags compared subtracted shown told
+unfolding flags compared subtracted shown reported
 negative a b f = ap (λ (flags : Flags80). flags.s) (flags_of-byte _)
 
 pub compares : (a b f : ℕ) → a < 0x100 → b < 0x100 → ConditionsCompare a b f

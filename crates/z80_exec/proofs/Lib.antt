@@ -1,6 +1,6 @@
 pub mod Bounds
 pub mod Caches
 pub mod Compares
-pub mod Foresight
+pub mod Prediction
 pub mod Meaning
 pub mod Refresh

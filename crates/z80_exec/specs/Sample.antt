@@ -3,6 +3,6 @@ pub mod Bounds
 pub mod Caches
 pub mod Entries
 pub mod Execution
-pub mod Foresight
+pub mod Prediction
 pub mod Samples
 pub mod Times

@@ -8,10 +8,10 @@ mod regs80;
 mod rows;
 mod sample;
 
-use access::view::Around;
+use access::view::Context;
 pub use access::view::Progress80;
 use access::waiting::Waiting;
 pub use regs80::Regs80;
 pub use sample::cache::DecodeCache80;
-pub use sample::step::{Finish80, Foreseen80, Step80};
-pub use sample::{foresee, go};
+pub use sample::step::{Finish80, Predicted80, Step80};
+pub use sample::{go, predict};

@@ -3,10 +3,10 @@ ghost use Rattle.arrayvec.specs.ArrayVec.{array_vec_len};
 ghost use Rattle.z80_exec.specs.Access.Clauses.{done_of, memory_of};
 ghost use Rattle.z80_exec.specs.Access.Memory.{instruction_bytes};
 ghost use Rattle.z80_exec.specs.Sample.Caches.{IsInstructionOf};
-ghost use Rattle.z80_exec.specs.Sample.Foresight.{EndsForeseen};
+ghost use Rattle.z80_exec.specs.Sample.Prediction.{EndsPredicted};
 ghost use Rattle.z80_exec.specs.Sample.Samples as samples;
 ghost use Rattle.z80_exec.specs.Sample.Times as times;
-ghost use Rattle.z80_exec.specs.Sample.Samples.{CoversAccesses, Keeps, WaitsBelow, WaitsRightly, nothing, told_by};
+ghost use Rattle.z80_exec.specs.Sample.Samples.{CoversAccesses, Keeps, WaitsBelow, WaitsRightly, nothing, reported_by};
 
 pub mod cache;
 mod entry;
@@ -15,7 +15,7 @@ pub mod step;
 mod times;
 
 use crate::access::memory::instruction_bytes;
-use crate::{Around, Finish80, Foreseen80, Progress80, Regs80, Step80};
+use crate::{Context, Finish80, Predicted80, Progress80, Regs80, Step80};
 use arrayvec::ArrayVec;
 use cache::{CachedInstruction, DecodeCache80, cached};
 use entry::enter;
@@ -46,16 +46,16 @@ fn fetch(found: &CachedInstruction, regs: &mut Regs80)
 
 /// Keeps what an instruction results in after the write that waits, where that is known.
 #[inline(never)]
-fn foresee_finish(found: &CachedInstruction, foreseen: &mut Foreseen80)
+fn predict_finish(found: &CachedInstruction, predicted: &mut Predicted80)
     requires { found.now.short ≡ times.time_of found.now.decoded.op false }
-    ensures known { foreseen.new.known ≡ foreseen.old.known }
-    ensures regs { foreseen.new.regs ≡ foreseen.old.regs }
-    ensures time { foreseen.old.known ≡ true → foreseen.new.finish.t ≡ times.time_of found.now.decoded.op false }
-    ensures halted { foreseen.old.known ≡ true → foreseen.new.finish.halted ≡ samples.halts found.now.decoded.op }
-    ensures after_ei { foreseen.old.known ≡ true → foreseen.new.finish.after_ei ≡ samples.is_ei found.now.decoded.op }
+    ensures known { predicted.new.known ≡ predicted.old.known }
+    ensures regs { predicted.new.regs ≡ predicted.old.regs }
+    ensures time { predicted.old.known ≡ true → predicted.new.finish.t ≡ times.time_of found.now.decoded.op false }
+    ensures halted { predicted.old.known ≡ true → predicted.new.finish.halted ≡ samples.halts found.now.decoded.op }
+    ensures after_ei { predicted.old.known ≡ true → predicted.new.finish.after_ei ≡ samples.is_ei found.now.decoded.op }
 {
-    if foreseen.known {
-        foreseen.finish = Finish80 {
+    if predicted.known {
+        predicted.finish = Finish80 {
             t: found.short,
             halted: matches!(found.decoded.op, Op80::Halt),
             after_ei: matches!(found.decoded.op, Op80::EnableInterrupts),
@@ -77,32 +77,32 @@ fn time_of(found: &CachedInstruction, taken: bool) -> u32
 #[tactic(auto, unfolding(crate::specs::Sample::Samples::instruction))]
 fn instruction(
     found: &CachedInstruction,
-    around: &Around,
+    context: &Context,
     regs: &mut Regs80,
     progress: &mut Progress80,
-    foreseen: &mut Foreseen80,
+    predicted: &mut Predicted80,
 ) -> Step80
     requires fresh { done_of progress.old ≡ nothing }
-    requires nothing { foreseen.old.known ≡ false }
+    requires nothing { predicted.old.known ≡ false }
     requires rise { found.now.rise ≤ 2 }
     requires short { found.now.short ≡ times.time_of found.now.decoded.op false }
     requires long { found.now.long ≡ times.time_of found.now.decoded.op true }
-    ensures foreseen { (first : ℕ) → found.now.rise ≡ samples.rise_of found.now.decoded.op first
-        → EndsForeseen result foreseen.new (samples.instruction found.now.decoded first regs.old) (memory_of around.now) }
+    ensures predicted { (first : ℕ) → found.now.rise ≡ samples.rise_of found.now.decoded.op first
+        → EndsPredicted result predicted.new (samples.instruction found.now.decoded first regs.old) (memory_of context.now) }
     ensures value { (first : ℕ) → found.now.rise ≡ samples.rise_of found.now.decoded.op first
-        → told_by result regs.new (done_of progress.new) ≡ samples.instruction found.now.decoded first regs.old (memory_of around.now) }
+        → reported_by result regs.new (done_of progress.new) ≡ samples.instruction found.now.decoded first regs.old (memory_of context.now) }
     ensures kept { Keeps result regs.old regs.new }
 {
     let before = *regs;
     fetch(found, regs);
-    match execute(found.decoded.op, around, regs, progress, foreseen) {
+    match execute(found.decoded.op, context, regs, progress, predicted) {
         Ok(taken) => Step80::Done(Finish80 {
             t: time_of(found, taken),
             halted: matches!(found.decoded.op, Op80::Halt),
             after_ei: matches!(found.decoded.op, Op80::EnableInterrupts),
         }),
         Err(waiting) => {
-            foresee_finish(found, foreseen);
+            predict_finish(found, predicted);
             *regs = before;
             Step80::Need(waiting.request())
         }
@@ -111,13 +111,13 @@ fn instruction(
 
 /// An interrupt.
 #[tactic(auto, unfolding(crate::specs::Sample::Samples::interrupt))]
-fn interrupt(around: &Around, regs: &mut Regs80, progress: &mut Progress80) -> Step80
+fn interrupt(context: &Context, regs: &mut Regs80, progress: &mut Progress80) -> Step80
     requires { done_of progress.old ≡ nothing }
-    ensures value { told_by result regs.new (done_of progress.new) ≡ samples.interrupt regs.old (memory_of around.now) }
+    ensures value { reported_by result regs.new (done_of progress.new) ≡ samples.interrupt regs.old (memory_of context.now) }
     ensures kept { Keeps result regs.old regs.new }
 {
     let before = *regs;
-    match enter(around, regs, progress) {
+    match enter(context, regs, progress) {
         Ok(()) => Step80::Done(Finish80 {
             t: interrupt_time(before.mode),
             halted: false,
@@ -132,10 +132,10 @@ fn interrupt(around: &Around, regs: &mut Regs80, progress: &mut Progress80) -> S
 
 /// The memories of the processor and the answers so far.
 #[inline(always)]
-fn around_of<'a>(cart: &'a Cart, parcel: &'a Parcel, answers: &'a ArrayVec<u8, 4>) -> Around<'a>
+fn context_of<'a>(cart: &'a Cart, parcel: &'a Parcel, answers: &'a ArrayVec<u8, 4>) -> Context<'a>
     ensures { memory_of result ≡ record { rom = cart.now; ram = parcel.now.ram.value; bank = parcel.now.bank; answers = answers.now.items } }
 {
-    Around {
+    Context {
         rom: cart.bytes(),
         ram: &parcel.ram,
         bank: parcel.bank,
@@ -149,22 +149,22 @@ fn around_of<'a>(cart: &'a Cart, parcel: &'a Parcel, answers: &'a ArrayVec<u8, 4
 fn run(
     cause: u8,
     found: &CachedInstruction,
-    around: &Around,
+    context: &Context,
     regs: &mut Regs80,
     progress: &mut Progress80,
-    foreseen: &mut Foreseen80,
+    predicted: &mut Predicted80,
 ) -> Step80
-    requires { IsInstructionOf (instruction_bytes regs.old.pc (memory_of around.now)) found.now }
-    ensures foreseen { EndsForeseen result foreseen.new (samples.sampled cause regs.old) (memory_of around.now) }
-    ensures value { told_by result regs.new (done_of progress.new) ≡ samples.sampled cause regs.old (memory_of around.now) }
+    requires { IsInstructionOf (instruction_bytes regs.old.pc (memory_of context.now)) found.now }
+    ensures predicted { EndsPredicted result predicted.new (samples.sampled cause regs.old) (memory_of context.now) }
+    ensures value { reported_by result regs.new (done_of progress.new) ≡ samples.sampled cause regs.old (memory_of context.now) }
     ensures kept { Keeps result regs.old regs.new }
 {
     progress.restart();
-    foreseen.known = false;
+    predicted.known = false;
     if cause == 0 {
-        instruction(found, around, regs, progress, foreseen)
+        instruction(found, context, regs, progress, predicted)
     } else {
-        interrupt(around, regs, progress)
+        interrupt(context, regs, progress)
     }
 }
 
@@ -175,10 +175,10 @@ fn run(
 /// RAM and the bank register before it. Where it waits for an answer, to a read or a write, the
 /// registers stay as they were. `progress` is cleared first; its writes count where the step is done:
 /// the bytes written into RAM and the bank register, the oldest first. Where it waits for the answer to
-/// a write, `foreseen` has what it results in then, if that is known: of an LD of 8 bits. `cache` has
+/// a write, `predicted` has what it results in then, if that is known: of an LD of 8 bits. `cache` has
 /// instructions that were decoded before. Source: Zilog UM0080, "Z80 Instruction Description" and
 /// "Interrupt Response".
-pub fn foresee(
+pub fn predict(
     regs: &mut Regs80,
     cart: &Cart,
     parcel: &Parcel,
@@ -186,19 +186,19 @@ pub fn foresee(
     cause: u8,
     cache: &mut DecodeCache80,
     progress: &mut Progress80,
-    foreseen: &mut Foreseen80,
+    predicted: &mut Predicted80,
 ) -> Step80
-    ensures foreseen { EndsForeseen result foreseen.new (samples.sampled cause regs.old) (record { rom = cart.now; ram = parcel.now.ram.value; bank = parcel.now.bank; answers = answers.now.items }) }
-    ensures value { told_by result regs.new (done_of progress.new) ≡ samples.sampled cause regs.old (record { rom = cart.now; ram = parcel.now.ram.value; bank = parcel.now.bank; answers = answers.now.items }) }
+    ensures predicted { EndsPredicted result predicted.new (samples.sampled cause regs.old) (record { rom = cart.now; ram = parcel.now.ram.value; bank = parcel.now.bank; answers = answers.now.items }) }
+    ensures value { reported_by result regs.new (done_of progress.new) ≡ samples.sampled cause regs.old (record { rom = cart.now; ram = parcel.now.ram.value; bank = parcel.now.bank; answers = answers.now.items }) }
     ensures kept { Keeps result regs.old regs.new }
     ensures waits { WaitsBelow result (array_vec_len answers.now) 4 }
     ensures asks { WaitsRightly result }
     ensures covers { CoversAccesses result progress.new.used }
 {
-    let around = around_of(cart, parcel, answers);
-    let bytes = instruction_bytes(regs.pc, &around);
+    let context = context_of(cart, parcel, answers);
+    let bytes = instruction_bytes(regs.pc, &context);
     let found = cache.instruction(regs.pc, &bytes);
-    run(cause, &found, &around, regs, progress, foreseen)
+    run(cause, &found, &context, regs, progress, predicted)
 }
 
 /// The same where nothing is to be foreseen and no instruction is kept.
@@ -210,14 +210,14 @@ pub fn go(
     cause: u8,
     progress: &mut Progress80,
 ) -> Step80
-    ensures value { told_by result regs.new (done_of progress.new) ≡ samples.sampled cause regs.old (record { rom = cart.now; ram = parcel.now.ram.value; bank = parcel.now.bank; answers = answers.now.items }) }
+    ensures value { reported_by result regs.new (done_of progress.new) ≡ samples.sampled cause regs.old (record { rom = cart.now; ram = parcel.now.ram.value; bank = parcel.now.bank; answers = answers.now.items }) }
     ensures kept { Keeps result regs.old regs.new }
     ensures waits { WaitsBelow result (array_vec_len answers.now) 4 }
     ensures asks { WaitsRightly result }
     ensures covers { CoversAccesses result progress.new.used }
 {
-    let around = around_of(cart, parcel, answers);
-    let found = cached(&instruction_bytes(regs.pc, &around));
-    let mut foreseen = Foreseen80::nothing();
-    run(cause, &found, &around, regs, progress, &mut foreseen)
+    let context = context_of(cart, parcel, answers);
+    let found = cached(&instruction_bytes(regs.pc, &context));
+    let mut predicted = Predicted80::nothing();
+    run(cause, &found, &context, regs, progress, &mut predicted)
 }

@@ -5,7 +5,7 @@ use std::alloc::Global;
 use z80_decode::decode;
 
 /// The text of the instruction that these bytes begin with, at 0100h, after its length.
-fn told(alloc: Global, bytes: &[u8; 4]) -> Result<String, RowError> {
+fn reported(alloc: Global, bytes: &[u8; 4]) -> Result<String, RowError> {
     let decoded = decode(bytes);
     let Ok(text) = text80(alloc, &decoded, 0x100) else {
         return Err(RowError::Memory);
@@ -15,7 +15,7 @@ fn told(alloc: Global, bytes: &[u8; 4]) -> Result<String, RowError> {
 
 /// The length and the text of an instruction; `NoSuchLine` where the digits are not eight.
 pub fn instruction(alloc: Global, digits: &str) -> Result<String, RowError> {
-    told(alloc, &long(digits)?.to_be_bytes())
+    reported(alloc, &long(digits)?.to_be_bytes())
 }
 
 /// For how many of the 256 opcodes after a prefix the text begins with these words.
@@ -25,7 +25,7 @@ pub fn count(alloc: Global, words: &str) -> Result<String, RowError> {
     let prefix = byte(prefix)?;
     let mut count = 0u32;
     for opcode in 0..=255u8 {
-        if told(alloc, &[prefix, opcode, 0, 0])?
+        if reported(alloc, &[prefix, opcode, 0, 0])?
             .as_str()
             .starts_with(front)
         {

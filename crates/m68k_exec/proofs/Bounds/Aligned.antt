@@ -14,7 +14,7 @@ use Rattle.m68k_ea.specs.Addresses.{effective_address}
 use Rattle.m68k_ea.specs.Places.{is_misaligned, place_of, standing}
 use Rattle.m68k_ea.specs.declared.places.Place.{Place}
 use Rattle.m68k_ea.specs.declared.places.Place.TheVariants as places
-use Rattle.m68k_exec.specs.Access.Actions.{Done, asked, asked_byte, go_on, is_odd, read, read_aligned, read_byte, read_long, read_word, told, write, write_aligned, write_byte, write_long, write_word}
+use Rattle.m68k_exec.specs.Access.Actions.{Done, asked, asked_byte, go_on, is_odd, read, read_aligned, read_byte, read_long, read_word, reported, write, write_aligned, write_byte, write_long, write_word}
 use Rattle.m68k_exec.specs.Access.Clauses.{NotOdd}
 use Rattle.md_word.specs.Map.{is_shared}
 use Rattle.m68k_exec.specs.Access.Memory.{Memory, bus_address}
@@ -48,9 +48,9 @@ asked_byte_even : (at : ℕ) (memory : Memory) (done : Done) → NotOdd (asked_b
 unfolding asked_byte
 asked_byte_even at memory done = both (asked (Read8 at) memory done) _ (asked_even _ memory done) (λ x after. tt)
 
-told_even : (request : Request68) (memory : Memory) (done : Done) → NotOdd (told request memory done)
-unfolding told
-told_even request memory done = both (asked request memory done) _ (asked_even request memory done) (λ x after. tt)
+reported_even : (request : Request68) (memory : Memory) (done : Done) → NotOdd (reported request memory done)
+unfolding reported
+reported_even request memory done = both (asked request memory done) _ (asked_even request memory done) (λ x after. tt)
 
 read_byte_even : (at : ℕ) (memory : Memory) (done : Done) → NotOdd (read_byte at memory done)
 unfolding read_byte
@@ -66,11 +66,11 @@ read_word_even at e memory done = rw e (read_aligned_even _ memory done)
 
 write_byte_even : (at value : ℕ) (memory : Memory) (done : Done) → NotOdd (write_byte at value memory done)
 unfolding write_byte
-write_byte_even at value memory done = either (is_shared (bus_address at)) _ _ (λ h. told_even _ memory done) (λ h. tt)
+write_byte_even at value memory done = either (is_shared (bus_address at)) _ _ (λ h. reported_even _ memory done) (λ h. tt)
 
 write_aligned_even : (at value : ℕ) (memory : Memory) (done : Done) → NotOdd (write_aligned at value memory done)
 unfolding write_aligned
-write_aligned_even at value memory done = either (is_shared at) _ _ (λ h. told_even _ memory done) (λ h. tt)
+write_aligned_even at value memory done = either (is_shared at) _ _ (λ h. reported_even _ memory done) (λ h. tt)
 
 pub write_word_even : (at value : ℕ) → is_odd at ≡ false → (memory : Memory) (done : Done) → NotOdd (write_word at value memory done)
 unfolding write_word

@@ -111,14 +111,14 @@ unlike_few value = ones_few _ (omega arith)
 mulu_few : (memory : Memory) (n : ℕ) (mode : Mode) (start : ℕ) (regs : Regs) → Fits memory → HasFewCounts (products.mulu n mode start regs memory nothing)
 unfolding products.mulu operands.load
 mulu_few memory n mode start regs fits =
-    few_on (operands.fetch Word (place_of mode Word regs (shapes.behind start 2)) regs memory nothing) (λ value. record { value = value; regs = stepped mode Word regs }) (λ source. record (shapes.change_data tasks.Mulu Long source.value n source.regs) { count = count_ones source.value })
-    (fetch_small memory mode regs regs (shapes.behind start 2) fits) ones_few
+    few_on (operands.fetch Word (place_of mode Word regs (shapes.following start 2)) regs memory nothing) (λ value. record { value = value; regs = stepped mode Word regs }) (λ source. record (shapes.change_data tasks.Mulu Long source.value n source.regs) { count = count_ones source.value })
+    (fetch_small memory mode regs regs (shapes.following start 2) fits) ones_few
 
 muls_few : (memory : Memory) (n : ℕ) (mode : Mode) (start : ℕ) (regs : Regs) → Fits memory → HasFewCounts (products.muls n mode start regs memory nothing)
 unfolding products.muls operands.load
 muls_few memory n mode start regs fits =
-    few_on (operands.fetch Word (place_of mode Word regs (shapes.behind start 2)) regs memory nothing) (λ value. record { value = value; regs = stepped mode Word regs }) (λ source. record (shapes.change_data tasks.Muls Long source.value n source.regs) { count = products.unlike_neighbours source.value })
-    (fetch_small memory mode regs regs (shapes.behind start 2) fits) (λ value h. unlike_few value)
+    few_on (operands.fetch Word (place_of mode Word regs (shapes.following start 2)) regs memory nothing) (λ value. record { value = value; regs = stepped mode Word regs }) (λ source. record (shapes.change_data tasks.Muls Long source.value n source.regs) { count = products.unlike_neighbours source.value })
+    (fetch_small memory mode regs regs (shapes.following start 2) fits) (λ value h. unlike_few value)
 
 shift_few : (operation : Task) (size : Size) (count r : ℕ) (regs : Regs) → count ≤ 64 → (shifts.shift_by_number operation size count r regs).count ≤ 64
 unfolding shifts.shift_by_number

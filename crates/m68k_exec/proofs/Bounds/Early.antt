@@ -165,16 +165,16 @@ plain_change operation size number mode pc regs memory done =
 extended_plain : (operation : Task) (size : Size) (source target : Mode) (start : ℕ) (regs : Regs) (memory : Memory) (done : Done) → IsPlain (multiprecision.extended operation size source target start regs memory done)
 unfolding multiprecision.extended
 extended_plain operation size source target start regs memory done =
-    plain_on (operands.load source size (shapes.behind start 2) regs memory done) (λ part mid. shapes.change_operand operation size part.value target (shapes.behind start 2) part.regs memory mid)
-    (λ part mid. plain_change operation size part.value target (shapes.behind start 2) part.regs memory mid)
+    plain_on (operands.load source size (shapes.following start 2) regs memory done) (λ part mid. shapes.change_operand operation size part.value target (shapes.following start 2) part.regs memory mid)
+    (λ part mid. plain_change operation size part.value target (shapes.following start 2) part.regs memory mid)
 
-second_odd : (operation : Task) (size : Size) (source target : Mode) (pc behind : ℕ) (regs : Regs) (memory : Memory) (before : Done) (address : ℕ) (read : Bool) (used : ℕ) (first : Result (Operand × Done) Stop) → operands.load source size pc regs memory before ≡ first → go_on first (λ part mid. shapes.change_operand operation size part.value target behind part.regs memory mid) ≡ Err (Odd address read used) → before.used ≤ length memory.answers → used ≤ before.used + 4
-second_odd operation size source target pc behind regs memory before address read used (Ok p) is e in_range =
+second_odd : (operation : Task) (size : Size) (source target : Mode) (pc following : ℕ) (regs : Regs) (memory : Memory) (before : Done) (address : ℕ) (read : Bool) (used : ℕ) (first : Result (Operand × Done) Stop) → operands.load source size pc regs memory before ≡ first → go_on first (λ part mid. shapes.change_operand operation size part.value target following part.regs memory mid) ≡ Err (Odd address read used) → before.used ≤ length memory.answers → used ≤ before.used + 4
+second_odd operation size source target pc following regs memory before address read used (Ok p) is e in_range =
     let one = (load source size pc regs).value memory before p.0 p.1 is in_range in
     let few = touches_most size source in
-    let two : used < p.1.used + 1 = subst (λ r. OddBelow r (p.1.used + 1)) e (change_first operation size p.0.value target behind p.0.regs memory p.1) in
+    let two : used < p.1.used + 1 = subst (λ r. OddBelow r (p.1.used + 1)) e (change_first operation size p.0.value target following p.0.regs memory p.1) in
     omega (arith, one.0, few, two)
-second_odd operation size source target pc behind regs memory before address read used (Err stop) is e in_range =
+second_odd operation size source target pc following regs memory before address read used (Err stop) is e in_range =
     let same : stop ≡ Odd address read used = cc in
     let one = (load source size pc regs).odd memory before address read used (is ∙ ap Err same) in_range in
     let few = touches_most size source in
@@ -183,7 +183,7 @@ second_odd operation size source target pc behind regs memory before address rea
 extended_early : (operation : Task) (size : Size) (source target : Mode) (start : ℕ) (regs : Regs) → IsEarly (multiprecision.extended operation size source target start regs)
 unfolding multiprecision.extended
 extended_early operation size source target start regs = record {
-  odd = λ memory before address read used e in_range. second_odd operation size source target _ _ regs memory before address read used (operands.load source size (shapes.behind start 2) regs memory before) refl e in_range;
+  odd = λ memory before address read used e in_range. second_odd operation size source target _ _ regs memory before address read used (operands.load source size (shapes.following start 2) regs memory before) refl e in_range;
   caused = λ memory before x after e other in_range. absurd (other (subst IsPlain e (extended_plain operation size source target start regs memory before)));
 }
 

@@ -77,9 +77,9 @@ asked_byte : (at : ℕ) → IsShared at → Keeps Any (actions.asked_byte at)
 unfolding actions.asked_byte
 asked_byte at h = bind _ _ _ _ (asked (Read8 at) h) (λ answer a. give _ _ tt)
 
-told : (request : Request68) → IsAccess request → Keeps Any (actions.told request)
-unfolding actions.told
-told request h = bind _ _ _ _ (asked request h) (λ answer a. give _ tt tt)
+reported : (request : Request68) → IsAccess request → Keeps Any (actions.reported request)
+unfolding actions.reported
+reported request h = bind _ _ _ _ (asked request h) (λ answer a. give _ tt tt)
 
 pub read_byte : (address : ℕ) → Keeps Any (actions.read_byte address)
 unfolding actions.read_byte
@@ -105,11 +105,11 @@ read Long address = read_long address
 
 pub write_byte : (address value : ℕ) → Keeps Any (actions.write_byte address value)
 unfolding actions.write_byte
-write_byte address value = choice _ (is_shared (bus_address address)) _ _ (λ e. told (Write8 (bus_address address) value) (shared_at address e)) (λ e. private _ _)
+write_byte address value = choice _ (is_shared (bus_address address)) _ _ (λ e. reported (Write8 (bus_address address) value) (shared_at address e)) (λ e. private _ _)
 
 write_aligned : (address value : ℕ) → bus_address address % 2 ≡ 0 → Keeps Any (actions.write_aligned (bus_address address) value)
 unfolding actions.write_aligned
-write_aligned address value even = choice _ (is_shared (bus_address address)) _ _ (λ e. told (Write16 (bus_address address) value) (shared_at address e, even)) (λ e. private _ _)
+write_aligned address value even = choice _ (is_shared (bus_address address)) _ _ (λ e. reported (Write16 (bus_address address) value) (shared_at address e, even)) (λ e. private _ _)
 
 pub write_word : (address value : ℕ) → Keeps Any (actions.write_word address value)
 unfolding actions.write_word

@@ -328,7 +328,7 @@ tas mode start regs h = test_operand tasks.Tas Byte 0 mode _ regs h
 move_from_sr : (mode : Mode) (start : ℕ) (regs : Regs) → HasStatus regs → Keeps StatusAfter (status.move_from_sr mode start regs)
 unfolding status.move_from_sr
 move_from_sr mode start regs h =
-    bind _ _ _ _ (fetch Word _ _) (λ old a. bind _ _ _ _ (put Word (place_of mode Word regs (shapes.behind start 2)) _ _ (sr.steps mode Word regs h)) (λ after b. give _ _ b))
+    bind _ _ _ _ (fetch Word _ _) (λ old a. bind _ _ _ _ (put Word (place_of mode Word regs (shapes.following start 2)) _ _ (sr.steps mode Word regs h)) (λ after b. give _ _ b))
 
 move_to_ccr : (mode : Mode) (start : ℕ) (regs : Regs) → HasStatus regs → Keeps StatusAfter (status.move_to_ccr mode start regs)
 unfolding status.move_to_ccr
@@ -350,7 +350,7 @@ quick operation size number mode start regs h = change_operand operation size nu
 scc : (condition : Condition) (mode : Mode) (start : ℕ) (regs : Regs) → HasStatus regs → Keeps StatusAfter (setting.scc condition mode start regs)
 unfolding setting.scc
 scc condition mode start regs h =
-    bind _ _ _ _ (fetch Byte _ _) (λ old a. bind _ _ _ _ (put Byte (place_of mode Byte regs (shapes.behind start 2)) _ _ (sr.steps mode Byte regs h)) (λ after b. give _ _ b))
+    bind _ _ _ _ (fetch Byte _ _) (λ old a. bind _ _ _ _ (put Byte (place_of mode Byte regs (shapes.following start 2)) _ _ (sr.steps mode Byte regs h)) (λ after b. give _ _ b))
 
 quotient_ended : (quotient : Quotient) (n : ℕ) (regs : Regs) → HasStatus regs → StatusAfter (quotients.ended_by quotient n regs)
 quotient_ended Zero n regs h = h

@@ -8,7 +8,7 @@ use Rattle.m68k_exec.specs.Access.Actions.{Done}
 use Rattle.m68k_exec.specs.Access.Memory.{Memory}
 use Rattle.m68k_exec.specs.Access.Outcomes.{Outcome}
 use Rattle.m68k_exec.specs.Sample.Execution.{row}
-use Rattle.m68k_exec.specs.Sample.Samples.{NamesInstruction, SpendsRightly, WaitsBelow, named, nothing, sampled, told_by}
+use Rattle.m68k_exec.specs.Sample.Samples.{NamesInstruction, SpendsRightly, WaitsBelow, named, nothing, sampled, reported_by}
 use Rattle.m68k_exec.specs.declared.access.stop.Stop.TheVariants.{Odd}
 use Rattle.m68k_exec.specs.declared.sample.step.Step.{Step}
 use Rattle.m68k_exec.specs.declared.sample.step.Step.TheVariants as steps
@@ -38,14 +38,14 @@ odd op start regs memory before fresh address read used e =
     omega (arith, none, taken)
 
 -- what a step that reports a sample has
-pub step_waits_below : (step : Step) (after : Regs) (done : Done) (cause : ℕ) (regs : Regs) (memory : Memory) → told_by step after done ≡ sampled cause regs memory → WaitsBelow step (length memory.answers) 32
+pub step_waits_below : (step : Step) (after : Regs) (done : Done) (cause : ℕ) (regs : Regs) (memory : Memory) → reported_by step after done ≡ sampled cause regs memory → WaitsBelow step (length memory.answers) 32
 step_waits_below (steps.Need request) after done cause regs memory e = waits cause regs memory request (sym e)
 step_waits_below (steps.Done finish) after done cause regs memory e = tt
 
-pub step_spends_rightly : (step : Step) (after : Regs) (done : Done) (cause : ℕ) (regs : Regs) (memory : Memory) → told_by step after done ≡ sampled cause regs memory → SpendsRightly step
+pub step_spends_rightly : (step : Step) (after : Regs) (done : Done) (cause : ℕ) (regs : Regs) (memory : Memory) → reported_by step after done ≡ sampled cause regs memory → SpendsRightly step
 step_spends_rightly (steps.Need request) after done cause regs memory e = tt
 step_spends_rightly (steps.Done finish) after done cause regs memory e = spends cause regs memory _ (sym e)
 
-pub step_names_instruction : (step : Step) (after : Regs) (done : Done) (cause : ℕ) (regs : Regs) (memory : Memory) → told_by step after done ≡ sampled cause regs memory → IsOp (named regs memory) → NamesInstruction step
+pub step_names_instruction : (step : Step) (after : Regs) (done : Done) (cause : ℕ) (regs : Regs) (memory : Memory) → reported_by step after done ≡ sampled cause regs memory → IsOp (named regs memory) → NamesInstruction step
 step_names_instruction (steps.Need request) after done cause regs memory e is = tt
 step_names_instruction (steps.Done finish) after done cause regs memory e is = subst IsOp (sym (names cause regs memory _ (sym e))) is

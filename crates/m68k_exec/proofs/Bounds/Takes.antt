@@ -180,17 +180,17 @@ byte_put at value = more 0 1 _ (omega arith) (private (λ memory done. tt) (acti
 word_put : (at value : ℕ) → Takes {A = Unit {0}} 1 (λ memory done. Ok (tt, actions.with_word at value done))
 word_put at value = more 0 1 _ (omega arith) (private (λ memory done. tt) (actions.with_word at value) (with_word-used at value))
 
-told : (request : Request68) → Takes 1 (actions.told request)
-unfolding actions.told
-told request = bind 1 0 (actions.asked request) (λ answer. actions.give tt) (asked request) (λ answer. give tt)
+reported : (request : Request68) → Takes 1 (actions.reported request)
+unfolding actions.reported
+reported request = bind 1 0 (actions.asked request) (λ answer. actions.give tt) (asked request) (λ answer. give tt)
 
 pub write_byte : (address value : ℕ) → Takes 1 (actions.write_byte address value)
 unfolding actions.write_byte
-write_byte address value = choice 1 (is_shared (bus_address address)) _ _ (told (Write8 (bus_address address) value)) (byte_put (bus_address address) value)
+write_byte address value = choice 1 (is_shared (bus_address address)) _ _ (reported (Write8 (bus_address address) value)) (byte_put (bus_address address) value)
 
 write_aligned : (at value : ℕ) → Takes 1 (actions.write_aligned at value)
 unfolding actions.write_aligned
-write_aligned at value = choice 1 (is_shared at) _ _ (told (Write16 at value)) (word_put at value)
+write_aligned at value = choice 1 (is_shared at) _ _ (reported (Write16 at value)) (word_put at value)
 
 pub write_word : (address value : ℕ) → Takes 1 (actions.write_word address value)
 unfolding actions.write_word

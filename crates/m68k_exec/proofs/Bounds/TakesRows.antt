@@ -212,8 +212,8 @@ tas mode start regs = test_operand tasks.Tas Byte 0 mode _ regs
 move_from_sr : (mode : Mode) (start : ℕ) (regs : Regs) → Takes (2 * touches_of Word mode) (status.move_from_sr mode start regs)
 unfolding status.move_from_sr
 move_from_sr mode start regs =
-    let t = touched mode Word regs (shapes.behind start 2) in
-    more _ _ _ (omega (arith, t)) (bind _ _ _ _ (fetch Word _ _) (λ old. last _ _ _ (put Word (place_of mode Word regs (shapes.behind start 2)) _ _) (λ after. give _)))
+    let t = touched mode Word regs (shapes.following start 2) in
+    more _ _ _ (omega (arith, t)) (bind _ _ _ _ (fetch Word _ _) (λ old. last _ _ _ (put Word (place_of mode Word regs (shapes.following start 2)) _ _) (λ after. give _)))
 
 move_to_ccr : (mode : Mode) (start : ℕ) (regs : Regs) → Takes (touches_of Word mode) (status.move_to_ccr mode start regs)
 unfolding status.move_to_ccr
@@ -235,8 +235,8 @@ quick operation size number mode start regs = change_operand operation size numb
 scc : (condition : _) (mode : Mode) (start : ℕ) (regs : Regs) → Takes (2 * touches_of Byte mode) (setting.scc condition mode start regs)
 unfolding setting.scc
 scc condition mode start regs =
-    let t = touched mode Byte regs (shapes.behind start 2) in
-    more _ _ _ (omega (arith, t)) (bind _ _ _ _ (fetch Byte _ _) (λ old. last _ _ _ (put Byte (place_of mode Byte regs (shapes.behind start 2)) _ _) (λ after. give _)))
+    let t = touched mode Byte regs (shapes.following start 2) in
+    more _ _ _ (omega (arith, t)) (bind _ _ _ _ (fetch Byte _ _) (λ old. last _ _ _ (put Byte (place_of mode Byte regs (shapes.following start 2)) _ _) (λ after. give _)))
 
 divu : (n : ℕ) (mode : Mode) (start : ℕ) (regs : Regs) → Takes (touches_of Word mode) (quotients.divu n mode start regs)
 unfolding quotients.divu

@@ -135,9 +135,9 @@ asked_byte : (at : ℕ) → IgnoresLaterAnswers (actions.asked_byte at)
 unfolding actions.asked_byte
 asked_byte at = bind (actions.asked (Read8 at)) (λ answer. actions.give (answer % 0x100)) (asked (Read8 at)) (λ answer. give (answer % 0x100))
 
-told : (request : Request68) → IgnoresLaterAnswers (actions.told request)
-unfolding actions.told
-told request = bind (actions.asked request) (λ answer. actions.give tt) (asked request) (λ answer. give tt)
+reported : (request : Request68) → IgnoresLaterAnswers (actions.reported request)
+unfolding actions.reported
+reported request = bind (actions.asked request) (λ answer. actions.give tt) (asked request) (λ answer. give tt)
 
 -- private reads and writes
 byte_seen : (at : ℕ) → IgnoresLaterAnswers (λ memory done. Ok (actions.byte_seen at memory done, done))
@@ -183,11 +183,11 @@ read Long address = read_long address
 -- writes
 pub write_byte : (address value : ℕ) → IgnoresLaterAnswers (actions.write_byte address value)
 unfolding actions.write_byte
-write_byte address value = choice (is_shared (bus_address address)) _ _ (told (Write8 (bus_address address) value)) (byte_put (bus_address address) value)
+write_byte address value = choice (is_shared (bus_address address)) _ _ (reported (Write8 (bus_address address) value)) (byte_put (bus_address address) value)
 
 write_aligned : (at value : ℕ) → IgnoresLaterAnswers (actions.write_aligned at value)
 unfolding actions.write_aligned
-write_aligned at value = choice (is_shared at) _ _ (told (Write16 at value)) (word_put at value)
+write_aligned at value = choice (is_shared at) _ _ (reported (Write16 at value)) (word_put at value)
 
 pub write_word : (address value : ℕ) → IgnoresLaterAnswers (actions.write_word address value)
 unfolding actions.write_word

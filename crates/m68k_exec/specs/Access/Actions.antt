@@ -57,8 +57,8 @@ asked_byte at = do
   give (answer % 0x100)
 
 -- a shared write: the answer carries nothing
-unfoldable pub told : Request68 → Act (Unit {0})
-told request = do
+unfoldable pub reported : Request68 → Act (Unit {0})
+reported request = do
   answer ← asked request
   give tt
 
@@ -111,13 +111,13 @@ read Long address = read_long address
 -- a byte is written, on the bus where its address is shared
 unfoldable pub write_byte : ℕ → ℕ → Act (Unit {0})
 write_byte address value memory done =
-    if is_shared (bus_address address) then told (Write8 (bus_address address) value) memory done
+    if is_shared (bus_address address) then reported (Write8 (bus_address address) value) memory done
     else Ok (tt, with_byte (bus_address address) value done)
 
 -- a word is written at an even address of 24 bits, on the bus where that is shared
 unfoldable pub write_aligned : ℕ → ℕ → Act (Unit {0})
 write_aligned at value memory done =
-    if is_shared at then told (Write16 at value) memory done else Ok (tt, with_word at value done)
+    if is_shared at then reported (Write16 at value) memory done else Ok (tt, with_word at value done)
 
 -- a word is written; at an odd address it is an address error
 unfoldable pub write_word : ℕ → ℕ → Act (Unit {0})

@@ -3,7 +3,7 @@ use Rattle.std.specs.Prelude.{◌≡◌, ◌+◌, ◌≤◌, ℕ, Result, Ok, Er
 use Rattle.arrayvec.specs.ArrayVec.{array_vec_len}
 use Rattle.m68k_exec.specs.declared.access.stop.Stop.{Stop}
 use Rattle.m68k_exec.specs.declared.access.stop.Stop.TheVariants.{Ask, Odd}
-use Rattle.m68k_exec.specs.declared.access.view.Around.{Around}
+use Rattle.m68k_exec.specs.declared.access.view.Context.{Context}
 use Rattle.m68k_exec.specs.declared.access.view.Progress.{Progress}
 use Rattle.m68k_exec.specs.Access.Actions.{Done}
 use Rattle.m68k_exec.specs.Access.Memory.{Memory}
@@ -11,11 +11,11 @@ use Rattle.md_word.specs.declared.regs.Regs.{Regs}
 use Rattle.m68k_exec.specs.Access.Operands.{Operand}
 use Rattle.m68k_exec.specs.Rows.Movem.{Loaded}
 use Rattle.m68k_exec.specs.Access.Outcomes.{Outcome, outcome_of}
-use Rattle.m68k_exec.specs.declared.access.outcome.Outcome as told
+use Rattle.m68k_exec.specs.declared.access.outcome.Outcome as reported
 
 -- the memory that a call is given: the image, work RAM before the instruction, the answers
-abbrev pub memory_of : Around → Memory
-memory_of around = record { rom = around.rom.now; ram = around.ram.now; answers = around.answers.now }
+abbrev pub memory_of : Context → Memory
+memory_of context = record { rom = context.rom.now; ram = context.ram.now; answers = context.answers.now }
 
 -- what a call has done so far: the answers taken, and the bytes written
 abbrev pub done_of : Progress → Done
@@ -42,7 +42,7 @@ Reaches (Ok x) regs after meaning = meaning ≡ Ok (record { address = x; regs =
 Reaches (Err stop) regs after meaning = meaning ≡ Err stop
 
 -- the same of a whole instruction, which gives what there is to report beside the registers
-abbrev pub Ends : Result told.Outcome Stop → Regs → Done → Result (Outcome × Done) Stop → Type 0
+abbrev pub Ends : Result reported.Outcome Stop → Regs → Done → Result (Outcome × Done) Stop → Type 0
 Ends (Ok x) regs after meaning = meaning ≡ Ok (outcome_of x regs, after)
 Ends (Err stop) regs after meaning = meaning ≡ Err stop
 

@@ -1,7 +1,7 @@
 -- The outcome of an instruction.
 use Rattle.std.specs.Prelude.{ℕ, Bool, false}
 use Rattle.md_word.specs.declared.regs.Regs.{Regs}
-use Rattle.m68k_exec.specs.declared.access.outcome.Outcome as told
+use Rattle.m68k_exec.specs.declared.access.outcome.Outcome as reported
 
 -- the registers after it, and what else there is to report; of one that ends in an exception the
 -- registers with the program counter that it saves
@@ -14,16 +14,16 @@ pub record Outcome : Type 0 where
   pub stopped : Bool
 
 -- what a call reported, with the registers that it left
-abbrev pub outcome_of : told.Outcome → Regs → Outcome
-outcome_of told regs = record { regs = regs; taken = told.taken; expired = told.expired; count = told.count; vector = told.vector; stopped = told.stopped }
+abbrev pub outcome_of : reported.Outcome → Regs → Outcome
+outcome_of reported regs = record { regs = regs; taken = reported.taken; expired = reported.expired; count = reported.count; vector = reported.vector; stopped = reported.stopped }
 
 -- nothing to report: no branch taken, no loop ended, none moved, no exception, no stop
-abbrev pub told_nothing : told.Outcome
-told_nothing = record { taken = false; expired = false; count = 0; vector = 0; stopped = false }
+abbrev pub reported_nothing : reported.Outcome
+reported_nothing = record { taken = false; expired = false; count = 0; vector = 0; stopped = false }
 
 -- an instruction that ends in the exception of this vector
-abbrev pub ended_in : ℕ → told.Outcome
-ended_in vector = record told_nothing { vector = vector }
+abbrev pub ended_in : ℕ → reported.Outcome
+ended_in vector = record reported_nothing { vector = vector }
 
 -- the registers, and nothing else to report
 abbrev pub plain : Regs → Outcome

@@ -14,8 +14,8 @@ use Rattle.m68k_exec.specs.Access.Operands.{fetch, load, put, with_part}
 use Rattle.m68k_exec.specs.Access.Outcomes.{Outcome, plain}
 
 -- the address so many bytes after the start of the instruction, where a mode's words may be
-abbrev pub behind : ℕ → ℕ → ℕ
-behind start bytes = (start + bytes) % 2 ^ 32
+abbrev pub following : ℕ → ℕ → ℕ
+following start bytes = (start + bytes) % 2 ^ 32
 
 -- the instruction continues at another address
 abbrev pub jump_to : ℕ → Regs → Outcome

@@ -14,7 +14,7 @@ use Rattle.m68k_alu.specs.Tasks.{computed}
 use Rattle.m68k_exec.specs.Access.Actions.{Act, ◌>>=◌, give}
 use Rattle.m68k_exec.specs.Access.Operands.{load}
 use Rattle.m68k_exec.specs.Access.Outcomes.{Outcome, plain}
-use Rattle.m68k_exec.specs.Access.Shapes.{behind, change_operand, change_register}
+use Rattle.m68k_exec.specs.Access.Shapes.{following, change_operand, change_register}
 
 -- a number added to or subtracted from the whole of an address register; the flags stay
 unfoldable pub change_address : Task → ℕ → ℕ → Regs → Outcome
@@ -24,16 +24,16 @@ change_address task number n regs =
 -- ADDQ, SUBQ
 abbrev pub quick : Task → Size → ℕ → Mode → ℕ → Regs → Act Outcome
 quick task size number (Address n) start regs = give (change_address task number n regs)
-quick task size number mode start regs = change_operand task size number mode (behind start 2) regs
+quick task size number mode start regs = change_operand task size number mode (following start 2) regs
 
 -- OR, SUB, AND, ADD to a data register
 unfoldable pub to_register : Task → Size → ℕ → Mode → ℕ → Regs → Act Outcome
-to_register task size n mode start regs = change_register task size n mode (behind start 2) regs
+to_register task size n mode start regs = change_register task size n mode (following start 2) regs
 
 -- OR, SUB, AND, ADD of a data register to memory
 unfoldable pub to_memory : Task → Size → ℕ → Mode → ℕ → Regs → Act Outcome
 to_memory task size n mode start regs =
-    change_operand task size (register_of regs n % modulus_of size) mode (behind start 2) regs
+    change_operand task size (register_of regs n % modulus_of size) mode (following start 2) regs
 
 -- EOR of a data register to another or to memory
 unfoldable pub eor : Size → ℕ → Mode → ℕ → Regs → Act Outcome
@@ -42,9 +42,9 @@ eor size n mode start regs = to_memory tasks.Eor size n mode start regs
 -- SUBA, ADDA: a word has its sign extended
 unfoldable pub to_address : Task → Size → ℕ → Mode → ℕ → Regs → Act Outcome
 to_address task size n mode start regs = do
-  source ← load mode size (behind start 2) regs
+  source ← load mode size (following start 2) regs
   give (change_address task (extended size source.value) n source.regs)
 
 -- ASx, LSx, ROXx, ROx of a word in memory, by one place
 unfoldable pub shift_memory : Task → Mode → ℕ → Regs → Act Outcome
-shift_memory task mode start regs = change_operand task Word 1 mode (behind start 2) regs
+shift_memory task mode start regs = change_operand task Word 1 mode (following start 2) regs

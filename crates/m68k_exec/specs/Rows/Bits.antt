@@ -10,7 +10,7 @@ use Rattle.md_word.specs.declared.size.Size.TheVariants.{Byte, Long}
 use Rattle.md_word.specs.declared.task.Task.{Task}
 use Rattle.md_word.specs.declared.task.Task.TheVariants as tasks
 use Rattle.m68k_exec.specs.Access.Actions.{Act}
-use Rattle.m68k_exec.specs.Access.Shapes.{behind, change_operand, test_operand}
+use Rattle.m68k_exec.specs.Access.Shapes.{following, change_operand, test_operand}
 use Rattle.m68k_exec.specs.Access.Outcomes.{Outcome}
 
 -- a data register is a long, memory a byte
@@ -30,8 +30,8 @@ bit task number mode pc regs =
 
 -- the bit that a data register names
 unfoldable pub bit_by_register : Task → ℕ → Mode → ℕ → Regs → Act Outcome
-bit_by_register task n mode start regs = bit task (register_of regs n) mode (behind start 2) regs
+bit_by_register task n mode start regs = bit task (register_of regs n) mode (following start 2) regs
 
 -- the bit of a number, which precedes the mode's words
 unfoldable pub bit_by_number : Task → ℕ → Mode → ℕ → Regs → Act Outcome
-bit_by_number task number mode start regs = bit task number mode (behind start 4) regs
+bit_by_number task number mode start regs = bit task number mode (following start 4) regs

@@ -12,7 +12,7 @@ use Rattle.m68k_alu.specs.Tasks.{computed}
 use Rattle.m68k_exec.specs.Access.Actions.{Act, ◌>>=◌, give}
 use Rattle.m68k_exec.specs.Access.Operands.{load}
 use Rattle.m68k_exec.specs.Access.Outcomes.{Outcome, plain}
-use Rattle.m68k_exec.specs.Access.Shapes.{behind}
+use Rattle.m68k_exec.specs.Access.Shapes.{following}
 
 -- the flags of the target less the source
 unfoldable pub compared : Size → ℕ → ℕ → Regs → Outcome
@@ -22,18 +22,18 @@ compared size source target regs =
 -- CMP
 unfoldable pub cmp : Size → ℕ → Mode → ℕ → Regs → Act Outcome
 cmp size n mode start regs = do
-  source ← load mode size (behind start 2) regs
+  source ← load mode size (following start 2) regs
   give (compared size source.value (register_of source.regs n % modulus_of size) source.regs)
 
 -- CMPA: a word has its sign extended, and all of the register is compared
 unfoldable pub cmpa : Size → ℕ → Mode → ℕ → Regs → Act Outcome
 cmpa size n mode start regs = do
-  source ← load mode size (behind start 2) regs
+  source ← load mode size (following start 2) regs
   give (compared Long (extended size source.value) (address_of source.regs n) source.regs)
 
 -- CMPM (Ay)+,(Ax)+
 unfoldable pub cmpm : Size → ℕ → ℕ → ℕ → Regs → Act Outcome
 cmpm size x y start regs = do
-  source ← load (PostInc y) size (behind start 2) regs
-  target ← load (PostInc x) size (behind start 2) source.regs
+  source ← load (PostInc y) size (following start 2) regs
+  target ← load (PostInc x) size (following start 2) source.regs
   give (compared size source.value target.value target.regs)

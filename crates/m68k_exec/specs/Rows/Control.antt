@@ -10,19 +10,19 @@ use Rattle.m68k_ea.specs.Addresses.{effective_address}
 use Rattle.m68k_exec.specs.Access.Actions.{Act, ◌>>=◌, give}
 use Rattle.m68k_exec.specs.Access.Operands.{load, pull, push}
 use Rattle.m68k_exec.specs.Access.Outcomes.{Outcome, plain}
-use Rattle.m68k_exec.specs.Access.Shapes.{behind, end_in, jump_to, refuse}
+use Rattle.m68k_exec.specs.Access.Shapes.{following, end_in, jump_to, refuse}
 use Rattle.m68k_exec.specs.Rows.Status.{with_ccr, with_sr}
 use Rattle.m68k_exec.specs.Access.Vectors.{illegal_instruction, line_a, line_f, out_of_bounds, overflow, privilege_violation, trap_vector}
 
 -- JMP: an odd address is the next instruction's error
 unfoldable pub jmp : Mode → ℕ → Regs → Outcome
-jmp mode start regs = jump_to (effective_address mode Long regs (behind start 2)) regs
+jmp mode start regs = jump_to (effective_address mode Long regs (following start 2)) regs
 
 -- JSR
 unfoldable pub jsr : Mode → ℕ → Regs → Act Outcome
 jsr mode start regs = do
   after ← push Long regs.pc regs
-  give (jump_to (effective_address mode Long regs (behind start 2)) after)
+  give (jump_to (effective_address mode Long regs (following start 2)) after)
 
 -- RTS
 unfoldable pub rts : Regs → Act Outcome
@@ -72,7 +72,7 @@ checked value bound regs =
 -- CHK
 unfoldable pub chk : ℕ → Mode → ℕ → Regs → Act Outcome
 chk n mode start regs = do
-  bound ← load mode Word (behind start 2) regs
+  bound ← load mode Word (following start 2) regs
   give (checked (register_of regs n % 0x1_0000) bound.value bound.regs)
 
 -- ILLEGAL, and opcodes that are no instruction

@@ -12,22 +12,22 @@ use Rattle.m68k_alu.specs.Tasks.{computed}
 use Rattle.m68k_decode.specs.Fields.{words_of_number}
 use Rattle.m68k_exec.specs.Access.Actions.{Act}
 use Rattle.m68k_exec.specs.Access.Outcomes.{Outcome, plain}
-use Rattle.m68k_exec.specs.Access.Shapes.{behind, change_operand, test_operand}
+use Rattle.m68k_exec.specs.Access.Shapes.{following, change_operand, test_operand}
 use Rattle.m68k_exec.specs.Rows.Status.{privileged, with_ccr, with_sr}
 
 -- the target's words are after the number
-abbrev pub behind_number : Size → ℕ → ℕ
-behind_number size start = behind start (2 + 2 * words_of_number size)
+abbrev pub after_number : Size → ℕ → ℕ
+after_number size start = following start (2 + 2 * words_of_number size)
 
 -- ORI, ANDI, SUBI, ADDI, EORI
 unfoldable pub immediate : Task → Size → ℕ → Mode → ℕ → Regs → Act Outcome
 immediate task size number mode start regs =
-    change_operand task size number mode (behind_number size start) regs
+    change_operand task size number mode (after_number size start) regs
 
 -- CMPI
 unfoldable pub compare_immediate : Size → ℕ → Mode → ℕ → Regs → Act Outcome
 compare_immediate size number mode start regs =
-    test_operand tasks.Cmp size number mode (behind_number size start) regs
+    test_operand tasks.Cmp size number mode (after_number size start) regs
 
 -- ORI, ANDI, EORI to CCR
 unfoldable pub immediate_to_ccr : Task → ℕ → Regs → Outcome

@@ -9,17 +9,17 @@ use Rattle.m68k_ea.specs.Addresses.{effective_address}
 use Rattle.m68k_exec.specs.Access.Actions.{Act, ◌>>=◌, give}
 use Rattle.m68k_exec.specs.Access.Operands.{pull, push, stack_of}
 use Rattle.m68k_exec.specs.Access.Outcomes.{Outcome, plain}
-use Rattle.m68k_exec.specs.Access.Shapes.{behind}
+use Rattle.m68k_exec.specs.Access.Shapes.{following}
 
 -- LEA
 unfoldable pub lea : ℕ → Mode → ℕ → Regs → Outcome
 lea n mode start regs =
-    plain (with_address regs n (effective_address mode Long regs (behind start 2)))
+    plain (with_address regs n (effective_address mode Long regs (following start 2)))
 
 -- PEA
 unfoldable pub pea : Mode → ℕ → Regs → Act Outcome
 pea mode start regs = do
-  after ← push Long (effective_address mode Long regs (behind start 2)) regs
+  after ← push Long (effective_address mode Long regs (following start 2)) regs
   give (plain after)
 
 -- the stack pointer lowered for a long

@@ -11,7 +11,7 @@ use Rattle.m68k_decode.specs.Ops.{moves_of}
 use Rattle.m68k_ea.specs.Addresses.{effective_address}
 use Rattle.m68k_exec.specs.Access.Actions.{Act, ◌>>=◌, give, is_odd, odd, read, write}
 use Rattle.m68k_exec.specs.Access.Outcomes.{Outcome, plain}
-use Rattle.m68k_exec.specs.Access.Shapes.{behind}
+use Rattle.m68k_exec.specs.Access.Shapes.{following}
 use Rattle.m68k_exec.specs.declared.rows.movem.Order.{Order}
 use Rattle.m68k_exec.specs.declared.rows.movem.Order.TheVariants.{Rising, Falling}
 
@@ -102,11 +102,11 @@ moved list regs = record (plain regs) { count = count_ones list }
 -- MOVEM to memory; the mode's words are after the list
 unfoldable pub movem_to_memory : Size → ℕ → Mode → ℕ → Regs → Act Outcome
 movem_to_memory size list mode start regs = do
-  reached ← store_list (order_of mode) size list (first_address size mode (behind start 4) regs) regs
+  reached ← store_list (order_of mode) size list (first_address size mode (following start 4) regs) regs
   give (moved list (left_at mode reached regs))
 
 -- MOVEM to registers
 unfoldable pub movem_to_registers : Size → ℕ → Mode → ℕ → Regs → Act Outcome
 movem_to_registers size list mode start regs = do
-  last ← load_list size list (effective_address mode size regs (behind start 4)) regs
+  last ← load_list size list (effective_address mode size regs (following start 4)) regs
   give (moved list (left_at mode last.address last.regs))

@@ -11,7 +11,7 @@ use Rattle.m68k_ea.specs.Addresses.{effective_address}
 use Rattle.m68k_exec.specs.Access.Actions.{Act, ◌>>=◌, give, read_byte, write_byte}
 use Rattle.m68k_exec.specs.Access.Operands.{with_part}
 use Rattle.m68k_exec.specs.Access.Outcomes.{Outcome, plain}
-use Rattle.m68k_exec.specs.Access.Shapes.{behind}
+use Rattle.m68k_exec.specs.Access.Shapes.{following}
 
 -- a word from two bytes, at the address and 2 further
 unfoldable pub spread_word : ℕ → Act ℕ
@@ -54,12 +54,12 @@ write_spread Long at value = write_spread_long at value
 -- MOVEP d16(Ay),Dx
 unfoldable pub movep_to_register : Size → ℕ → ℕ → ℕ → ℕ → Regs → Act Outcome
 movep_to_register size x y by start regs = do
-  value ← read_spread size (effective_address (Displaced y by) size regs (behind start 2))
+  value ← read_spread size (effective_address (Displaced y by) size regs (following start 2))
   give (plain (with_part size x value regs))
 
 -- MOVEP Dx,d16(Ay)
 unfoldable pub movep_to_memory : Size → ℕ → ℕ → ℕ → ℕ → Regs → Act Outcome
 movep_to_memory size x y by start regs = do
-  let at = effective_address (Displaced y by) size regs (behind start 2)
+  let at = effective_address (Displaced y by) size regs (following start 2)
   written ← write_spread size at (register_of regs x % modulus_of size)
   give (plain regs)

@@ -11,22 +11,22 @@ use Rattle.m68k_decode.specs.Fields.{words_of_mode}
 use Rattle.m68k_exec.specs.Access.Actions.{Act, ◌>>=◌, give}
 use Rattle.m68k_exec.specs.Access.Operands.{load, store}
 use Rattle.m68k_exec.specs.Access.Outcomes.{Outcome, plain}
-use Rattle.m68k_exec.specs.Access.Shapes.{behind}
+use Rattle.m68k_exec.specs.Access.Shapes.{following}
 
 -- the target's words are after the source's
-abbrev pub behind_source : Size → Mode → ℕ → ℕ
-behind_source size source start = behind start (2 + 2 * words_of_mode size source)
+abbrev pub after_source : Size → Mode → ℕ → ℕ
+after_source size source start = following start (2 + 2 * words_of_mode size source)
 
 -- MOVE: the source is read, and its register moved, before the target's address is calculated
 unfoldable pub move_operand : Size → Mode → Mode → ℕ → Regs → Act Outcome
 move_operand size source target start regs = do
-  from ← load source size (behind start 2) regs
+  from ← load source size (following start 2) regs
   let out = computed tasks.Move size from.value from.value (flags_of regs)
-  after ← store target size out.value (behind_source size source start) from.regs
+  after ← store target size out.value (after_source size source start) from.regs
   give (plain (with_flags after out.flags))
 
 -- MOVEA: the sign is extended, and the flags stay
 unfoldable pub move_address : Size → ℕ → Mode → ℕ → Regs → Act Outcome
 move_address size n mode start regs = do
-  from ← load mode size (behind start 2) regs
+  from ← load mode size (following start 2) regs
   give (plain (with_address from.regs n (extended size from.value)))

@@ -8,14 +8,14 @@ use Rattle.md_word.specs.declared.size.Size.TheVariants.{Byte}
 use Rattle.md_word.specs.declared.task.Task.{Task}
 use Rattle.m68k_exec.specs.Access.Actions.{Act, ◌>>=◌}
 use Rattle.m68k_exec.specs.Access.Operands.{load}
-use Rattle.m68k_exec.specs.Access.Shapes.{behind, change_operand}
+use Rattle.m68k_exec.specs.Access.Shapes.{following, change_operand}
 use Rattle.m68k_exec.specs.Access.Outcomes.{Outcome}
 
 -- ADDX, SUBX: the register of the source is lowered before that of the target
 unfoldable pub extended : Task → Size → Mode → Mode → ℕ → Regs → Act Outcome
 extended task size source target start regs = do
-  part ← load source size (behind start 2) regs
-  change_operand task size part.value target (behind start 2) part.regs
+  part ← load source size (following start 2) regs
+  change_operand task size part.value target (following start 2) part.regs
 
 -- ABCD, SBCD: the same of bytes
 unfoldable pub decimal : Task → Mode → Mode → ℕ → Regs → Act Outcome

@@ -7,13 +7,13 @@ use Rattle.md_word.specs.declared.size.Size.TheVariants.{Long, Word}
 use Rattle.md_word.specs.declared.task.Task.TheVariants as tasks
 use Rattle.m68k_exec.specs.Access.Actions.{Act, ◌>>=◌, give}
 use Rattle.m68k_exec.specs.Access.Operands.{load}
-use Rattle.m68k_exec.specs.Access.Shapes.{behind, change_data}
+use Rattle.m68k_exec.specs.Access.Shapes.{following, change_data}
 use Rattle.m68k_exec.specs.Access.Outcomes.{Outcome}
 
 -- MULU: its time grows with the ones in the source
 unfoldable pub mulu : ℕ → Mode → ℕ → Regs → Act Outcome
 mulu n mode start regs = do
-  source ← load mode Word (behind start 2) regs
+  source ← load mode Word (following start 2) regs
   let after = change_data tasks.Mulu Long source.value n source.regs
   give (record after { count = count_ones source.value })
 
@@ -24,6 +24,6 @@ unlike_neighbours word = count_ones (bit_xor word (word * 2) % 0x1_0000)
 -- MULS: its time grows with the unlike neighbours
 unfoldable pub muls : ℕ → Mode → ℕ → Regs → Act Outcome
 muls n mode start regs = do
-  source ← load mode Word (behind start 2) regs
+  source ← load mode Word (following start 2) regs
   let after = change_data tasks.Muls Long source.value n source.regs
   give (record after { count = unlike_neighbours source.value })

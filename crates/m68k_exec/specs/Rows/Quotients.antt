@@ -11,7 +11,7 @@ use Rattle.m68k_alu.specs.declared.quotient.Quotient.TheVariants.{Overflow, Valu
 use Rattle.m68k_exec.specs.Access.Actions.{Act, ◌>>=◌, give}
 use Rattle.m68k_exec.specs.Access.Operands.{load}
 use Rattle.m68k_exec.specs.Access.Outcomes.{Outcome, plain}
-use Rattle.m68k_exec.specs.Access.Shapes.{behind, end_in}
+use Rattle.m68k_exec.specs.Access.Shapes.{following, end_in}
 use Rattle.m68k_exec.specs.Access.Vectors.{zero_divide}
 
 -- a divisor of 0 is an exception, and an overflow leaves the register
@@ -28,7 +28,7 @@ finished quotient n regs =
 -- a data register divided by the source, as signed numbers or not
 unfoldable pub quotient_by : Bool → ℕ → Mode → ℕ → Regs → Act Outcome
 quotient_by signed n mode start regs = do
-  source ← load mode Word (behind start 2) regs
+  source ← load mode Word (following start 2) regs
   give (finished (divided signed source.value (register_of source.regs n)) n source.regs)
 
 -- DIVU: a register of 32 bits by a word, both unsigned

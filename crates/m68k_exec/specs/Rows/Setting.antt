@@ -11,7 +11,7 @@ use Rattle.m68k_exec.specs.Access.Actions.{Act, ◌>>=◌, give}
 use Rattle.m68k_exec.specs.Access.Conditions.{holds}
 use Rattle.m68k_exec.specs.Access.Operands.{fetch, put}
 use Rattle.m68k_exec.specs.Access.Outcomes.{Outcome, plain}
-use Rattle.m68k_exec.specs.Access.Shapes.{behind}
+use Rattle.m68k_exec.specs.Access.Shapes.{following}
 
 -- all ones, or 0
 abbrev pub byte_by : Bool → ℕ
@@ -21,7 +21,7 @@ byte_by false = 0
 -- Scc: a byte in memory is read before it is written, and what was read is not looked at
 unfoldable pub scc : Condition → Mode → ℕ → Regs → Act Outcome
 scc condition mode start regs = do
-  let to = place_of mode Byte regs (behind start 2)
+  let to = place_of mode Byte regs (following start 2)
   let met = holds condition (flags_of regs)
   old ← fetch Byte to (stepped mode Byte regs)
   after ← put Byte to (byte_by met) (stepped mode Byte regs)

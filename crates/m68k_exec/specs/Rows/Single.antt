@@ -12,15 +12,15 @@ use Rattle.m68k_alu.specs.Tasks.{computed}
 use Rattle.m68k_exec.specs.Access.Actions.{Act, ◌>>=◌, give}
 use Rattle.m68k_exec.specs.Access.Operands.{load}
 use Rattle.m68k_exec.specs.Access.Outcomes.{Outcome, plain}
-use Rattle.m68k_exec.specs.Access.Shapes.{behind, change_data, change_operand, test_operand}
+use Rattle.m68k_exec.specs.Access.Shapes.{following, change_data, change_operand, test_operand}
 
 -- NEGX, CLR, NEG, NOT: CLR too reads its operand
 unfoldable pub unary : Task → Size → Mode → ℕ → Regs → Act Outcome
-unary task size mode start regs = change_operand task size 0 mode (behind start 2) regs
+unary task size mode start regs = change_operand task size 0 mode (following start 2) regs
 
 -- NBCD
 unfoldable pub nbcd : Mode → ℕ → Regs → Act Outcome
-nbcd mode start regs = change_operand tasks.Nbcd Byte 0 mode (behind start 2) regs
+nbcd mode start regs = change_operand tasks.Nbcd Byte 0 mode (following start 2) regs
 
 -- SWAP
 unfoldable pub swap : ℕ → Regs → Outcome
@@ -33,11 +33,11 @@ ext size n regs = change_data tasks.Ext size 0 n regs
 -- TST
 unfoldable pub tst : Size → Mode → ℕ → Regs → Act Outcome
 tst size mode start regs = do
-  operand ← load mode size (behind start 2) regs
+  operand ← load mode size (following start 2) regs
   let out = computed tasks.Move size operand.value operand.value (flags_of regs)
   give (plain (with_flags operand.regs out.flags))
 
 -- TAS: on this board a byte in memory is read and stays
 abbrev pub tas : Mode → ℕ → Regs → Act Outcome
-tas (Data n) start regs = change_operand tasks.Tas Byte 0 (Data n) (behind start 2) regs
-tas mode start regs = test_operand tasks.Tas Byte 0 mode (behind start 2) regs
+tas (Data n) start regs = change_operand tasks.Tas Byte 0 (Data n) (following start 2) regs
+tas mode start regs = test_operand tasks.Tas Byte 0 mode (following start 2) regs

@@ -10,7 +10,7 @@ use Rattle.m68k_ea.specs.Steps.{stepped}
 use Rattle.m68k_exec.specs.Access.Actions.{Act, ◌>>=◌, give}
 use Rattle.m68k_exec.specs.Access.Operands.{fetch, load, put}
 use Rattle.m68k_exec.specs.Access.Outcomes.{Outcome, plain}
-use Rattle.m68k_exec.specs.Access.Shapes.{behind, refuse}
+use Rattle.m68k_exec.specs.Access.Shapes.{following, refuse}
 use Rattle.m68k_exec.specs.Access.Vectors.{privilege_violation}
 
 -- the status register has T, S, the interrupt mask, X, N, Z, V and C; its other bits are 0
@@ -29,7 +29,7 @@ privileged start regs outcome =
 -- MOVE from SR, which reads its target before it writes it, and is not privileged
 unfoldable pub move_from_sr : Mode → ℕ → Regs → Act Outcome
 move_from_sr mode start regs = do
-  let to = place_of mode Word regs (behind start 2)
+  let to = place_of mode Word regs (following start 2)
   old ← fetch Word to (stepped mode Word regs)
   after ← put Word to regs.sr (stepped mode Word regs)
   give (plain after)
@@ -37,13 +37,13 @@ move_from_sr mode start regs = do
 -- MOVE to CCR
 unfoldable pub move_to_ccr : Mode → ℕ → Regs → Act Outcome
 move_to_ccr mode start regs = do
-  operand ← load mode Word (behind start 2) regs
+  operand ← load mode Word (following start 2) regs
   give (plain (with_ccr operand.value operand.regs))
 
 -- MOVE to SR in supervisor mode
 unfoldable pub load_sr : Mode → ℕ → Regs → Act Outcome
 load_sr mode start regs = do
-  operand ← load mode Word (behind start 2) regs
+  operand ← load mode Word (following start 2) regs
   give (plain (with_sr operand.value operand.regs))
 
 -- MOVE to SR, which reads nothing in user mode

@@ -151,9 +151,9 @@ sampled cause regs memory =
     sample_of cause (instruction_of words) (opcode words) regs memory
 
 -- what a step tells, with the registers and what was done then
-abbrev pub told_by : Step → Regs → Done → Result Ended Stop
-told_by (steps.Need request) regs done = Err (Ask request)
-told_by (steps.Done finish) regs done = Ok (record {
+abbrev pub reported_by : Step → Regs → Done → Result Ended Stop
+reported_by (steps.Need request) regs done = Err (Ask request)
+reported_by (steps.Done finish) regs done = Ok (record {
   op = finish.op;
   regs = regs;
   writes = done.writes;

@@ -4,7 +4,7 @@ ghost use Rattle.m68k_exec.specs.Access.Actions as actions;
 ghost use Rattle.m68k_exec.specs.Access.Clauses.{SpendsAtMost, done_of, memory_of};
 ghost use Rattle.m68k_exec.specs.Access.Memory as memory;
 
-use crate::{Around, Progress};
+use crate::{Context, Progress};
 
 /// The first address of the work RAM, which is repeated up to the last address.
 pub const WORK_RAM: u32 = 0xe0_0000;
@@ -46,11 +46,11 @@ pub fn word_at(at: u32, rom: &[u8], ram: &[u8; 65536]) -> u16
 
 /// A word of an instruction, which is no access: at an odd address FFFFh.
 #[tactic(auto, unfolding(crate::specs::Access::Memory::instruction_word))]
-fn instruction_word(address: u32, around: &Around) -> u16
-    ensures { result ≡ memory.instruction_word address (memory_of around.now) }
+fn instruction_word(address: u32, context: &Context) -> u16
+    ensures { result ≡ memory.instruction_word address (memory_of context.now) }
 {
     if address % 2 == 0 {
-        word_at(bus_address(address), around.rom, around.ram)
+        word_at(bus_address(address), context.rom, context.ram)
     } else {
         0xffff
     }
@@ -58,38 +58,38 @@ fn instruction_word(address: u32, around: &Around) -> u16
 
 /// A word of an instruction that lies in the cartridge.
 #[tactic(auto, unfolding(crate::specs::Access::Memory::instruction_word, crate::specs::Access::Memory::word_at, crate::specs::Access::Memory::byte_at))]
-fn cartridge_word(address: u32, around: &Around) -> u16
+fn cartridge_word(address: u32, context: &Context) -> u16
     requires even { address % 2 ≡ 0 }
     requires below { address % 0x100_0000 + 1 < 0xe0_0000 }
-    requires within { address % 0x100_0000 + 1 < length around.now.rom.now }
-    ensures { result ≡ memory.instruction_word address (memory_of around.now) }
+    requires within { address % 0x100_0000 + 1 < length context.now.rom.now }
+    ensures { result ≡ memory.instruction_word address (memory_of context.now) }
 {
     let at = bus_address(address) as usize;
-    u16::from(around.rom[at]) * 0x100 + u16::from(around.rom[at + 1])
+    u16::from(context.rom[at]) * 0x100 + u16::from(context.rom[at + 1])
 }
 
 /// As many words as the longest instruction has, from an address on. None is an access; at an odd
 /// address, and outside the cartridge and work RAM, each is FFFFh.
 #[tactic(auto, unfolding(crate::specs::Access::Memory::instruction_words))]
-pub fn instruction_words(address: u32, around: &Around) -> [u16; 5]
-    ensures { result ≡ memory.instruction_words address (memory_of around.now) }
+pub fn instruction_words(address: u32, context: &Context) -> [u16; 5]
+    ensures { result ≡ memory.instruction_words address (memory_of context.now) }
 {
     let at = bus_address(address);
-    if address % 2 == 0 && at < WORK_RAM - 10 && (at as usize) + 10 <= around.rom.len() {
+    if address % 2 == 0 && at < WORK_RAM - 10 && (at as usize) + 10 <= context.rom.len() {
         [
-            cartridge_word(address, around),
-            cartridge_word(address.wrapping_add(2), around),
-            cartridge_word(address.wrapping_add(4), around),
-            cartridge_word(address.wrapping_add(6), around),
-            cartridge_word(address.wrapping_add(8), around),
+            cartridge_word(address, context),
+            cartridge_word(address.wrapping_add(2), context),
+            cartridge_word(address.wrapping_add(4), context),
+            cartridge_word(address.wrapping_add(6), context),
+            cartridge_word(address.wrapping_add(8), context),
         ]
     } else {
         [
-            instruction_word(address, around),
-            instruction_word(address.wrapping_add(2), around),
-            instruction_word(address.wrapping_add(4), around),
-            instruction_word(address.wrapping_add(6), around),
-            instruction_word(address.wrapping_add(8), around),
+            instruction_word(address, context),
+            instruction_word(address.wrapping_add(2), context),
+            instruction_word(address.wrapping_add(4), context),
+            instruction_word(address.wrapping_add(6), context),
+            instruction_word(address.wrapping_add(8), context),
         ]
     }
 }
@@ -110,24 +110,24 @@ fn ram_byte(at: u32, ram: &[u8; 65536], writes: &[(u32, u8)]) -> u8
 
 /// What a private read of a byte sees, with the instruction's own writes.
 #[tactic(auto, unfolding(crate::specs::Access::Actions::byte_seen, crate::specs::Access::Memory::byte_at))]
-pub fn byte_seen(at: u32, around: &Around, progress: &Progress) -> u8
-    ensures { result ≡ actions.byte_seen at (memory_of around.now) (done_of progress.now) }
+pub fn byte_seen(at: u32, context: &Context, progress: &Progress) -> u8
+    ensures { result ≡ actions.byte_seen at (memory_of context.now) (done_of progress.now) }
 {
     if at >= WORK_RAM {
-        ram_byte(at, around.ram, progress.writes.as_slice())
+        ram_byte(at, context.ram, progress.writes.as_slice())
     } else {
-        byte_at(at, around.rom, around.ram)
+        byte_at(at, context.rom, context.ram)
     }
 }
 
 /// What a private read of a word sees, with the instruction's own writes.
 #[tactic(auto, unfolding(crate::specs::Access::Actions::word_seen, crate::specs::Access::Actions::byte_seen, crate::specs::Access::Memory::word_at))]
-pub fn word_seen(at: u32, around: &Around, progress: &Progress) -> u16
+pub fn word_seen(at: u32, context: &Context, progress: &Progress) -> u16
     requires { at < 0x100_0000 }
-    ensures { result ≡ actions.word_seen at (memory_of around.now) (done_of progress.now) }
+    ensures { result ≡ actions.word_seen at (memory_of context.now) (done_of progress.now) }
 {
-    let high = byte_seen(at, around, progress);
-    let low = byte_seen(at + 1, around, progress);
+    let high = byte_seen(at, context, progress);
+    let low = byte_seen(at + 1, context, progress);
     u16::from(high) * 0x100 + u16::from(low)
 }
 

@@ -10,7 +10,7 @@ ghost use Rattle.m68k_exec.specs.Access.Clauses.{Leaves, Loads, Meets, done_of, 
 ghost use Rattle.m68k_exec.specs.Access.Operands as operands;
 
 use crate::access::{read, write};
-use crate::{Around, Progress, Stop};
+use crate::{Context, Progress, Stop};
 use m68k_ea::{Place, place};
 use md_word::{Mode, Regs, Size};
 
@@ -48,19 +48,19 @@ pub fn effective(mode: Mode, size: Size, pc: u32, regs: &Regs) -> u32
 pub fn fetch(
     size: Size,
     place: Place,
-    around: &Around,
+    context: &Context,
     regs: &Regs,
     progress: &mut Progress,
 ) -> Result<u32, Stop>
     requires { IsPlace size place }
     ensures value { Meets result (done_of progress.new)
-        (operands.fetch size place regs.now (memory_of around.now) (done_of progress.old)) }
+        (operands.fetch size place regs.now (memory_of context.now) (done_of progress.old)) }
     ensures below { IfOk result (λ value. value < modulus_of size) }
     ensures written { array_vec_len progress.new.writes ≤ array_vec_len progress.old.writes }
 {
     match place {
         Place::Register(number) => Ok(size.low(regs.register(number))),
-        Place::Memory(address) => read(size, address, around, progress),
+        Place::Memory(address) => read(size, address, context, progress),
         Place::Immediate(value) => Ok(value),
         Place::Odd(address) => Err(Stop::Odd {
             address,
@@ -98,7 +98,7 @@ pub fn put(
     size: Size,
     place: Place,
     value: u32,
-    around: &Around,
+    context: &Context,
     regs: &mut Regs,
     progress: &mut Progress,
 ) -> Result<(), Stop>
@@ -106,7 +106,7 @@ pub fn put(
     requires value { value < modulus_of size }
     requires room { array_vec_len progress.old.writes + operands.bytes_of size ≤ 80 }
     ensures value { Leaves result regs.new (done_of progress.new)
-        (operands.put size place value regs.old (memory_of around.now) (done_of progress.old)) }
+        (operands.put size place value regs.old (memory_of context.now) (done_of progress.old)) }
     ensures written { array_vec_len progress.new.writes ≤ array_vec_len progress.old.writes + operands.bytes_of size }
 {
     match place {
@@ -114,7 +114,7 @@ pub fn put(
             set_part(size, number, value, regs);
             Ok(())
         }
-        Place::Memory(address) => write(size, address, value, around, progress),
+        Place::Memory(address) => write(size, address, value, context, progress),
         Place::Immediate(_) => Ok(()),
         Place::Odd(address) => Err(Stop::Odd {
             address,
@@ -132,18 +132,18 @@ pub fn load(
     mode: Mode,
     size: Size,
     pc: u32,
-    around: &Around,
+    context: &Context,
     regs: &mut Regs,
     progress: &mut Progress,
 ) -> Result<u32, Stop>
     requires { IsMode mode }
     ensures value { Loads result regs.new (done_of progress.new)
-        (operands.load mode size pc regs.old (memory_of around.now) (done_of progress.old)) }
+        (operands.load mode size pc regs.old (memory_of context.now) (done_of progress.old)) }
     ensures below { IfOk result (λ value. value < modulus_of size) }
     ensures written { array_vec_len progress.new.writes ≤ array_vec_len progress.old.writes }
 {
     let from = locate(mode, size, pc, regs);
-    let value = fetch(size, from, around, regs, progress)?;
+    let value = fetch(size, from, context, regs, progress)?;
     step(mode, size, regs);
     Ok(value)
 }
@@ -165,7 +165,7 @@ pub fn bytes_of(size: Size) -> u32
 pub fn push(
     size: Size,
     value: u32,
-    around: &Around,
+    context: &Context,
     regs: &mut Regs,
     progress: &mut Progress,
 ) -> Result<(), Stop>
@@ -173,11 +173,11 @@ pub fn push(
     requires value { value < modulus_of size }
     requires room { array_vec_len progress.old.writes + operands.bytes_of size ≤ 80 }
     ensures value { Leaves result regs.new (done_of progress.new)
-        (operands.push size value regs.old (memory_of around.now) (done_of progress.old)) }
+        (operands.push size value regs.old (memory_of context.now) (done_of progress.old)) }
     ensures written { array_vec_len progress.new.writes ≤ array_vec_len progress.old.writes + operands.bytes_of size }
 {
     let to = regs.address(STACK).wrapping_sub(bytes_of(size));
-    write(size, to, value, around, progress)?;
+    write(size, to, value, context, progress)?;
     regs.set_address(STACK, to);
     Ok(())
 }
@@ -187,18 +187,18 @@ pub fn push(
 #[tactic(auto, using(crate::proofs::Stack::stack_set), unfolding(crate::specs::Access::Operands::pull))]
 pub fn pull(
     size: Size,
-    around: &Around,
+    context: &Context,
     regs: &mut Regs,
     progress: &mut Progress,
 ) -> Result<u32, Stop>
     requires { size ≢ Byte }
     ensures value { Loads result regs.new (done_of progress.new)
-        (operands.pull size regs.old (memory_of around.now) (done_of progress.old)) }
+        (operands.pull size regs.old (memory_of context.now) (done_of progress.old)) }
     ensures below { IfOk result (λ value. value < modulus_of size) }
     ensures written { array_vec_len progress.new.writes ≤ array_vec_len progress.old.writes }
 {
     let stack = regs.address(STACK);
-    let value = read(size, stack, around, progress)?;
+    let value = read(size, stack, context, progress)?;
     regs.set_address(STACK, stack.wrapping_add(bytes_of(size)));
     Ok(value)
 }

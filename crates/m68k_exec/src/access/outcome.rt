@@ -1,5 +1,5 @@
 ghost use Rattle.std.specs.Prelude.{◌≡◌};
-ghost use Rattle.m68k_exec.specs.Access.Outcomes.{told_nothing};
+ghost use Rattle.m68k_exec.specs.Access.Outcomes.{reported_nothing};
 
 /// The outcome of an instruction, once its accesses are answered.
 #[derive(Clone, Copy)]
@@ -20,7 +20,7 @@ pub struct Outcome {
 impl Outcome {
     /// Nothing but the registers to report.
     pub fn plain() -> Self
-        ensures { result ≡ told_nothing }
+        ensures { result ≡ reported_nothing }
     {
         Outcome {
             taken: false,

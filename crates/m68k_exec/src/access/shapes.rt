@@ -7,7 +7,7 @@ ghost use Rattle.m68k_exec.specs.Access.Clauses.{Ends, done_of, memory_of};
 ghost use Rattle.m68k_exec.specs.Access.Shapes as shapes;
 
 use crate::access::operands::{fetch, load, locate, put, set_part, step};
-use crate::{Around, Outcome, Progress, Stop};
+use crate::{Context, Outcome, Progress, Stop};
 use m68k_alu::compute;
 use md_word::{Mode, Regs, Size, Task};
 
@@ -48,17 +48,17 @@ pub fn test_operand(
     number: u32,
     mode: Mode,
     pc: u32,
-    around: &Around,
+    context: &Context,
     regs: &mut Regs,
     progress: &mut Progress,
 ) -> Result<Outcome, Stop>
     requires mode { IsMode mode }
     requires number { number < modulus_of size }
-    ensures value { Ends result regs.new (done_of progress.new) (shapes.test_operand task size number mode pc regs.old (memory_of around.now) (done_of progress.old)) }
+    ensures value { Ends result regs.new (done_of progress.new) (shapes.test_operand task size number mode pc regs.old (memory_of context.now) (done_of progress.old)) }
     ensures written { array_vec_len progress.new.writes ≤ array_vec_len progress.old.writes }
 {
     let flags = regs.flags();
-    let operand = load(mode, size, pc, around, regs, progress)?;
+    let operand = load(mode, size, pc, context, regs, progress)?;
     let out = compute(task, size, number, operand, flags);
     regs.set_flags(out.flags);
     Ok(Outcome::plain())
@@ -74,22 +74,22 @@ pub fn change_operand(
     number: u32,
     mode: Mode,
     pc: u32,
-    around: &Around,
+    context: &Context,
     regs: &mut Regs,
     progress: &mut Progress,
 ) -> Result<Outcome, Stop>
     requires mode { IsMode mode }
     requires number { number < modulus_of size }
     requires fresh { array_vec_len progress.old.writes ≡ 0 }
-    ensures value { Ends result regs.new (done_of progress.new) (shapes.change_operand task size number mode pc regs.old (memory_of around.now) (done_of progress.old)) }
+    ensures value { Ends result regs.new (done_of progress.new) (shapes.change_operand task size number mode pc regs.old (memory_of context.now) (done_of progress.old)) }
     ensures written { array_vec_len progress.new.writes ≤ array_vec_len progress.old.writes + 4 }
 {
     let to = locate(mode, size, pc, regs);
     let flags = regs.flags();
     step(mode, size, regs);
-    let old = fetch(size, to, around, regs, progress)?;
+    let old = fetch(size, to, context, regs, progress)?;
     let out = compute(task, size, number, old, flags);
-    put(size, to, out.value, around, regs, progress)?;
+    put(size, to, out.value, context, regs, progress)?;
     regs.set_flags(out.flags);
     Ok(Outcome::plain())
 }
@@ -119,17 +119,17 @@ pub fn change_register(
     number: u8,
     mode: Mode,
     pc: u32,
-    around: &Around,
+    context: &Context,
     regs: &mut Regs,
     progress: &mut Progress,
 ) -> Result<Outcome, Stop>
     requires mode { IsMode mode }
     requires number { number < 16 }
-    ensures value { Ends result regs.new (done_of progress.new) (shapes.change_register task size number mode pc regs.old (memory_of around.now) (done_of progress.old)) }
+    ensures value { Ends result regs.new (done_of progress.new) (shapes.change_register task size number mode pc regs.old (memory_of context.now) (done_of progress.old)) }
     ensures written { array_vec_len progress.new.writes ≤ array_vec_len progress.old.writes }
 {
     let flags = regs.flags();
-    let operand = load(mode, size, pc, around, regs, progress)?;
+    let operand = load(mode, size, pc, context, regs, progress)?;
     let old = regs.register(number);
     let out = compute(task, size, operand, size.low(old), flags);
     set_part(size, number, out.value, regs);

@@ -4,7 +4,7 @@ use arrayvec::ArrayVec;
 
 /// What stays as it is while an instruction runs.
 #[derive(Clone, Copy)]
-pub struct Around<'a> {
+pub struct Context<'a> {
     /// The cartridge's image.
     pub rom: &'a [u8],
     /// Work RAM before the instruction.

@@ -8,7 +8,7 @@ ghost use Rattle.m68k_exec.specs.Access.Clauses.{Ends, done_of, memory_of};
 
 use crate::access::operands::load;
 use crate::access::shapes::{change_operand, change_register};
-use crate::{Around, Outcome, Progress, Stop};
+use crate::{Context, Outcome, Progress, Stop};
 use m68k_alu::compute;
 use md_word::{Mode, Regs, Size, Task, extend};
 
@@ -31,21 +31,21 @@ pub fn quick(
     value: u8,
     mode: Mode,
     start: u32,
-    around: &Around,
+    context: &Context,
     regs: &mut Regs,
     progress: &mut Progress,
 ) -> Result<Outcome, Stop>
     requires value { value ≤ 8 }
     requires mode { IsMode mode }
     requires fresh { array_vec_len progress.old.writes ≡ 0 }
-    ensures value { Ends result regs.new (done_of progress.new) (arithmetic.quick task size value mode start regs.old (memory_of around.now) (done_of progress.old)) }
+    ensures value { Ends result regs.new (done_of progress.new) (arithmetic.quick task size value mode start regs.old (memory_of context.now) (done_of progress.old)) }
     ensures written { array_vec_len progress.new.writes ≤ array_vec_len progress.old.writes + 4 }
 {
     let value = u32::from(value);
     let pc = start.wrapping_add(2);
     match mode {
         Mode::Address(number) => Ok(change_address(task, value, number, regs)),
-        _ => change_operand(task, size, value, mode, pc, around, regs, progress),
+        _ => change_operand(task, size, value, mode, pc, context, regs, progress),
     }
 }
 
@@ -57,17 +57,17 @@ pub fn to_register(
     number: u8,
     mode: Mode,
     start: u32,
-    around: &Around,
+    context: &Context,
     regs: &mut Regs,
     progress: &mut Progress,
 ) -> Result<Outcome, Stop>
     requires number { number < 8 }
     requires mode { IsMode mode }
-    ensures value { Ends result regs.new (done_of progress.new) (arithmetic.to_register task size number mode start regs.old (memory_of around.now) (done_of progress.old)) }
+    ensures value { Ends result regs.new (done_of progress.new) (arithmetic.to_register task size number mode start regs.old (memory_of context.now) (done_of progress.old)) }
     ensures written { array_vec_len progress.new.writes ≤ array_vec_len progress.old.writes }
 {
     let pc = start.wrapping_add(2);
-    change_register(task, size, number, mode, pc, around, regs, progress)
+    change_register(task, size, number, mode, pc, context, regs, progress)
 }
 
 /// OR, SUB, AND, ADD of a data register to memory.
@@ -78,19 +78,19 @@ pub fn to_memory(
     number: u8,
     mode: Mode,
     start: u32,
-    around: &Around,
+    context: &Context,
     regs: &mut Regs,
     progress: &mut Progress,
 ) -> Result<Outcome, Stop>
     requires number { number < 8 }
     requires mode { IsMode mode }
     requires fresh { array_vec_len progress.old.writes ≡ 0 }
-    ensures value { Ends result regs.new (done_of progress.new) (arithmetic.to_memory task size number mode start regs.old (memory_of around.now) (done_of progress.old)) }
+    ensures value { Ends result regs.new (done_of progress.new) (arithmetic.to_memory task size number mode start regs.old (memory_of context.now) (done_of progress.old)) }
     ensures written { array_vec_len progress.new.writes ≤ array_vec_len progress.old.writes + 4 }
 {
     let source = size.low(regs.register(number));
     let pc = start.wrapping_add(2);
-    change_operand(task, size, source, mode, pc, around, regs, progress)
+    change_operand(task, size, source, mode, pc, context, regs, progress)
 }
 
 /// EOR of a data register to another or to memory.
@@ -100,17 +100,26 @@ pub fn eor(
     number: u8,
     mode: Mode,
     start: u32,
-    around: &Around,
+    context: &Context,
     regs: &mut Regs,
     progress: &mut Progress,
 ) -> Result<Outcome, Stop>
     requires number { number < 8 }
     requires mode { IsMode mode }
     requires fresh { array_vec_len progress.old.writes ≡ 0 }
-    ensures value { Ends result regs.new (done_of progress.new) (arithmetic.eor size number mode start regs.old (memory_of around.now) (done_of progress.old)) }
+    ensures value { Ends result regs.new (done_of progress.new) (arithmetic.eor size number mode start regs.old (memory_of context.now) (done_of progress.old)) }
     ensures written { array_vec_len progress.new.writes ≤ array_vec_len progress.old.writes + 4 }
 {
-    to_memory(Task::Eor, size, number, mode, start, around, regs, progress)
+    to_memory(
+        Task::Eor,
+        size,
+        number,
+        mode,
+        start,
+        context,
+        regs,
+        progress,
+    )
 }
 
 /// SUBA, ADDA: a word has its sign extended, and no flag is changed.
@@ -121,17 +130,17 @@ pub fn to_address(
     number: u8,
     mode: Mode,
     start: u32,
-    around: &Around,
+    context: &Context,
     regs: &mut Regs,
     progress: &mut Progress,
 ) -> Result<Outcome, Stop>
     requires number { number < 8 }
     requires mode { IsMode mode }
-    ensures value { Ends result regs.new (done_of progress.new) (arithmetic.to_address task size number mode start regs.old (memory_of around.now) (done_of progress.old)) }
+    ensures value { Ends result regs.new (done_of progress.new) (arithmetic.to_address task size number mode start regs.old (memory_of context.now) (done_of progress.old)) }
     ensures written { array_vec_len progress.new.writes ≤ array_vec_len progress.old.writes }
 {
     let pc = start.wrapping_add(2);
-    let source = load(mode, size, pc, around, regs, progress)?;
+    let source = load(mode, size, pc, context, regs, progress)?;
     let value = extend(source, size);
     Ok(change_address(task, value, number, regs))
 }
@@ -142,15 +151,15 @@ pub fn shift_memory(
     task: Task,
     mode: Mode,
     start: u32,
-    around: &Around,
+    context: &Context,
     regs: &mut Regs,
     progress: &mut Progress,
 ) -> Result<Outcome, Stop>
     requires mode { IsMode mode }
     requires fresh { array_vec_len progress.old.writes ≡ 0 }
-    ensures value { Ends result regs.new (done_of progress.new) (arithmetic.shift_memory task mode start regs.old (memory_of around.now) (done_of progress.old)) }
+    ensures value { Ends result regs.new (done_of progress.new) (arithmetic.shift_memory task mode start regs.old (memory_of context.now) (done_of progress.old)) }
     ensures written { array_vec_len progress.new.writes ≤ array_vec_len progress.old.writes + 4 }
 {
     let pc = start.wrapping_add(2);
-    change_operand(task, Size::Word, 1, mode, pc, around, regs, progress)
+    change_operand(task, Size::Word, 1, mode, pc, context, regs, progress)
 }

@@ -8,7 +8,7 @@ ghost use Rattle.m68k_exec.specs.Rows.Bits as bits;
 ghost use Rattle.m68k_exec.specs.Access.Clauses.{Ends, done_of, memory_of};
 
 use crate::access::shapes::{change_operand, test_operand};
-use crate::{Around, Outcome, Progress, Stop};
+use crate::{Context, Outcome, Progress, Stop};
 use md_word::{Mode, Regs, Size, Task};
 
 /// A data register is a long, memory a byte.
@@ -29,19 +29,19 @@ fn bit_of_size(
     number: u32,
     mode: Mode,
     pc: u32,
-    around: &Around,
+    context: &Context,
     regs: &mut Regs,
     progress: &mut Progress,
 ) -> Result<Outcome, Stop>
     requires mode { IsMode mode }
     requires number { number < modulus_of size }
     requires fresh { array_vec_len progress.old.writes ≡ 0 }
-    ensures value { Ends result regs.new (done_of progress.new) (bits.bit_of_size task size number mode pc regs.old (memory_of around.now) (done_of progress.old)) }
+    ensures value { Ends result regs.new (done_of progress.new) (bits.bit_of_size task size number mode pc regs.old (memory_of context.now) (done_of progress.old)) }
     ensures written { array_vec_len progress.new.writes ≤ array_vec_len progress.old.writes + 4 }
 {
     match task {
-        Task::Btst => test_operand(task, size, number, mode, pc, around, regs, progress),
-        _ => change_operand(task, size, number, mode, pc, around, regs, progress),
+        Task::Btst => test_operand(task, size, number, mode, pc, context, regs, progress),
+        _ => change_operand(task, size, number, mode, pc, context, regs, progress),
     }
 }
 
@@ -52,13 +52,13 @@ fn bit(
     number: u32,
     mode: Mode,
     pc: u32,
-    around: &Around,
+    context: &Context,
     regs: &mut Regs,
     progress: &mut Progress,
 ) -> Result<Outcome, Stop>
     requires mode { IsMode mode }
     requires fresh { array_vec_len progress.old.writes ≡ 0 }
-    ensures value { Ends result regs.new (done_of progress.new) (bits.bit task number mode pc regs.old (memory_of around.now) (done_of progress.old)) }
+    ensures value { Ends result regs.new (done_of progress.new) (bits.bit task number mode pc regs.old (memory_of context.now) (done_of progress.old)) }
     ensures written { array_vec_len progress.new.writes ≤ array_vec_len progress.old.writes + 4 }
 {
     let size = bit_size(mode);
@@ -68,7 +68,7 @@ fn bit(
         size.low(number),
         mode,
         pc,
-        around,
+        context,
         regs,
         progress,
     )
@@ -81,14 +81,14 @@ pub fn bit_by_register(
     number: u8,
     mode: Mode,
     start: u32,
-    around: &Around,
+    context: &Context,
     regs: &mut Regs,
     progress: &mut Progress,
 ) -> Result<Outcome, Stop>
     requires number { number < 8 }
     requires mode { IsMode mode }
     requires fresh { array_vec_len progress.old.writes ≡ 0 }
-    ensures value { Ends result regs.new (done_of progress.new) (bits.bit_by_register task number mode start regs.old (memory_of around.now) (done_of progress.old)) }
+    ensures value { Ends result regs.new (done_of progress.new) (bits.bit_by_register task number mode start regs.old (memory_of context.now) (done_of progress.old)) }
     ensures written { array_vec_len progress.new.writes ≤ array_vec_len progress.old.writes + 4 }
 {
     let bit_number = regs.register(number);
@@ -97,7 +97,7 @@ pub fn bit_by_register(
         bit_number,
         mode,
         start.wrapping_add(2),
-        around,
+        context,
         regs,
         progress,
     )
@@ -110,13 +110,13 @@ pub fn bit_by_number(
     number: u8,
     mode: Mode,
     start: u32,
-    around: &Around,
+    context: &Context,
     regs: &mut Regs,
     progress: &mut Progress,
 ) -> Result<Outcome, Stop>
     requires mode { IsMode mode }
     requires fresh { array_vec_len progress.old.writes ≡ 0 }
-    ensures value { Ends result regs.new (done_of progress.new) (bits.bit_by_number task number mode start regs.old (memory_of around.now) (done_of progress.old)) }
+    ensures value { Ends result regs.new (done_of progress.new) (bits.bit_by_number task number mode start regs.old (memory_of context.now) (done_of progress.old)) }
     ensures written { array_vec_len progress.new.writes ≤ array_vec_len progress.old.writes + 4 }
 {
     bit(
@@ -124,7 +124,7 @@ pub fn bit_by_number(
         u32::from(number),
         mode,
         start.wrapping_add(4),
-        around,
+        context,
         regs,
         progress,
     )

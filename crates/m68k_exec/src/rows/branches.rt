@@ -7,7 +7,7 @@ ghost use Rattle.m68k_exec.specs.Access.Clauses.{Ends, done_of, memory_of};
 use crate::access::conditions::holds;
 use crate::access::operands::push;
 use crate::access::shapes::jump_to;
-use crate::{Around, Outcome, Progress, Stop};
+use crate::{Context, Outcome, Progress, Stop};
 use m68k_decode::{Condition, Displacement};
 use md_word::{Regs, Size, extend};
 
@@ -46,15 +46,15 @@ pub fn bra(displacement: Displacement, start: u32, regs: &mut Regs) -> Outcome
 pub fn bsr(
     displacement: Displacement,
     start: u32,
-    around: &Around,
+    context: &Context,
     regs: &mut Regs,
     progress: &mut Progress,
 ) -> Result<Outcome, Stop>
     requires fresh { array_vec_len progress.old.writes ≡ 0 }
-    ensures value { Ends result regs.new (done_of progress.new) (branches.bsr displacement start regs.old (memory_of around.now) (done_of progress.old)) }
+    ensures value { Ends result regs.new (done_of progress.new) (branches.bsr displacement start regs.old (memory_of context.now) (done_of progress.old)) }
     ensures written { array_vec_len progress.new.writes ≤ array_vec_len progress.old.writes + 4 }
 {
-    push(Size::Long, regs.pc, around, regs, progress)?;
+    push(Size::Long, regs.pc, context, regs, progress)?;
     Ok(branched(distance_of(displacement), start, regs))
 }
 

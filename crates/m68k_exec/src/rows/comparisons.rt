@@ -7,7 +7,7 @@ ghost use Rattle.m68k_exec.specs.Access.Clauses.{Ends, done_of, memory_of};
 ghost use Rattle.m68k_exec.specs.Rows.Comparisons as comparisons;
 
 use crate::access::operands::load;
-use crate::{Around, Outcome, Progress, Stop};
+use crate::{Context, Outcome, Progress, Stop};
 use m68k_alu::compute;
 use md_word::{Mode, Regs, Size, Task, extend};
 
@@ -30,17 +30,17 @@ pub fn cmp(
     number: u8,
     mode: Mode,
     start: u32,
-    around: &Around,
+    context: &Context,
     regs: &mut Regs,
     progress: &mut Progress,
 ) -> Result<Outcome, Stop>
     requires number { number < 8 }
     requires mode { IsMode mode }
-    ensures value { Ends result regs.new (done_of progress.new) (comparisons.cmp size number mode start regs.old (memory_of around.now) (done_of progress.old)) }
+    ensures value { Ends result regs.new (done_of progress.new) (comparisons.cmp size number mode start regs.old (memory_of context.now) (done_of progress.old)) }
     ensures written { array_vec_len progress.new.writes ≤ array_vec_len progress.old.writes }
 {
     let pc = start.wrapping_add(2);
-    let source = load(mode, size, pc, around, regs, progress)?;
+    let source = load(mode, size, pc, context, regs, progress)?;
     let target = size.low(regs.register(number));
     Ok(compared(size, source, target, regs))
 }
@@ -52,17 +52,17 @@ pub fn cmpa(
     number: u8,
     mode: Mode,
     start: u32,
-    around: &Around,
+    context: &Context,
     regs: &mut Regs,
     progress: &mut Progress,
 ) -> Result<Outcome, Stop>
     requires number { number < 8 }
     requires mode { IsMode mode }
-    ensures value { Ends result regs.new (done_of progress.new) (comparisons.cmpa size number mode start regs.old (memory_of around.now) (done_of progress.old)) }
+    ensures value { Ends result regs.new (done_of progress.new) (comparisons.cmpa size number mode start regs.old (memory_of context.now) (done_of progress.old)) }
     ensures written { array_vec_len progress.new.writes ≤ array_vec_len progress.old.writes }
 {
     let pc = start.wrapping_add(2);
-    let source = load(mode, size, pc, around, regs, progress)?;
+    let source = load(mode, size, pc, context, regs, progress)?;
     let target = regs.address(number);
     Ok(compared(Size::Long, extend(source, size), target, regs))
 }
@@ -74,17 +74,17 @@ pub fn cmpm(
     x: u8,
     y: u8,
     start: u32,
-    around: &Around,
+    context: &Context,
     regs: &mut Regs,
     progress: &mut Progress,
 ) -> Result<Outcome, Stop>
     requires x { x < 8 }
     requires y { y < 8 }
-    ensures value { Ends result regs.new (done_of progress.new) (comparisons.cmpm size x y start regs.old (memory_of around.now) (done_of progress.old)) }
+    ensures value { Ends result regs.new (done_of progress.new) (comparisons.cmpm size x y start regs.old (memory_of context.now) (done_of progress.old)) }
     ensures written { array_vec_len progress.new.writes ≤ array_vec_len progress.old.writes }
 {
     let pc = start.wrapping_add(2);
-    let source = load(Mode::PostInc(y), size, pc, around, regs, progress)?;
-    let target = load(Mode::PostInc(x), size, pc, around, regs, progress)?;
+    let source = load(Mode::PostInc(y), size, pc, context, regs, progress)?;
+    let target = load(Mode::PostInc(x), size, pc, context, regs, progress)?;
     Ok(compared(size, source, target, regs))
 }

@@ -12,7 +12,7 @@ use crate::access::vector::{
     ILLEGAL_INSTRUCTION, LINE_A, LINE_F, OUT_OF_BOUNDS, OVERFLOW, PRIVILEGE_VIOLATION, TRAP,
 };
 use crate::rows::status::{set_ccr, set_sr};
-use crate::{Around, Outcome, Progress, Stop};
+use crate::{Context, Outcome, Progress, Stop};
 use md_word::{Flags, Mode, Regs, Size};
 
 /// JMP. An odd address is the next instruction's error.
@@ -30,38 +30,38 @@ pub fn jmp(mode: Mode, start: u32, regs: &mut Regs) -> Outcome
 pub fn jsr(
     mode: Mode,
     start: u32,
-    around: &Around,
+    context: &Context,
     regs: &mut Regs,
     progress: &mut Progress,
 ) -> Result<Outcome, Stop>
     requires mode { IsMode mode }
     requires fresh { array_vec_len progress.old.writes ≡ 0 }
-    ensures value { Ends result regs.new (done_of progress.new) (control.jsr mode start regs.old (memory_of around.now) (done_of progress.old)) }
+    ensures value { Ends result regs.new (done_of progress.new) (control.jsr mode start regs.old (memory_of context.now) (done_of progress.old)) }
     ensures written { array_vec_len progress.new.writes ≤ array_vec_len progress.old.writes + 4 }
 {
     let target = effective(mode, Size::Long, start.wrapping_add(2), regs);
-    push(Size::Long, regs.pc, around, regs, progress)?;
+    push(Size::Long, regs.pc, context, regs, progress)?;
     Ok(jump_to(target, regs))
 }
 
 /// RTS.
 #[tactic(auto, unfolding(crate::specs::Rows::Control::rts))]
-pub fn rts(around: &Around, regs: &mut Regs, progress: &mut Progress) -> Result<Outcome, Stop>
-    ensures value { Ends result regs.new (done_of progress.new) (control.rts regs.old (memory_of around.now) (done_of progress.old)) }
+pub fn rts(context: &Context, regs: &mut Regs, progress: &mut Progress) -> Result<Outcome, Stop>
+    ensures value { Ends result regs.new (done_of progress.new) (control.rts regs.old (memory_of context.now) (done_of progress.old)) }
     ensures written { array_vec_len progress.new.writes ≤ array_vec_len progress.old.writes }
 {
-    let target = pull(Size::Long, around, regs, progress)?;
+    let target = pull(Size::Long, context, regs, progress)?;
     Ok(jump_to(target, regs))
 }
 
 /// RTR.
 #[tactic(auto, unfolding(crate::specs::Rows::Control::rtr))]
-pub fn rtr(around: &Around, regs: &mut Regs, progress: &mut Progress) -> Result<Outcome, Stop>
-    ensures value { Ends result regs.new (done_of progress.new) (control.rtr regs.old (memory_of around.now) (done_of progress.old)) }
+pub fn rtr(context: &Context, regs: &mut Regs, progress: &mut Progress) -> Result<Outcome, Stop>
+    ensures value { Ends result regs.new (done_of progress.new) (control.rtr regs.old (memory_of context.now) (done_of progress.old)) }
     ensures written { array_vec_len progress.new.writes ≤ array_vec_len progress.old.writes }
 {
-    let codes = pull(Size::Word, around, regs, progress)?;
-    let target = pull(Size::Long, around, regs, progress)?;
+    let codes = pull(Size::Word, context, regs, progress)?;
+    let target = pull(Size::Long, context, regs, progress)?;
     set_ccr(codes as u16, regs);
     Ok(jump_to(target, regs))
 }
@@ -69,15 +69,15 @@ pub fn rtr(around: &Around, regs: &mut Regs, progress: &mut Progress) -> Result<
 /// RTE in supervisor mode.
 #[tactic(auto, unfolding(crate::specs::Rows::Control::return_from_exception))]
 fn return_from_exception(
-    around: &Around,
+    context: &Context,
     regs: &mut Regs,
     progress: &mut Progress,
 ) -> Result<Outcome, Stop>
-    ensures value { Ends result regs.new (done_of progress.new) (control.return_from_exception regs.old (memory_of around.now) (done_of progress.old)) }
+    ensures value { Ends result regs.new (done_of progress.new) (control.return_from_exception regs.old (memory_of context.now) (done_of progress.old)) }
     ensures written { array_vec_len progress.new.writes ≤ array_vec_len progress.old.writes }
 {
-    let status = pull(Size::Word, around, regs, progress)?;
-    let target = pull(Size::Long, around, regs, progress)?;
+    let status = pull(Size::Word, context, regs, progress)?;
+    let target = pull(Size::Long, context, regs, progress)?;
     set_sr(status as u16, regs);
     Ok(jump_to(target, regs))
 }
@@ -86,15 +86,15 @@ fn return_from_exception(
 #[tactic(auto, unfolding(crate::specs::Rows::Control::rte))]
 pub fn rte(
     start: u32,
-    around: &Around,
+    context: &Context,
     regs: &mut Regs,
     progress: &mut Progress,
 ) -> Result<Outcome, Stop>
-    ensures value { Ends result regs.new (done_of progress.new) (control.rte start regs.old (memory_of around.now) (done_of progress.old)) }
+    ensures value { Ends result regs.new (done_of progress.new) (control.rte start regs.old (memory_of context.now) (done_of progress.old)) }
     ensures written { array_vec_len progress.new.writes ≤ array_vec_len progress.old.writes }
 {
     if regs.is_supervisor() {
-        return_from_exception(around, regs, progress)
+        return_from_exception(context, regs, progress)
     } else {
         Ok(refuse(PRIVILEGE_VIOLATION, start, regs))
     }
@@ -157,13 +157,13 @@ pub fn chk(
     number: u8,
     mode: Mode,
     start: u32,
-    around: &Around,
+    context: &Context,
     regs: &mut Regs,
     progress: &mut Progress,
 ) -> Result<Outcome, Stop>
     requires number { number < 8 }
     requires mode { IsMode mode }
-    ensures value { Ends result regs.new (done_of progress.new) (control.chk number mode start regs.old (memory_of around.now) (done_of progress.old)) }
+    ensures value { Ends result regs.new (done_of progress.new) (control.chk number mode start regs.old (memory_of context.now) (done_of progress.old)) }
     ensures written { array_vec_len progress.new.writes ≤ array_vec_len progress.old.writes }
 {
     let value = regs.register(number) % 0x1_0000;
@@ -171,7 +171,7 @@ pub fn chk(
         mode,
         Size::Word,
         start.wrapping_add(2),
-        around,
+        context,
         regs,
         progress,
     )?;

@@ -9,13 +9,13 @@ ghost use Rattle.m68k_exec.specs.Rows.Immediates as immediates;
 use crate::access::shapes::{change_operand, refuse, test_operand};
 use crate::access::vector::PRIVILEGE_VIOLATION;
 use crate::rows::status::{set_ccr, set_sr};
-use crate::{Around, Outcome, Progress, Stop};
+use crate::{Context, Outcome, Progress, Stop};
 use m68k_alu::compute;
 use md_word::{Mode, Regs, Size, Task};
 
 /// Where the target's words are: after the number.
-fn behind_number(size: Size, start: u32) -> u32
-    ensures { result ≡ immediates.behind_number size start }
+fn after_number(size: Size, start: u32) -> u32
+    ensures { result ≡ immediates.after_number size start }
 {
     match size {
         Size::Byte | Size::Word => start.wrapping_add(4),
@@ -31,18 +31,18 @@ pub fn immediate(
     number: u32,
     mode: Mode,
     start: u32,
-    around: &Around,
+    context: &Context,
     regs: &mut Regs,
     progress: &mut Progress,
 ) -> Result<Outcome, Stop>
     requires mode { IsMode mode }
     requires number { number < modulus_of size }
     requires fresh { array_vec_len progress.old.writes ≡ 0 }
-    ensures value { Ends result regs.new (done_of progress.new) (immediates.immediate task size number mode start regs.old (memory_of around.now) (done_of progress.old)) }
+    ensures value { Ends result regs.new (done_of progress.new) (immediates.immediate task size number mode start regs.old (memory_of context.now) (done_of progress.old)) }
     ensures written { array_vec_len progress.new.writes ≤ array_vec_len progress.old.writes + 4 }
 {
-    let pc = behind_number(size, start);
-    change_operand(task, size, number, mode, pc, around, regs, progress)
+    let pc = after_number(size, start);
+    change_operand(task, size, number, mode, pc, context, regs, progress)
 }
 
 /// CMPI.
@@ -52,17 +52,17 @@ pub fn compare_immediate(
     number: u32,
     mode: Mode,
     start: u32,
-    around: &Around,
+    context: &Context,
     regs: &mut Regs,
     progress: &mut Progress,
 ) -> Result<Outcome, Stop>
     requires mode { IsMode mode }
     requires number { number < modulus_of size }
-    ensures value { Ends result regs.new (done_of progress.new) (immediates.compare_immediate size number mode start regs.old (memory_of around.now) (done_of progress.old)) }
+    ensures value { Ends result regs.new (done_of progress.new) (immediates.compare_immediate size number mode start regs.old (memory_of context.now) (done_of progress.old)) }
     ensures written { array_vec_len progress.new.writes ≤ array_vec_len progress.old.writes }
 {
-    let pc = behind_number(size, start);
-    test_operand(Task::Cmp, size, number, mode, pc, around, regs, progress)
+    let pc = after_number(size, start);
+    test_operand(Task::Cmp, size, number, mode, pc, context, regs, progress)
 }
 
 /// ORI, ANDI, EORI to CCR.

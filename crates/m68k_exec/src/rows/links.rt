@@ -6,7 +6,7 @@ ghost use Rattle.m68k_exec.specs.Access.Clauses.{Ends, done_of, memory_of};
 ghost use Rattle.m68k_exec.specs.Rows.Links as links;
 
 use crate::access::operands::{effective, pull, push};
-use crate::{Around, Outcome, Progress, Stop};
+use crate::{Context, Outcome, Progress, Stop};
 use md_word::{Mode, Regs, Size, extend};
 
 /// The number of the active stack pointer, A7.
@@ -29,17 +29,17 @@ pub fn lea(number: u8, mode: Mode, start: u32, regs: &mut Regs) -> Outcome
 pub fn pea(
     mode: Mode,
     start: u32,
-    around: &Around,
+    context: &Context,
     regs: &mut Regs,
     progress: &mut Progress,
 ) -> Result<Outcome, Stop>
     requires mode { IsMode mode }
     requires fresh { array_vec_len progress.old.writes ≡ 0 }
-    ensures value { Ends result regs.new (done_of progress.new) (links.pea mode start regs.old (memory_of around.now) (done_of progress.old)) }
+    ensures value { Ends result regs.new (done_of progress.new) (links.pea mode start regs.old (memory_of context.now) (done_of progress.old)) }
     ensures written { array_vec_len progress.new.writes ≤ array_vec_len progress.old.writes + 4 }
 {
     let address = effective(mode, Size::Long, start.wrapping_add(2), regs);
-    push(Size::Long, address, around, regs, progress)?;
+    push(Size::Long, address, context, regs, progress)?;
     Ok(Outcome::plain())
 }
 
@@ -58,17 +58,17 @@ fn lowered(regs: &Regs) -> Regs
 pub fn link(
     number: u8,
     by: u16,
-    around: &Around,
+    context: &Context,
     regs: &mut Regs,
     progress: &mut Progress,
 ) -> Result<Outcome, Stop>
     requires number { number < 8 }
     requires fresh { array_vec_len progress.old.writes ≡ 0 }
-    ensures value { Ends result regs.new (done_of progress.new) (links.link number by regs.old (memory_of around.now) (done_of progress.old)) }
+    ensures value { Ends result regs.new (done_of progress.new) (links.link number by regs.old (memory_of context.now) (done_of progress.old)) }
     ensures written { array_vec_len progress.new.writes ≤ array_vec_len progress.old.writes + 4 }
 {
     let saved = lowered(regs).address(number);
-    push(Size::Long, saved, around, regs, progress)?;
+    push(Size::Long, saved, context, regs, progress)?;
     let frame = regs.address(STACK);
     regs.set_address(number, frame);
     let offset = extend(u32::from(by), Size::Word);
@@ -81,17 +81,17 @@ pub fn link(
 #[tactic(auto, unfolding(crate::specs::Rows::Links::unlk))]
 pub fn unlk(
     number: u8,
-    around: &Around,
+    context: &Context,
     regs: &mut Regs,
     progress: &mut Progress,
 ) -> Result<Outcome, Stop>
     requires { number < 8 }
-    ensures value { Ends result regs.new (done_of progress.new) (links.unlk number regs.old (memory_of around.now) (done_of progress.old)) }
+    ensures value { Ends result regs.new (done_of progress.new) (links.unlk number regs.old (memory_of context.now) (done_of progress.old)) }
     ensures written { array_vec_len progress.new.writes ≤ array_vec_len progress.old.writes }
 {
     let frame = regs.address(number);
     regs.set_address(STACK, frame);
-    let old = pull(Size::Long, around, regs, progress)?;
+    let old = pull(Size::Long, context, regs, progress)?;
     regs.set_address(number, old);
     Ok(Outcome::plain())
 }

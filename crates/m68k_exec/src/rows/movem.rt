@@ -3,7 +3,7 @@ ghost use Rattle.std.specs.Int.RustNames.{count_ones};
 ghost use Rattle.arrayvec.specs.ArrayVec.{array_vec_len};
 ghost use Rattle.md_word.specs.Modes.{IsMode};
 ghost use Rattle.m68k_exec.specs.Access.Clauses.{Ends, done_of, memory_of};
-ghost use Rattle.m68k_exec.specs.Access.Outcomes.{told_nothing};
+ghost use Rattle.m68k_exec.specs.Access.Outcomes.{reported_nothing};
 ghost use Rattle.m68k_exec.specs.Rows.Movem as movem;
 
 pub mod loads;
@@ -12,7 +12,7 @@ pub mod stores;
 use crate::access::operands::effective;
 use crate::rows::movem::loads::load_list;
 use crate::rows::movem::stores::store_list;
-use crate::{Around, Outcome, Progress, Stop};
+use crate::{Context, Outcome, Progress, Stop};
 use md_word::{Mode, Regs, Size};
 
 /// In which direction MOVEM goes through memory.
@@ -102,7 +102,7 @@ fn leave_at(mode: Mode, at: u32, regs: &mut Regs)
 
 /// So many registers were moved.
 fn moved(list: u16) -> Outcome
-    ensures { result ≡ record told_nothing { count = count_ones list } }
+    ensures { result ≡ record reported_nothing { count = count_ones list } }
 {
     Outcome {
         count: list.count_ones() as u8,
@@ -118,17 +118,17 @@ pub fn movem_to_memory(
     list: u16,
     mode: Mode,
     start: u32,
-    around: &Around,
+    context: &Context,
     regs: &mut Regs,
     progress: &mut Progress,
 ) -> Result<Outcome, Stop>
     requires mode { IsMode mode }
     requires fresh { array_vec_len progress.old.writes ≡ 0 }
-    ensures value { Ends result regs.new (done_of progress.new) (movem.movem_to_memory size list mode start regs.old (memory_of around.now) (done_of progress.old)) }
+    ensures value { Ends result regs.new (done_of progress.new) (movem.movem_to_memory size list mode start regs.old (memory_of context.now) (done_of progress.old)) }
     ensures written { array_vec_len progress.new.writes ≤ array_vec_len progress.old.writes + 64 }
 {
     let at = first_address(size, mode, start.wrapping_add(4), regs);
-    let reached = store_list(order_of(mode), size, list, at, around, regs, progress)?;
+    let reached = store_list(order_of(mode), size, list, at, context, regs, progress)?;
     leave_at(mode, reached, regs);
     Ok(moved(list))
 }
@@ -141,16 +141,16 @@ pub fn movem_to_registers(
     list: u16,
     mode: Mode,
     start: u32,
-    around: &Around,
+    context: &Context,
     regs: &mut Regs,
     progress: &mut Progress,
 ) -> Result<Outcome, Stop>
     requires { IsMode mode }
-    ensures value { Ends result regs.new (done_of progress.new) (movem.movem_to_registers size list mode start regs.old (memory_of around.now) (done_of progress.old)) }
+    ensures value { Ends result regs.new (done_of progress.new) (movem.movem_to_registers size list mode start regs.old (memory_of context.now) (done_of progress.old)) }
     ensures written { array_vec_len progress.new.writes ≤ array_vec_len progress.old.writes }
 {
     let at = effective(mode, size, start.wrapping_add(4), regs);
-    let reached = load_list(size, list, at, around, regs, progress)?;
+    let reached = load_list(size, list, at, context, regs, progress)?;
     leave_at(mode, reached, regs);
     Ok(moved(list))
 }

@@ -7,21 +7,21 @@ ghost use Rattle.m68k_ea.specs.Steps.{stepped};
 ghost use Rattle.m68k_exec.specs.Access.Operands as operands;
 ghost use Rattle.m68k_exec.specs.Access.Actions as actions;
 ghost use Rattle.m68k_exec.specs.Access.Clauses.{Ends, Leaves, Meets, done_of, memory_of};
-ghost use Rattle.m68k_exec.specs.Sample.Foresight.{Foresees, WaitsForLast};
+ghost use Rattle.m68k_exec.specs.Sample.Prediction.{Predicts, WaitsForLast};
 ghost use Rattle.m68k_decode.specs.Ops as ops;
 ghost use Rattle.m68k_exec.specs.Rows.Moves as moves;
 
 use crate::access::operands::{load, locate, put, step};
 use crate::access::write;
-use crate::{Around, Foreseen, Outcome, Progress, Stop};
+use crate::{Context, Outcome, Predicted, Progress, Stop};
 use m68k_alu::compute;
 use m68k_ea::Place;
 use md_word::{Flags, Mode, Regs, Size, Task, extend};
 
 /// Where the target's words are: after the source's.
 #[inline(always)]
-fn behind_source(size: Size, source: Mode, start: u32) -> u32
-    ensures { result ≡ moves.behind_source size source start }
+fn after_source(size: Size, source: Mode, start: u32) -> u32
+    ensures { result ≡ moves.after_source size source start }
 {
     match source {
         Mode::Data(_) | Mode::Address(_) | Mode::Indirect(_) => start.wrapping_add(2),
@@ -50,32 +50,32 @@ fn waits_for_last(size: Size, used: usize, count: usize) -> bool
 /// Writes the result of MOVE into memory. Where the last access of that waits, the registers after the
 /// instruction are predicted: those given, with its flags.
 #[inline(always)]
-#[tactic(auto, using(crate::proofs::Foresight::nothing_waits))]
+#[tactic(auto, using(crate::proofs::Prediction::nothing_waits))]
 fn write_last(
     size: Size,
     address: u32,
     value: u32,
     flags: Flags,
-    around: &Around,
+    context: &Context,
     regs: &Regs,
     progress: &mut Progress,
-    foreseen: &mut Foreseen,
+    predicted: &mut Predicted,
 ) -> Result<(), Stop>
     requires value { value < modulus_of size }
     requires fresh { array_vec_len progress.old.writes ≡ 0 }
-    requires nothing { foreseen.old.known ≡ false }
-    ensures value { Meets result (done_of progress.new) (actions.write size address value (memory_of around.now) (done_of progress.old)) }
+    requires nothing { predicted.old.known ≡ false }
+    ensures value { Meets result (done_of progress.new) (actions.write size address value (memory_of context.now) (done_of progress.old)) }
     ensures written { array_vec_len progress.new.writes ≤ array_vec_len progress.old.writes + 4 }
-    ensures foreseen { WaitsForLast result foreseen.new (with_flags regs.now flags) (actions.write size address value) tt (memory_of around.now) (done_of progress.old) }
+    ensures predicted { WaitsForLast result predicted.new (with_flags regs.now flags) (actions.write size address value) tt (memory_of context.now) (done_of progress.old) }
 {
-    let last = waits_for_last(size, progress.used, around.answers.len());
-    match write(size, address, value, around, progress) {
+    let last = waits_for_last(size, progress.used, context.answers.len());
+    match write(size, address, value, context, progress) {
         Ok(()) => Ok(()),
         Err(Stop::Ask(request)) => {
             if last {
-                foreseen.known = true;
-                foreseen.regs = *regs;
-                foreseen.regs.set_flags(flags);
+                predicted.known = true;
+                predicted.regs = *regs;
+                predicted.regs.set_flags(flags);
             }
             Err(Stop::Ask(request))
         }
@@ -86,65 +86,65 @@ fn write_last(
 /// Writes the result of MOVE where a mode names, and moves the register of (An)+ or −(An). Where the last
 /// access of that waits, the registers after the instruction are predicted.
 #[inline(always)]
-#[tactic(auto, using(crate::proofs::Foresight::nothing_waits), unfolding(crate::specs::Access::Operands::store, crate::specs::Access::Operands::put, crate::specs::Access::Operands::stored))]
+#[tactic(auto, using(crate::proofs::Prediction::nothing_waits), unfolding(crate::specs::Access::Operands::store, crate::specs::Access::Operands::put, crate::specs::Access::Operands::stored))]
 fn store_last(
     mode: Mode,
     size: Size,
     value: u32,
     flags: Flags,
     pc: u32,
-    around: &Around,
+    context: &Context,
     regs: &mut Regs,
     progress: &mut Progress,
-    foreseen: &mut Foreseen,
+    predicted: &mut Predicted,
 ) -> Result<(), Stop>
     requires mode { IsMode mode }
     requires value { value < modulus_of size }
     requires fresh { array_vec_len progress.old.writes ≡ 0 }
-    requires nothing { foreseen.old.known ≡ false }
-    ensures value { Leaves result regs.new (done_of progress.new) (operands.store mode size value pc regs.old (memory_of around.now) (done_of progress.old)) }
+    requires nothing { predicted.old.known ≡ false }
+    ensures value { Leaves result regs.new (done_of progress.new) (operands.store mode size value pc regs.old (memory_of context.now) (done_of progress.old)) }
     ensures written { array_vec_len progress.new.writes ≤ array_vec_len progress.old.writes + 4 }
-    ensures foreseen { WaitsForLast result foreseen.new (with_flags (stepped mode size regs.old) flags) (operands.store mode size value pc regs.old) (stepped mode size regs.old) (memory_of around.now) (done_of progress.old) }
+    ensures predicted { WaitsForLast result predicted.new (with_flags (stepped mode size regs.old) flags) (operands.store mode size value pc regs.old) (stepped mode size regs.old) (memory_of context.now) (done_of progress.old) }
 {
     let to = locate(mode, size, pc, regs);
     step(mode, size, regs);
     match to {
         Place::Memory(address) => {
             write_last(
-                size, address, value, flags, around, regs, progress, foreseen,
+                size, address, value, flags, context, regs, progress, predicted,
             )
         }
-        place => put(size, place, value, around, regs, progress),
+        place => put(size, place, value, context, regs, progress),
     }
 }
 
 /// MOVE. The source is read, and its register moved, before the target's address is calculated.
 #[inline(always)]
-#[tactic(auto, using(crate::proofs::Foresight::nothing_foreseen), unfolding(crate::specs::Rows::Moves::move_operand))]
+#[tactic(auto, using(crate::proofs::Prediction::nothing_predicted), unfolding(crate::specs::Rows::Moves::move_operand))]
 pub fn move_operand(
     size: Size,
     source: Mode,
     target: Mode,
     start: u32,
-    around: &Around,
+    context: &Context,
     regs: &mut Regs,
     progress: &mut Progress,
-    foreseen: &mut Foreseen,
+    predicted: &mut Predicted,
 ) -> Result<Outcome, Stop>
     requires source { IsMode source }
     requires target { IsMode target }
     requires fresh { array_vec_len progress.old.writes ≡ 0 }
-    requires nothing { foreseen.old.known ≡ false }
-    ensures value { Ends result regs.new (done_of progress.new) (moves.move_operand size source target start regs.old (memory_of around.now) (done_of progress.old)) }
+    requires nothing { predicted.old.known ≡ false }
+    ensures value { Ends result regs.new (done_of progress.new) (moves.move_operand size source target start regs.old (memory_of context.now) (done_of progress.old)) }
     ensures written { array_vec_len progress.new.writes ≤ array_vec_len progress.old.writes + 4 }
-    ensures foreseen { Foresees result foreseen.new (moves.move_operand size source target start regs.old) (memory_of around.now) (done_of progress.old) }
+    ensures predicted { Predicts result predicted.new (moves.move_operand size source target start regs.old) (memory_of context.now) (done_of progress.old) }
 {
     let flags = regs.flags();
-    let from = load(source, size, start.wrapping_add(2), around, regs, progress)?;
+    let from = load(source, size, start.wrapping_add(2), context, regs, progress)?;
     let out = compute(Task::Move, size, from, from, flags);
-    let pc = behind_source(size, source, start);
+    let pc = after_source(size, source, start);
     match store_last(
-        target, size, out.value, out.flags, pc, around, regs, progress, foreseen,
+        target, size, out.value, out.flags, pc, context, regs, progress, predicted,
     ) {
         Ok(()) => {
             regs.set_flags(out.flags);
@@ -161,16 +161,16 @@ pub fn move_address(
     number: u8,
     mode: Mode,
     start: u32,
-    around: &Around,
+    context: &Context,
     regs: &mut Regs,
     progress: &mut Progress,
 ) -> Result<Outcome, Stop>
     requires number { number < 8 }
     requires mode { IsMode mode }
-    ensures value { Ends result regs.new (done_of progress.new) (moves.move_address size number mode start regs.old (memory_of around.now) (done_of progress.old)) }
+    ensures value { Ends result regs.new (done_of progress.new) (moves.move_address size number mode start regs.old (memory_of context.now) (done_of progress.old)) }
     ensures written { array_vec_len progress.new.writes ≤ array_vec_len progress.old.writes }
 {
-    let from = load(mode, size, start.wrapping_add(2), around, regs, progress)?;
+    let from = load(mode, size, start.wrapping_add(2), context, regs, progress)?;
     regs.set_address(number, extend(from, size));
     Ok(Outcome::plain())
 }

@@ -7,7 +7,7 @@ ghost use Rattle.m68k_exec.specs.Rows.Multiprecision as multiprecision;
 
 use crate::access::operands::load;
 use crate::access::shapes::change_operand;
-use crate::{Around, Outcome, Progress, Stop};
+use crate::{Context, Outcome, Progress, Stop};
 use md_word::{Mode, Regs, Size, Task};
 
 /// ADDX, SUBX: the register of the source is lowered before that of the target.
@@ -18,19 +18,19 @@ pub fn extended(
     source: Mode,
     target: Mode,
     start: u32,
-    around: &Around,
+    context: &Context,
     regs: &mut Regs,
     progress: &mut Progress,
 ) -> Result<Outcome, Stop>
     requires source { IsMode source }
     requires target { IsMode target }
     requires fresh { array_vec_len progress.old.writes ≡ 0 }
-    ensures value { Ends result regs.new (done_of progress.new) (multiprecision.extended task size source target start regs.old (memory_of around.now) (done_of progress.old)) }
+    ensures value { Ends result regs.new (done_of progress.new) (multiprecision.extended task size source target start regs.old (memory_of context.now) (done_of progress.old)) }
     ensures written { array_vec_len progress.new.writes ≤ array_vec_len progress.old.writes + 4 }
 {
     let pc = start.wrapping_add(2);
-    let part = load(source, size, pc, around, regs, progress)?;
-    change_operand(task, size, part, target, pc, around, regs, progress)
+    let part = load(source, size, pc, context, regs, progress)?;
+    change_operand(task, size, part, target, pc, context, regs, progress)
 }
 
 /// ABCD, SBCD.
@@ -40,14 +40,14 @@ pub fn decimal(
     source: Mode,
     target: Mode,
     start: u32,
-    around: &Around,
+    context: &Context,
     regs: &mut Regs,
     progress: &mut Progress,
 ) -> Result<Outcome, Stop>
     requires source { IsMode source }
     requires target { IsMode target }
     requires fresh { array_vec_len progress.old.writes ≡ 0 }
-    ensures value { Ends result regs.new (done_of progress.new) (multiprecision.decimal task source target start regs.old (memory_of around.now) (done_of progress.old)) }
+    ensures value { Ends result regs.new (done_of progress.new) (multiprecision.decimal task source target start regs.old (memory_of context.now) (done_of progress.old)) }
     ensures written { array_vec_len progress.new.writes ≤ array_vec_len progress.old.writes + 4 }
 {
     extended(
@@ -56,7 +56,7 @@ pub fn decimal(
         source,
         target,
         start,
-        around,
+        context,
         regs,
         progress,
     )

@@ -7,7 +7,7 @@ ghost use Rattle.m68k_exec.specs.Rows.Products as products;
 
 use crate::access::operands::load;
 use crate::access::shapes::change_data;
-use crate::{Around, Outcome, Progress, Stop};
+use crate::{Context, Outcome, Progress, Stop};
 use md_word::{Mode, Regs, Size, Task};
 
 /// MULU.
@@ -16,17 +16,17 @@ pub fn mulu(
     number: u8,
     mode: Mode,
     start: u32,
-    around: &Around,
+    context: &Context,
     regs: &mut Regs,
     progress: &mut Progress,
 ) -> Result<Outcome, Stop>
     requires number { number < 8 }
     requires mode { IsMode mode }
-    ensures value { Ends result regs.new (done_of progress.new) (products.mulu number mode start regs.old (memory_of around.now) (done_of progress.old)) }
+    ensures value { Ends result regs.new (done_of progress.new) (products.mulu number mode start regs.old (memory_of context.now) (done_of progress.old)) }
     ensures written { array_vec_len progress.new.writes ≤ array_vec_len progress.old.writes }
 {
     let pc = start.wrapping_add(2);
-    let source = load(mode, Size::Word, pc, around, regs, progress)?;
+    let source = load(mode, Size::Word, pc, context, regs, progress)?;
     let after = change_data(Task::Mulu, Size::Long, source, number, regs);
     Ok(Outcome {
         count: source.count_ones() as u8,
@@ -49,17 +49,17 @@ pub fn muls(
     number: u8,
     mode: Mode,
     start: u32,
-    around: &Around,
+    context: &Context,
     regs: &mut Regs,
     progress: &mut Progress,
 ) -> Result<Outcome, Stop>
     requires number { number < 8 }
     requires mode { IsMode mode }
-    ensures value { Ends result regs.new (done_of progress.new) (products.muls number mode start regs.old (memory_of around.now) (done_of progress.old)) }
+    ensures value { Ends result regs.new (done_of progress.new) (products.muls number mode start regs.old (memory_of context.now) (done_of progress.old)) }
     ensures written { array_vec_len progress.new.writes ≤ array_vec_len progress.old.writes }
 {
     let pc = start.wrapping_add(2);
-    let source = load(mode, Size::Word, pc, around, regs, progress)?;
+    let source = load(mode, Size::Word, pc, context, regs, progress)?;
     let after = change_data(Task::Muls, Size::Long, source, number, regs);
     Ok(Outcome {
         count: unlike_neighbours(source),

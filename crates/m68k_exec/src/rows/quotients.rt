@@ -9,7 +9,7 @@ ghost use Rattle.m68k_exec.specs.Rows.Quotients as quotients;
 use crate::access::operands::load;
 use crate::access::shapes::end_in;
 use crate::access::vector::ZERO_DIVIDE;
-use crate::{Around, Outcome, Progress, Stop};
+use crate::{Context, Outcome, Progress, Stop};
 use m68k_alu::{Quotient, divide};
 use md_word::{Mode, Regs, Size};
 
@@ -38,17 +38,17 @@ fn quotient_by(
     number: u8,
     mode: Mode,
     start: u32,
-    around: &Around,
+    context: &Context,
     regs: &mut Regs,
     progress: &mut Progress,
 ) -> Result<Outcome, Stop>
     requires number { number < 8 }
     requires mode { IsMode mode }
-    ensures value { Ends result regs.new (done_of progress.new) (quotients.quotient_by signed number mode start regs.old (memory_of around.now) (done_of progress.old)) }
+    ensures value { Ends result regs.new (done_of progress.new) (quotients.quotient_by signed number mode start regs.old (memory_of context.now) (done_of progress.old)) }
     ensures written { array_vec_len progress.new.writes ≤ array_vec_len progress.old.writes }
 {
     let pc = start.wrapping_add(2);
-    let source = load(mode, Size::Word, pc, around, regs, progress)?;
+    let source = load(mode, Size::Word, pc, context, regs, progress)?;
     let dividend = regs.register(number);
     let quotient = divide(signed, source as u16, dividend);
     Ok(finished(quotient, number, regs))
@@ -60,16 +60,16 @@ pub fn divu(
     number: u8,
     mode: Mode,
     start: u32,
-    around: &Around,
+    context: &Context,
     regs: &mut Regs,
     progress: &mut Progress,
 ) -> Result<Outcome, Stop>
     requires number { number < 8 }
     requires mode { IsMode mode }
-    ensures value { Ends result regs.new (done_of progress.new) (quotients.divu number mode start regs.old (memory_of around.now) (done_of progress.old)) }
+    ensures value { Ends result regs.new (done_of progress.new) (quotients.divu number mode start regs.old (memory_of context.now) (done_of progress.old)) }
     ensures written { array_vec_len progress.new.writes ≤ array_vec_len progress.old.writes }
 {
-    quotient_by(false, number, mode, start, around, regs, progress)
+    quotient_by(false, number, mode, start, context, regs, progress)
 }
 
 /// DIVS.
@@ -78,14 +78,14 @@ pub fn divs(
     number: u8,
     mode: Mode,
     start: u32,
-    around: &Around,
+    context: &Context,
     regs: &mut Regs,
     progress: &mut Progress,
 ) -> Result<Outcome, Stop>
     requires number { number < 8 }
     requires mode { IsMode mode }
-    ensures value { Ends result regs.new (done_of progress.new) (quotients.divs number mode start regs.old (memory_of around.now) (done_of progress.old)) }
+    ensures value { Ends result regs.new (done_of progress.new) (quotients.divs number mode start regs.old (memory_of context.now) (done_of progress.old)) }
     ensures written { array_vec_len progress.new.writes ≤ array_vec_len progress.old.writes }
 {
-    quotient_by(true, number, mode, start, around, regs, progress)
+    quotient_by(true, number, mode, start, context, regs, progress)
 }

@@ -7,7 +7,7 @@ ghost use Rattle.m68k_exec.specs.Rows.Setting as setting;
 
 use crate::access::conditions::holds;
 use crate::access::operands::{fetch, locate, put, step};
-use crate::{Around, Outcome, Progress, Stop};
+use crate::{Context, Outcome, Progress, Stop};
 use m68k_decode::Condition;
 use md_word::{Mode, Regs, Size};
 
@@ -25,20 +25,20 @@ pub fn scc(
     condition: Condition,
     mode: Mode,
     start: u32,
-    around: &Around,
+    context: &Context,
     regs: &mut Regs,
     progress: &mut Progress,
 ) -> Result<Outcome, Stop>
     requires mode { IsMode mode }
     requires fresh { array_vec_len progress.old.writes ≡ 0 }
-    ensures value { Ends result regs.new (done_of progress.new) (setting.scc condition mode start regs.old (memory_of around.now) (done_of progress.old)) }
+    ensures value { Ends result regs.new (done_of progress.new) (setting.scc condition mode start regs.old (memory_of context.now) (done_of progress.old)) }
     ensures written { array_vec_len progress.new.writes ≤ array_vec_len progress.old.writes + 1 }
 {
     let to = locate(mode, Size::Byte, start.wrapping_add(2), regs);
     let met = holds(condition, regs.flags());
     step(mode, Size::Byte, regs);
-    fetch(Size::Byte, to, around, regs, progress)?;
-    put(Size::Byte, to, byte_by(met), around, regs, progress)?;
+    fetch(Size::Byte, to, context, regs, progress)?;
+    put(Size::Byte, to, byte_by(met), context, regs, progress)?;
     Ok(Outcome {
         taken: met,
         ..Outcome::plain()

@@ -8,7 +8,7 @@ ghost use Rattle.m68k_exec.specs.Rows.Single as single;
 
 use crate::access::operands::load;
 use crate::access::shapes::{change_data, change_operand, test_operand};
-use crate::{Around, Outcome, Progress, Stop};
+use crate::{Context, Outcome, Progress, Stop};
 use m68k_alu::compute;
 use md_word::{Mode, Regs, Size, Task};
 
@@ -19,13 +19,13 @@ pub fn unary(
     size: Size,
     mode: Mode,
     start: u32,
-    around: &Around,
+    context: &Context,
     regs: &mut Regs,
     progress: &mut Progress,
 ) -> Result<Outcome, Stop>
     requires mode { IsMode mode }
     requires fresh { array_vec_len progress.old.writes ≡ 0 }
-    ensures value { Ends result regs.new (done_of progress.new) (single.unary task size mode start regs.old (memory_of around.now) (done_of progress.old)) }
+    ensures value { Ends result regs.new (done_of progress.new) (single.unary task size mode start regs.old (memory_of context.now) (done_of progress.old)) }
     ensures written { array_vec_len progress.new.writes ≤ array_vec_len progress.old.writes + 4 }
 {
     change_operand(
@@ -34,7 +34,7 @@ pub fn unary(
         0,
         mode,
         start.wrapping_add(2),
-        around,
+        context,
         regs,
         progress,
     )
@@ -45,13 +45,13 @@ pub fn unary(
 pub fn nbcd(
     mode: Mode,
     start: u32,
-    around: &Around,
+    context: &Context,
     regs: &mut Regs,
     progress: &mut Progress,
 ) -> Result<Outcome, Stop>
     requires mode { IsMode mode }
     requires fresh { array_vec_len progress.old.writes ≡ 0 }
-    ensures value { Ends result regs.new (done_of progress.new) (single.nbcd mode start regs.old (memory_of around.now) (done_of progress.old)) }
+    ensures value { Ends result regs.new (done_of progress.new) (single.nbcd mode start regs.old (memory_of context.now) (done_of progress.old)) }
     ensures written { array_vec_len progress.new.writes ≤ array_vec_len progress.old.writes + 4 }
 {
     change_operand(
@@ -60,7 +60,7 @@ pub fn nbcd(
         0,
         mode,
         start.wrapping_add(2),
-        around,
+        context,
         regs,
         progress,
     )
@@ -90,16 +90,16 @@ pub fn tst(
     size: Size,
     mode: Mode,
     start: u32,
-    around: &Around,
+    context: &Context,
     regs: &mut Regs,
     progress: &mut Progress,
 ) -> Result<Outcome, Stop>
     requires { IsMode mode }
-    ensures value { Ends result regs.new (done_of progress.new) (single.tst size mode start regs.old (memory_of around.now) (done_of progress.old)) }
+    ensures value { Ends result regs.new (done_of progress.new) (single.tst size mode start regs.old (memory_of context.now) (done_of progress.old)) }
     ensures written { array_vec_len progress.new.writes ≤ array_vec_len progress.old.writes }
 {
     let flags = regs.flags();
-    let operand = load(mode, size, start.wrapping_add(2), around, regs, progress)?;
+    let operand = load(mode, size, start.wrapping_add(2), context, regs, progress)?;
     let out = compute(Task::Move, size, operand, operand, flags);
     regs.set_flags(out.flags);
     Ok(Outcome::plain())
@@ -109,20 +109,20 @@ pub fn tst(
 pub fn tas(
     mode: Mode,
     start: u32,
-    around: &Around,
+    context: &Context,
     regs: &mut Regs,
     progress: &mut Progress,
 ) -> Result<Outcome, Stop>
     requires mode { IsMode mode }
     requires fresh { array_vec_len progress.old.writes ≡ 0 }
-    ensures value { Ends result regs.new (done_of progress.new) (single.tas mode start regs.old (memory_of around.now) (done_of progress.old)) }
+    ensures value { Ends result regs.new (done_of progress.new) (single.tas mode start regs.old (memory_of context.now) (done_of progress.old)) }
     ensures written { array_vec_len progress.new.writes ≤ array_vec_len progress.old.writes + 4 }
 {
     let pc = start.wrapping_add(2);
     match mode {
         Mode::Data(_) => {
-            change_operand(Task::Tas, Size::Byte, 0, mode, pc, around, regs, progress)
+            change_operand(Task::Tas, Size::Byte, 0, mode, pc, context, regs, progress)
         }
-        _ => test_operand(Task::Tas, Size::Byte, 0, mode, pc, around, regs, progress),
+        _ => test_operand(Task::Tas, Size::Byte, 0, mode, pc, context, regs, progress),
     }
 }

@@ -9,7 +9,7 @@ ghost use Rattle.m68k_exec.specs.Rows.Status as status;
 use crate::access::operands::{fetch, load, locate, put, step};
 use crate::access::shapes::refuse;
 use crate::access::vector::PRIVILEGE_VIOLATION;
-use crate::{Around, Outcome, Progress, Stop};
+use crate::{Context, Outcome, Progress, Stop};
 use md_word::{Mode, Regs, Size};
 
 /// The bits that the status register has.
@@ -35,20 +35,20 @@ pub fn set_ccr(value: u16, regs: &mut Regs)
 pub fn move_from_sr(
     mode: Mode,
     start: u32,
-    around: &Around,
+    context: &Context,
     regs: &mut Regs,
     progress: &mut Progress,
 ) -> Result<Outcome, Stop>
     requires mode { IsMode mode }
     requires fresh { array_vec_len progress.old.writes ≡ 0 }
-    ensures value { Ends result regs.new (done_of progress.new) (status.move_from_sr mode start regs.old (memory_of around.now) (done_of progress.old)) }
+    ensures value { Ends result regs.new (done_of progress.new) (status.move_from_sr mode start regs.old (memory_of context.now) (done_of progress.old)) }
     ensures written { array_vec_len progress.new.writes ≤ array_vec_len progress.old.writes + 2 }
 {
     let sr = u32::from(regs.sr);
     let to = locate(mode, Size::Word, start.wrapping_add(2), regs);
     step(mode, Size::Word, regs);
-    fetch(Size::Word, to, around, regs, progress)?;
-    put(Size::Word, to, sr, around, regs, progress)?;
+    fetch(Size::Word, to, context, regs, progress)?;
+    put(Size::Word, to, sr, context, regs, progress)?;
     Ok(Outcome::plain())
 }
 
@@ -57,19 +57,19 @@ pub fn move_from_sr(
 pub fn move_to_ccr(
     mode: Mode,
     start: u32,
-    around: &Around,
+    context: &Context,
     regs: &mut Regs,
     progress: &mut Progress,
 ) -> Result<Outcome, Stop>
     requires { IsMode mode }
-    ensures value { Ends result regs.new (done_of progress.new) (status.move_to_ccr mode start regs.old (memory_of around.now) (done_of progress.old)) }
+    ensures value { Ends result regs.new (done_of progress.new) (status.move_to_ccr mode start regs.old (memory_of context.now) (done_of progress.old)) }
     ensures written { array_vec_len progress.new.writes ≤ array_vec_len progress.old.writes }
 {
     let operand = load(
         mode,
         Size::Word,
         start.wrapping_add(2),
-        around,
+        context,
         regs,
         progress,
     )?;
@@ -82,19 +82,19 @@ pub fn move_to_ccr(
 fn load_sr(
     mode: Mode,
     start: u32,
-    around: &Around,
+    context: &Context,
     regs: &mut Regs,
     progress: &mut Progress,
 ) -> Result<Outcome, Stop>
     requires { IsMode mode }
-    ensures value { Ends result regs.new (done_of progress.new) (status.load_sr mode start regs.old (memory_of around.now) (done_of progress.old)) }
+    ensures value { Ends result regs.new (done_of progress.new) (status.load_sr mode start regs.old (memory_of context.now) (done_of progress.old)) }
     ensures written { array_vec_len progress.new.writes ≤ array_vec_len progress.old.writes }
 {
     let operand = load(
         mode,
         Size::Word,
         start.wrapping_add(2),
-        around,
+        context,
         regs,
         progress,
     )?;
@@ -107,16 +107,16 @@ fn load_sr(
 pub fn move_to_sr(
     mode: Mode,
     start: u32,
-    around: &Around,
+    context: &Context,
     regs: &mut Regs,
     progress: &mut Progress,
 ) -> Result<Outcome, Stop>
     requires { IsMode mode }
-    ensures value { Ends result regs.new (done_of progress.new) (status.move_to_sr mode start regs.old (memory_of around.now) (done_of progress.old)) }
+    ensures value { Ends result regs.new (done_of progress.new) (status.move_to_sr mode start regs.old (memory_of context.now) (done_of progress.old)) }
     ensures written { array_vec_len progress.new.writes ≤ array_vec_len progress.old.writes }
 {
     if regs.is_supervisor() {
-        load_sr(mode, start, around, regs, progress)
+        load_sr(mode, start, context, regs, progress)
     } else {
         Ok(refuse(PRIVILEGE_VIOLATION, start, regs))
     }

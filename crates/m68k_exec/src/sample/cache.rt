@@ -3,7 +3,7 @@ ghost use Rattle.m68k_exec.specs.Access.Clauses.{memory_of};
 ghost use Rattle.m68k_exec.specs.Sample.Caches.{IsCacheOf, IsInstructionAt, entry_of, place_of};
 ghost use Rattle.m68k_exec.specs.declared.sample.cache.CachedInstruction.{CachedInstruction};
 
-use crate::Around;
+use crate::Context;
 use crate::access::memory::{WORK_RAM, bus_address, instruction_words};
 use m68k_decode::{Decoded, Op, decode_into};
 use md_word::{Mode, NoMemory, Size, Task};
@@ -39,11 +39,11 @@ fn place_of(address: u32) -> usize
 }
 
 /// The instruction at an address.
-fn decode_at(address: u32, around: &Around) -> CachedInstruction
+fn decode_at(address: u32, context: &Context) -> CachedInstruction
     ensures address { result.address ≡ address }
-    ensures instruction { IsInstructionAt address (memory_of around.now) result }
+    ensures instruction { IsInstructionAt address (memory_of context.now) result }
 {
-    let words = instruction_words(address, around);
+    let words = instruction_words(address, context);
     let mut decoded = Decoded {
         op: Op::Nop,
         length: 2,
@@ -89,32 +89,32 @@ impl DecodeCache {
 
     /// Decodes the instruction at an address into its entry.
     #[inline(never)]
-    fn decode(&mut self, address: u32, around: &Around)
-        requires cache { IsCacheOf around.now.rom.now self.old }
-        ensures cache { IsCacheOf around.now.rom.now self.new }
-        ensures instruction { (blank : CachedInstruction) → IsInstructionAt address (memory_of around.now) (entry_of self.new address blank) }
+    fn decode(&mut self, address: u32, context: &Context)
+        requires cache { IsCacheOf context.now.rom.now self.old }
+        ensures cache { IsCacheOf context.now.rom.now self.new }
+        ensures instruction { (blank : CachedInstruction) → IsInstructionAt address (memory_of context.now) (entry_of self.new address blank) }
     {
-        self.entries[place_of(address)] = decode_at(address, around);
+        self.entries[place_of(address)] = decode_at(address, context);
     }
 
     /// Has the instruction at an address in its entry.
     #[inline(always)]
-    pub(crate) fn refresh(&mut self, address: u32, around: &Around)
-        requires cache { IsCacheOf around.now.rom.now self.old }
-        ensures cache { IsCacheOf around.now.rom.now self.new }
-        ensures instruction { (blank : CachedInstruction) → IsInstructionAt address (memory_of around.now) (entry_of self.new address blank) }
+    pub(crate) fn refresh(&mut self, address: u32, context: &Context)
+        requires cache { IsCacheOf context.now.rom.now self.old }
+        ensures cache { IsCacheOf context.now.rom.now self.new }
+        ensures instruction { (blank : CachedInstruction) → IsInstructionAt address (memory_of context.now) (entry_of self.new address blank) }
     {
         let found = self.entries[place_of(address)].address;
         if found != address || bus_address(address) >= WORK_RAM - 10 {
-            self.decode(address, around);
+            self.decode(address, context);
         }
     }
 
     /// The instruction at an address, which its entry has.
     #[inline(always)]
-    pub(crate) fn entry(&self, address: u32, around: &Around) -> &CachedInstruction
-        requires { (blank : CachedInstruction) → IsInstructionAt address (memory_of around.now) (entry_of self.now address blank) }
-        ensures { IsInstructionAt address (memory_of around.now) result.now }
+    pub(crate) fn entry(&self, address: u32, context: &Context) -> &CachedInstruction
+        requires { (blank : CachedInstruction) → IsInstructionAt address (memory_of context.now) (entry_of self.now address blank) }
+        ensures { IsInstructionAt address (memory_of context.now) result.now }
     {
         &self.entries[place_of(address)]
     }

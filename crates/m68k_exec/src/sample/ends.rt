@@ -3,14 +3,14 @@ ghost use Rattle.arrayvec.specs.ArrayVec.{array_vec_len};
 ghost use Rattle.m68k_exec.specs.Access.Clauses.{done_of, memory_of};
 ghost use Rattle.m68k_exec.specs.Access.Outcomes.{outcome_of};
 ghost use Rattle.m68k_exec.specs.Sample.Entries.{IsException, number_of};
-ghost use Rattle.m68k_exec.specs.Sample.Foresight.{FinishesForeseen};
-ghost use Rattle.m68k_exec.specs.Sample.Samples.{Keeps, told_by};
+ghost use Rattle.m68k_exec.specs.Sample.Prediction.{FinishesPredicted};
+ghost use Rattle.m68k_exec.specs.Sample.Samples.{Keeps, reported_by};
 ghost use Rattle.m68k_exec.specs.Sample.Samples as samples;
 ghost use Rattle.m68k_exec.specs.declared.sample.exception.Exception.TheVariants.{AddressError, Numbered};
 
 use crate::sample::entry::enter;
 use crate::sample::exception::{ADDRESS_ERROR, Exception};
-use crate::{Around, Finish, Foreseen, Outcome, Progress, Step, Stop};
+use crate::{Context, Finish, Outcome, Predicted, Progress, Step, Stop};
 use m68k_decode::Op;
 use md_word::{Regs, Spent, TRACE};
 
@@ -45,7 +45,7 @@ pub fn take_exception(
     exception: Exception,
     trace: bool,
     found: &Regs,
-    around: &Around,
+    context: &Context,
     regs: &mut Regs,
     progress: &mut Progress,
     step: &mut Step,
@@ -54,10 +54,10 @@ pub fn take_exception(
     requires room { array_vec_len progress.old.writes ≤ 64 }
     requires used { progress.old.used ≤ 4 }
     requires some { number_of exception ≢ 0 }
-    ensures value { told_by step.new regs.new (done_of progress.new) ≡ samples.take_exception op.now exception trace found.now regs.old (memory_of around.now) (done_of progress.old) }
+    ensures value { reported_by step.new regs.new (done_of progress.new) ≡ samples.take_exception op.now exception trace found.now regs.old (memory_of context.now) (done_of progress.old) }
     ensures kept { Keeps step.new found.now regs.new }
 {
-    match enter(exception, around, regs, progress) {
+    match enter(exception, context, regs, progress) {
         Ok(Some(after)) => {
             *regs = after;
             *step = Step::Done(Finish {
@@ -95,18 +95,18 @@ pub fn take_address_error(
     address: u32,
     read: bool,
     found: &Regs,
-    around: &Around,
+    context: &Context,
     regs: &mut Regs,
     progress: &mut Progress,
     step: &mut Step,
 )
     requires room { array_vec_len progress.old.writes ≤ 64 }
     requires used { progress.old.used ≤ 4 }
-    ensures value { told_by step.new regs.new (done_of progress.new) ≡ samples.take_exception op.now (AddressError first address read) false found.now regs.old (memory_of around.now) (done_of progress.old) }
+    ensures value { reported_by step.new regs.new (done_of progress.new) ≡ samples.take_exception op.now (AddressError first address read) false found.now regs.old (memory_of context.now) (done_of progress.old) }
     ensures kept { Keeps step.new found.now regs.new }
 {
     let exception = Exception::AddressError(first, address, read);
-    take_exception(op, exception, false, found, around, regs, progress, step)
+    take_exception(op, exception, false, found, context, regs, progress, step)
 }
 
 /// An instruction that ended in the exception of this vector number.
@@ -115,7 +115,7 @@ fn take_numbered(
     op: &Op,
     vector: u8,
     found: &Regs,
-    around: &Around,
+    context: &Context,
     regs: &mut Regs,
     progress: &mut Progress,
     step: &mut Step,
@@ -123,12 +123,12 @@ fn take_numbered(
     requires room { array_vec_len progress.old.writes ≤ 64 }
     requires used { progress.old.used ≤ 4 }
     requires some { vector ≢ 0 }
-    ensures value { told_by step.new regs.new (done_of progress.new) ≡ samples.take_exception op.now (Numbered vector) (samples.leaves_trace found.now vector) found.now regs.old (memory_of around.now) (done_of progress.old) }
+    ensures value { reported_by step.new regs.new (done_of progress.new) ≡ samples.take_exception op.now (Numbered vector) (samples.leaves_trace found.now vector) found.now regs.old (memory_of context.now) (done_of progress.old) }
     ensures kept { Keeps step.new found.now regs.new }
 {
     let exception = Exception::Numbered(vector);
     let trace = leaves_trace(found, vector);
-    take_exception(op, exception, trace, found, around, regs, progress, step)
+    take_exception(op, exception, trace, found, context, regs, progress, step)
 }
 
 /// An instruction that ended, perhaps in an exception.
@@ -137,7 +137,7 @@ pub fn ended_by(
     op: &Op,
     found: &Regs,
     outcome: &Outcome,
-    around: &Around,
+    context: &Context,
     regs: &mut Regs,
     progress: &mut Progress,
     step: &mut Step,
@@ -145,12 +145,12 @@ pub fn ended_by(
     requires room { array_vec_len progress.old.writes ≤ 64 }
     requires most { progress.old.used ≤ 32 }
     requires ended { outcome.now.vector ≢ 0 → progress.old.used ≤ 4 }
-    ensures value { told_by step.new regs.new (done_of progress.new) ≡ samples.ended_by op.now found.now (outcome_of outcome.now regs.old) (memory_of around.now) (done_of progress.old) }
+    ensures value { reported_by step.new regs.new (done_of progress.new) ≡ samples.ended_by op.now found.now (outcome_of outcome.now regs.old) (memory_of context.now) (done_of progress.old) }
     ensures kept { Keeps step.new found.now regs.new }
 {
     let vector = outcome.vector;
     if vector != 0 {
-        return take_numbered(op, vector, found, around, regs, progress, step);
+        return take_numbered(op, vector, found, context, regs, progress, step);
     }
     *step = Step::Done(Finish {
         op: *op,
@@ -169,21 +169,21 @@ pub fn ended_by(
 
 /// Keeps the outcome of a sample that found the registers `found`, where the write that waits is its last
 /// access.
-pub fn foresee_finish(op: &Op, found: &Regs, around: &Around, foreseen: &mut Foreseen)
-    requires few { length around.now.answers.now ≤ 32 }
-    ensures known { foreseen.new.known ≡ foreseen.old.known }
-    ensures regs { foreseen.new.regs ≡ foreseen.old.regs }
-    ensures finish { foreseen.old.known ≡ true → FinishesForeseen foreseen.new op.now found.now (memory_of around.now) }
+pub fn predict_finish(op: &Op, found: &Regs, context: &Context, predicted: &mut Predicted)
+    requires few { length context.now.answers.now ≤ 32 }
+    ensures known { predicted.new.known ≡ predicted.old.known }
+    ensures regs { predicted.new.regs ≡ predicted.old.regs }
+    ensures finish { predicted.old.known ≡ true → FinishesPredicted predicted.new op.now found.now (memory_of context.now) }
 {
-    if foreseen.known {
-        foreseen.finish = Finish {
+    if predicted.known {
+        predicted.finish = Finish {
             op: *op,
             spent: Spent {
                 taken: false,
                 expired: false,
                 count: 0,
                 cause: 0,
-                accesses: (around.answers.len() + 1) as u8,
+                accesses: (context.answers.len() + 1) as u8,
             },
             stopped: false,
             halted: false,

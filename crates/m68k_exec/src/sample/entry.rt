@@ -7,7 +7,7 @@ ghost use Rattle.m68k_exec.specs.Sample.Entries as entries;
 use crate::access::memory::word_at;
 use crate::access::write_word;
 use crate::sample::exception::Exception;
-use crate::{Around, Progress, Stop};
+use crate::{Context, Progress, Stop};
 use m68k_except::{Frame, frame};
 use md_word::Regs;
 
@@ -16,12 +16,12 @@ const PLACES: [u32; 7] = [4, 2, 6, 8, 12, 10, 14];
 
 /// The long at the vector of this number.
 #[tactic(auto, unfolding(crate::specs::Sample::Entries::vector_at))]
-fn vector_at(number: u8, around: &Around) -> u32
-    ensures { result ≡ entries.vector_at number (memory_of around.now) }
+fn vector_at(number: u8, context: &Context) -> u32
+    ensures { result ≡ entries.vector_at number (memory_of context.now) }
 {
     let at = 4 * u32::from(number);
-    let high = word_at(at, around.rom, around.ram);
-    let low = word_at(at + 2, around.rom, around.ram);
+    let high = word_at(at, context.rom, context.ram);
+    let low = word_at(at + 2, context.rom, context.ram);
     u32::from(high) * 0x1_0000 + u32::from(low)
 }
 
@@ -44,19 +44,19 @@ fn frame_for(exception: Exception, vector: u32, regs: &Regs) -> Frame
 fn push_words(
     words: &[u16],
     stack: u32,
-    around: &Around,
+    context: &Context,
     progress: &mut Progress,
 ) -> Result<(), Stop>
     requires few { length words.now ≤ 7 }
     requires even { stack % 2 ≡ 0 }
     requires room { array_vec_len progress.old.writes ≤ 64 }
-    ensures value { Meets result (done_of progress.new) (entries.pushed (length words.now) 0 words.now stack (memory_of around.now) (done_of progress.old)) }
+    ensures value { Meets result (done_of progress.new) (entries.pushed (length words.now) 0 words.now stack (memory_of context.now) (done_of progress.old)) }
     ensures spent { SpendsAtMost progress.old progress.new (length words.now) 14 }
     ensures even { NotOdd result }
 {
     'words: for place in 0..words.len() {
         let to = stack.wrapping_sub(PLACES[place]);
-        write_word(to, words[place], around, progress)?;
+        write_word(to, words[place], context, progress)?;
     }
     Ok(())
 }
@@ -67,7 +67,7 @@ fn enter_with(
     exception: Exception,
     vector: u32,
     words: &[u16],
-    around: &Around,
+    context: &Context,
     regs: &Regs,
     progress: &mut Progress,
 ) -> Result<Option<Regs>, Stop>
@@ -75,12 +75,12 @@ fn enter_with(
     requires few { length words.now ≤ 7 }
     requires even { regs.now.ssp % 2 ≡ 0 }
     requires room { array_vec_len progress.old.writes ≤ 64 }
-    ensures value { Meets result (done_of progress.new) (entries.enter_with exception vector words.now regs.now (memory_of around.now) (done_of progress.old)) }
+    ensures value { Meets result (done_of progress.new) (entries.enter_with exception vector words.now regs.now (memory_of context.now) (done_of progress.old)) }
     ensures spent { SpendsAtMost progress.old progress.new (length words.now) 14 }
     ensures even { NotOdd result }
 {
     let stack = regs.ssp;
-    push_words(words, stack, around, progress)?;
+    push_words(words, stack, context, progress)?;
     Ok(Some(Regs {
         ssp: stack.wrapping_sub(2 * words.len() as u32),
         pc: vector,
@@ -95,24 +95,24 @@ fn enter_with(
 #[tactic(auto, unfolding(crate::specs::Sample::Entries::enter))]
 pub fn enter(
     exception: Exception,
-    around: &Around,
+    context: &Context,
     regs: &Regs,
     progress: &mut Progress,
 ) -> Result<Option<Regs>, Stop>
     requires exception { entries.IsException exception }
     requires room { array_vec_len progress.old.writes ≤ 64 }
-    ensures value { Meets result (done_of progress.new) (entries.enter exception regs.now (memory_of around.now) (done_of progress.old)) }
+    ensures value { Meets result (done_of progress.new) (entries.enter exception regs.now (memory_of context.now) (done_of progress.old)) }
     ensures spent { SpendsAtMost progress.old progress.new (entries.pushes_of exception) 14 }
     ensures even { NotOdd result }
 {
-    let vector = vector_at(exception.number(), around);
+    let vector = vector_at(exception.number(), context);
     match frame_for(exception, vector, regs) {
         Frame::Halted => Ok(None),
         Frame::Words(words) => enter_with(
             exception,
             vector,
             words.as_slice(),
-            around,
+            context,
             regs,
             progress,
         ),

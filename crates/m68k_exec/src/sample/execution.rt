@@ -3,7 +3,7 @@ ghost use Rattle.arrayvec.specs.ArrayVec.{array_vec_len};
 ghost use Rattle.m68k_decode.specs.Ops.{IsOp};
 ghost use Rattle.m68k_exec.specs.Access.Clauses.{Ends, done_of, memory_of};
 ghost use Rattle.m68k_exec.specs.Sample.Execution as execution;
-ghost use Rattle.m68k_exec.specs.Sample.Foresight.{Foresees};
+ghost use Rattle.m68k_exec.specs.Sample.Prediction.{Predicts};
 
 mod control;
 mod jumps;
@@ -14,7 +14,7 @@ mod products;
 mod registers;
 mod sums;
 
-use crate::{Around, Foreseen, Outcome, Progress, Stop};
+use crate::{Context, Outcome, Predicted, Progress, Stop};
 use control::control;
 use jumps::jumps;
 use m68k_decode::Op;
@@ -32,21 +32,21 @@ use sums::sums;
 /// One that ends in an exception makes four accesses at most before it. Each group of instructions has
 /// a function, since all locals of a function are set to 0 at its start.
 #[inline(always)]
-#[tactic(auto, using(crate::proofs::Foresight::nothing_foreseen))]
+#[tactic(auto, using(crate::proofs::Prediction::nothing_predicted))]
 pub fn execute(
     op: &Op,
     start: u32,
-    around: &Around,
+    context: &Context,
     regs: &mut Regs,
     progress: &mut Progress,
-    foreseen: &mut Foreseen,
+    predicted: &mut Predicted,
 ) -> Result<Outcome, Stop>
     requires operands { IsOp op.now }
     requires fresh { array_vec_len progress.old.writes ≡ 0 }
-    requires nothing { foreseen.old.known ≡ false }
-    ensures value { Ends result regs.new (done_of progress.new) (execution.row op.now start regs.old (memory_of around.now) (done_of progress.old)) }
+    requires nothing { predicted.old.known ≡ false }
+    ensures value { Ends result regs.new (done_of progress.new) (execution.row op.now start regs.old (memory_of context.now) (done_of progress.old)) }
     ensures written { array_vec_len progress.new.writes ≤ array_vec_len progress.old.writes + 64 }
-    ensures foreseen { Foresees result foreseen.new (execution.row op.now start regs.old) (memory_of around.now) (done_of progress.old) }
+    ensures predicted { Predicts result predicted.new (execution.row op.now start regs.old) (memory_of context.now) (done_of progress.old) }
 {
     match *op {
         Op::Immediate(..)
@@ -56,9 +56,9 @@ pub fn execute(
         | Op::BitByRegister(..)
         | Op::BitByNumber(..)
         | Op::MovepToRegister(..)
-        | Op::MovepToMemory(..) => numbers(op, start, around, regs, progress),
+        | Op::MovepToMemory(..) => numbers(op, start, context, regs, progress),
         Op::Move(..) | Op::Movea(..) | Op::Moveq(..) | Op::Lea(..) => moves(
-            op, start, around, regs, progress, foreseen,
+            op, start, context, regs, progress, predicted,
         ),
         Op::Quick(..)
         | Op::ToRegister(..)
@@ -67,7 +67,7 @@ pub fn execute(
         | Op::Cmp(..)
         | Op::Cmpa(..)
         | Op::Eor(..)
-        | Op::Cmpm(..) => sums(op, start, around, regs, progress),
+        | Op::Cmpm(..) => sums(op, start, context, regs, progress),
         Op::Nop
         | Op::Rts
         | Op::Jsr(..)
@@ -76,7 +76,7 @@ pub fn execute(
         | Op::Dbcc(..)
         | Op::Bra(..)
         | Op::Bsr(..)
-        | Op::Bcc(..) => jumps(op, start, around, regs, progress),
+        | Op::Bcc(..) => jumps(op, start, context, regs, progress),
         Op::Unary(..)
         | Op::Nbcd(..)
         | Op::Pea(..)
@@ -85,20 +85,20 @@ pub fn execute(
         | Op::Tst(..)
         | Op::Tas(..)
         | Op::Link(..)
-        | Op::Unlk(..) => operands(op, start, around, regs, progress),
+        | Op::Unlk(..) => operands(op, start, context, regs, progress),
         Op::Chk(..)
         | Op::Divu(..)
         | Op::Divs(..)
         | Op::Decimal(..)
         | Op::Extended(..)
         | Op::Mulu(..)
-        | Op::Muls(..) => products(op, start, around, regs, progress),
+        | Op::Muls(..) => products(op, start, context, regs, progress),
         Op::Swap(..)
         | Op::Ext(..)
         | Op::Exg(..)
         | Op::ShiftByNumber(..)
         | Op::ShiftByRegister(..)
-        | Op::ShiftMemory(..) => registers(op, start, around, regs, progress),
+        | Op::ShiftMemory(..) => registers(op, start, context, regs, progress),
         Op::MoveFromSr(..)
         | Op::MoveToCcr(..)
         | Op::MoveToSr(..)
@@ -112,6 +112,6 @@ pub fn execute(
         | Op::Rtr
         | Op::Illegal(..)
         | Op::LineA(..)
-        | Op::LineF(..) => control(op, start, around, regs, progress),
+        | Op::LineF(..) => control(op, start, context, regs, progress),
     }
 }

@@ -30,7 +30,7 @@ pub enum Step {
 /// What follows a write that waits for its answer, where that is known: the write is the last
 /// access of its instruction, no answer to it changes anything, and no work RAM is written.
 #[derive(Clone, Copy)]
-pub struct Foreseen {
+pub struct Predicted {
     pub known: bool,
     /// The registers then.
     pub regs: Regs,
@@ -38,12 +38,12 @@ pub struct Foreseen {
     pub finish: Finish,
 }
 
-impl Foreseen {
+impl Predicted {
     /// Nothing is known.
     pub fn nothing() -> Self
         ensures { result.known ≡ false }
     {
-        Foreseen {
+        Predicted {
             known: false,
             regs: Regs {
                 d: [0; 8],

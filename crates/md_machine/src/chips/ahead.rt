@@ -5,7 +5,7 @@ use md_word::NoMemory;
 use std::alloc::Global;
 use std::sync::Arc;
 use std::sync::atomic::{AtomicBool, Ordering};
-use vdp_ahead::{Place, Sheet, Tray};
+use vdp_ahead::{DoubleBuffer, LineBuffer, Place};
 
 /// The first line that is drawn ahead of its event, where a helper draws some: by then the lines before it give
 /// the helper the time to begin, and to draw those of the first line buffer.
@@ -24,11 +24,11 @@ const REST: u8 = 8;
 #[derive(Drop)]
 pub(crate) struct Ahead {
     /// Where line buffers go to be drawn, and return.
-    tray: Arc<Tray>,
+    double_buffer: Arc<DoubleBuffer>,
     /// A line buffer that lies neither there nor on the board.
-    spare: Option<Box<Sheet>>,
+    spare: Option<Box<LineBuffer>>,
     /// Another one, where both line buffers do.
-    other: Option<Box<Sheet>>,
+    other: Option<Box<LineBuffer>>,
     /// Whether the memory of the line buffers has been asked for.
     prepared: AtomicBool,
     /// Whether lines of this picture are drawn ahead.
@@ -44,7 +44,7 @@ impl Ahead {
     /// No line yet.
     pub(crate) fn new(alloc: Global) -> Result<Ahead, NoMemory> {
         Ok(Ahead {
-            tray: Arc::new(alloc, Tray::new())?,
+            double_buffer: Arc::new(alloc, DoubleBuffer::new())?,
             spare: None,
             other: None,
             prepared: AtomicBool::new(false),
@@ -57,25 +57,25 @@ impl Ahead {
 
     /// Where line buffers go to be drawn, for one who draws. With the first call both line buffers are made, and lie there
     /// without a line; where there is no memory for one, it is missing from there on.
-    pub(crate) fn tray(&self) -> Option<Arc<Tray>> {
+    pub(crate) fn double_buffer(&self) -> Option<Arc<DoubleBuffer>> {
         if !self.prepared.swap(true, Ordering::SeqCst) {
-            self.lay_blank(self.tray.first());
-            self.lay_blank(self.tray.second());
+            self.lay_blank(self.double_buffer.first());
+            self.lay_blank(self.double_buffer.second());
         }
-        self.tray.clone().ok()
+        self.double_buffer.clone().ok()
     }
 
     /// Lays a new line buffer without a line in an empty place, if there is memory for one.
     fn lay_blank(&self, place: &Place) {
-        if let Ok(sheet) = Sheet::blank(self.alloc) {
-            place.ask(sheet);
+        if let Ok(line_buffer) = LineBuffer::blank(self.alloc) {
+            place.ask(line_buffer);
         }
     }
 
     /// Whether anyone has ever looked for a line buffer to draw.
     #[inline]
     pub(crate) fn is_watched(&self) -> bool {
-        self.tray.is_watched()
+        self.double_buffer.is_watched()
     }
 
     /// A line was taken from a line buffer.
@@ -92,23 +92,23 @@ impl Ahead {
         if line == 0 {
             self.begin(pal, shared);
         } else if line < SECOND {
-            let sheet = self.tray.first().take_drawn();
-            self.lay(sheet, shared);
+            let line_buffer = self.double_buffer.first().take_drawn();
+            self.lay(line_buffer, shared);
         } else {
-            let sheet = self.tray.second().take_drawn();
-            self.lay(sheet, shared);
+            let line_buffer = self.double_buffer.second().take_drawn();
+            self.lay(line_buffer, shared);
         }
     }
 
     /// Lays a line buffer on the board, if there is one, in the place of the one there.
-    fn lay(&mut self, sheet: Option<Box<Sheet>>, shared: &mut Shared)
+    fn lay(&mut self, line_buffer: Option<Box<LineBuffer>>, shared: &mut Shared)
         ensures { shared.new ≡ shared.old }
     {
-        if let Some(sheet) = sheet {
-            if let Some(other) = shared.take_sheet() {
+        if let Some(line_buffer) = line_buffer {
+            if let Some(other) = shared.take_line_buffer() {
                 self.put_by(other);
             }
-            shared.lay_sheet(sheet);
+            shared.lay_line_buffer(line_buffer);
         }
     }
 
@@ -117,14 +117,28 @@ impl Ahead {
         ensures { shared.new ≡ shared.old }
     {
         if self.is_worth_it(shared.scene(pal).is_shown()) {
-            let first = self.idle_sheet(shared);
-            let second = self.idle_sheet(shared);
-            if let Some(sheet) = first {
-                let back = ask(sheet, self.tray.first(), pal, FIRST, SECOND, shared);
+            let first = self.idle_line_buffer(shared);
+            let second = self.idle_line_buffer(shared);
+            if let Some(line_buffer) = first {
+                let back = ask(
+                    line_buffer,
+                    self.double_buffer.first(),
+                    pal,
+                    FIRST,
+                    SECOND,
+                    shared,
+                );
                 self.keep(back);
             }
-            if let Some(sheet) = second {
-                let back = ask(sheet, self.tray.second(), pal, SECOND, END, shared);
+            if let Some(line_buffer) = second {
+                let back = ask(
+                    line_buffer,
+                    self.double_buffer.second(),
+                    pal,
+                    SECOND,
+                    END,
+                    shared,
+                );
                 self.keep(back);
             }
         }
@@ -143,37 +157,37 @@ impl Ahead {
     }
 
     /// A line buffer whose lines are not being drawn, if there is one.
-    fn idle_sheet(&mut self, shared: &mut Shared) -> Option<Box<Sheet>>
+    fn idle_line_buffer(&mut self, shared: &mut Shared) -> Option<Box<LineBuffer>>
         ensures { shared.new ≡ shared.old }
     {
-        if let Some(sheet) = self.spare.take() {
-            return Some(sheet);
+        if let Some(line_buffer) = self.spare.take() {
+            return Some(line_buffer);
         }
-        if let Some(sheet) = self.other.take() {
-            return Some(sheet);
+        if let Some(line_buffer) = self.other.take() {
+            return Some(line_buffer);
         }
-        if let Some(sheet) = shared.take_sheet() {
-            return Some(sheet);
+        if let Some(line_buffer) = shared.take_line_buffer() {
+            return Some(line_buffer);
         }
-        if let Some(sheet) = self.tray.first().take() {
-            return Some(sheet);
+        if let Some(line_buffer) = self.double_buffer.first().take() {
+            return Some(line_buffer);
         }
-        self.tray.second().take()
+        self.double_buffer.second().take()
     }
 
     /// Keeps a line buffer that could not be queued, if there is one.
-    fn keep(&mut self, sheet: Option<Box<Sheet>>) {
-        if let Some(sheet) = sheet {
-            self.put_by(sheet);
+    fn keep(&mut self, line_buffer: Option<Box<LineBuffer>>) {
+        if let Some(line_buffer) = line_buffer {
+            self.put_by(line_buffer);
         }
     }
 
     /// Keeps a line buffer that lies neither on the double buffer nor on the board.
-    fn put_by(&mut self, sheet: Box<Sheet>) {
+    fn put_by(&mut self, line_buffer: Box<LineBuffer>) {
         if self.spare.is_none() {
-            self.spare = Some(sheet);
+            self.spare = Some(line_buffer);
         } else {
-            self.other = Some(sheet);
+            self.other = Some(line_buffer);
         }
     }
 }
@@ -181,15 +195,15 @@ impl Ahead {
 /// Queues a line buffer for the lines of a picture from one on and below another, to be drawn from the VDP as it
 /// is. It returns where the place cannot be had at once.
 fn ask(
-    mut sheet: Box<Sheet>,
+    mut line_buffer: Box<LineBuffer>,
     place: &Place,
     pal: bool,
     from: u32,
     until: u32,
     shared: &Shared,
-) -> Option<Box<Sheet>>
+) -> Option<Box<LineBuffer>>
     requires { from ≤ 240 }
 {
-    shared.begin_sheet(&mut sheet, pal, from, until);
-    place.ask(sheet)
+    shared.begin_line_buffer(&mut line_buffer, pal, from, until);
+    place.ask(line_buffer)
 }

@@ -97,7 +97,7 @@ impl FmChip {
 
     /// Whether the chip may be heard as it is: a batch then takes many times as long as an idle chip's. The
     /// writes of the next batch are not looked at, so one in which an idle chip begins to sound is not found.
-    pub(crate) fn is_dear(&self) -> bool {
+    pub(crate) fn is_worth_offloading(&self) -> bool {
         !self.synth.is_idle()
     }
 

@@ -160,9 +160,9 @@ asked request is = record {
   later = asked_later request;
 }
 
-told : (request : Request80) → IsAccess request → Sound 1 (actions.told request)
-unfolding actions.told
-told request is = last 1 _ _ (asked request is)
+reported : (request : Request80) → IsAccess request → Sound 1 (actions.reported request)
+unfolding actions.reported
+reported request is = last 1 _ _ (asked request is)
 
 -- private reads and writes
 byte_seen : (at : ℕ) → Sound 1 (λ memory done. Ok (actions.byte_seen at memory done, done))
@@ -183,7 +183,7 @@ read at = choice 1 (is_shared_read at) _ _ (λ e. asked (Read at) e) (λ e. byte
 
 pub write : (at value : ℕ) → Sound 1 (actions.write at value)
 unfolding actions.write
-write at value = choice 1 (is_shared_write at) _ _ (λ e. told (Write at value) e) (λ e. byte_put at value)
+write at value = choice 1 (is_shared_write at) _ _ (λ e. reported (Write at value) e) (λ e. byte_put at value)
 
 pub read_word : (at : ℕ) → Sound 2 (actions.read_word at)
 unfolding actions.read_word

@@ -39,8 +39,8 @@ asked request memory done =
     else Err request
 
 -- a shared write: the answer has no value
-unfoldable pub told : Request80 → Act (Unit {0})
-told request = do
+unfoldable pub reported : Request80 → Act (Unit {0})
+reported request = do
   answer ← asked request
   give tt
 
@@ -63,7 +63,7 @@ read at memory done =
 -- the byte is written at an address, on the bus where that is shared
 unfoldable pub write : ℕ → ℕ → Act (Unit {0})
 write at value memory done =
-    if is_shared_write at then told (Write at value) memory done else Ok (tt, with_byte at value done)
+    if is_shared_write at then reported (Write at value) memory done else Ok (tt, with_byte at value done)
 
 -- the word at an address: its low byte first
 unfoldable pub read_word : ℕ → Act ℕ

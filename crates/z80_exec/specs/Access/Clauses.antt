@@ -2,7 +2,7 @@
 use Rattle.std.specs.Prelude.{ℕ, ◌≡◌, Bool, Result, Ok, Err}
 use Rattle.md_word.specs.declared.sub_bus.Request80.{Request80}
 use Rattle.md_word.specs.declared.sub_bus.Request80.TheVariants as requests
-use Rattle.z80_exec.specs.declared.access.view.Around.{Around}
+use Rattle.z80_exec.specs.declared.access.view.Context.{Context}
 use Rattle.z80_exec.specs.declared.access.view.Progress80.{Progress80}
 use Rattle.z80_exec.specs.declared.access.waiting.Waiting.{Waiting}
 use Rattle.z80_exec.specs.declared.access.waiting.Waiting.TheVariants as waitings
@@ -13,8 +13,8 @@ use Rattle.z80_exec.specs.Access.Operands.{Popped}
 use Rattle.z80_exec.specs.Access.Outcomes.{Outcome, outcome_of}
 
 -- the memory that a call is given: the image, RAM and bank before the instruction, the answers
-abbrev pub memory_of : Around → Memory
-memory_of around = record { rom = around.rom.now; ram = around.ram.now; bank = around.bank; answers = around.answers.now }
+abbrev pub memory_of : Context → Memory
+memory_of context = record { rom = context.rom.now; ram = context.ram.now; bank = context.bank; answers = context.answers.now }
 
 -- what a call has done so far: the answers taken, and the private writes
 abbrev pub done_of : Progress80 → Done

@@ -98,9 +98,9 @@ sampled cause regs memory =
     else interrupt regs memory
 
 -- what a step reports, with the registers and what was done then
-abbrev pub told_by : Step80 → Regs80 → Done → Result Ended Request80
-told_by (steps.Need request) regs done = Err request
-told_by (steps.Done finish) regs done = Ok (record {
+abbrev pub reported_by : Step80 → Regs80 → Done → Result Ended Request80
+reported_by (steps.Need request) regs done = Err request
+reported_by (steps.Done finish) regs done = Ok (record {
   regs = regs;
   used = done.used;
   writes = done.writes;

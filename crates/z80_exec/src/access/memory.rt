@@ -4,7 +4,7 @@ ghost use Rattle.z80_exec.specs.Access.Actions as actions;
 ghost use Rattle.z80_exec.specs.Access.Clauses.{done_of, memory_of};
 ghost use Rattle.z80_exec.specs.Access.Memory as memory;
 
-use crate::{Around, Progress80};
+use crate::{Context, Progress80};
 use z80_parcel::{RAM_END, is_bank, shift};
 
 /// The first address of the window, which reaches to the last address.
@@ -45,13 +45,13 @@ fn window_byte(at: u16, rom: &[u8], bank: u16) -> u8
 
 /// A byte of an instruction, which is no access.
 #[tactic(auto, unfolding(crate::specs::Access::Memory::instruction_byte, crate::specs::Access::Memory::byte_at))]
-fn instruction_byte(at: u16, around: &Around) -> u8
-    ensures { result ≡ memory.instruction_byte at (memory_of around.now) }
+fn instruction_byte(at: u16, context: &Context) -> u8
+    ensures { result ≡ memory.instruction_byte at (memory_of context.now) }
 {
     if at < RAM_END {
-        around.ram[usize::from(at % 0x2000)]
+        context.ram[usize::from(at % 0x2000)]
     } else if at >= WINDOW {
-        window_byte(at, around.rom, around.bank)
+        window_byte(at, context.rom, context.bank)
     } else {
         OPEN_BUS
     }
@@ -60,42 +60,42 @@ fn instruction_byte(at: u16, around: &Around) -> u8
 /// As many bytes of RAM, where it does not repeat among them.
 #[inline(always)]
 #[tactic(auto, unfolding(crate::specs::Access::Memory::instruction_bytes, crate::specs::Access::Memory::instruction_byte, crate::specs::Access::Memory::byte_at))]
-fn ram_bytes(at: u16, around: &Around) -> [u8; 4]
+fn ram_bytes(at: u16, context: &Context) -> [u8; 4]
     requires { at < 8189 }
-    ensures { result ≡ memory.instruction_bytes at (memory_of around.now) }
+    ensures { result ≡ memory.instruction_bytes at (memory_of context.now) }
 {
     let place = usize::from(at);
     [
-        around.ram[place],
-        around.ram[place + 1],
-        around.ram[place + 2],
-        around.ram[place + 3],
+        context.ram[place],
+        context.ram[place + 1],
+        context.ram[place + 2],
+        context.ram[place + 3],
     ]
 }
 
 /// As many bytes as the longest instruction has, from an address on. None is an access.
 #[inline(always)]
-pub fn instruction_bytes(at: u16, around: &Around) -> [u8; 4]
-    ensures { result ≡ memory.instruction_bytes at (memory_of around.now) }
+pub fn instruction_bytes(at: u16, context: &Context) -> [u8; 4]
+    ensures { result ≡ memory.instruction_bytes at (memory_of context.now) }
 {
     if at < LAST_FOUR {
-        ram_bytes(at, around)
+        ram_bytes(at, context)
     } else {
-        far_bytes(at, around)
+        far_bytes(at, context)
     }
 }
 
 /// The same, byte by byte.
 #[inline(never)]
 #[tactic(auto, unfolding(crate::specs::Access::Memory::instruction_bytes))]
-fn far_bytes(at: u16, around: &Around) -> [u8; 4]
-    ensures { result ≡ memory.instruction_bytes at (memory_of around.now) }
+fn far_bytes(at: u16, context: &Context) -> [u8; 4]
+    ensures { result ≡ memory.instruction_bytes at (memory_of context.now) }
 {
     [
-        instruction_byte(at, around),
-        instruction_byte(at.wrapping_add(1), around),
-        instruction_byte(at.wrapping_add(2), around),
-        instruction_byte(at.wrapping_add(3), around),
+        instruction_byte(at, context),
+        instruction_byte(at.wrapping_add(1), context),
+        instruction_byte(at.wrapping_add(2), context),
+        instruction_byte(at.wrapping_add(3), context),
     ]
 }
 
@@ -128,14 +128,14 @@ fn bank_left(bank: u16, writes: &[(u16, u8)]) -> u16
 
 /// What a private read of a byte sees, with the instruction's own writes.
 #[tactic(auto, unfolding(crate::specs::Access::Actions::byte_seen, crate::specs::Access::Memory::byte_at))]
-pub fn byte_seen(at: u16, around: &Around, progress: &Progress80) -> u8
-    ensures { result ≡ actions.byte_seen at (memory_of around.now) (done_of progress.now) }
+pub fn byte_seen(at: u16, context: &Context, progress: &Progress80) -> u8
+    ensures { result ≡ actions.byte_seen at (memory_of context.now) (done_of progress.now) }
 {
     let writes = progress.writes.as_slice();
     if at < RAM_END {
-        ram_byte(at, around.ram, writes)
+        ram_byte(at, context.ram, writes)
     } else if at >= WINDOW {
-        window_byte(at, around.rom, bank_left(around.bank, writes))
+        window_byte(at, context.rom, bank_left(context.bank, writes))
     } else {
         OPEN_BUS
     }

@@ -4,7 +4,7 @@ ghost use Rattle.z80_exec.specs.Access.Clauses.{Ends, done_of, memory_of};
 ghost use Rattle.z80_exec.specs.Rows.Arithmetic as arithmetic;
 
 use crate::access::operands::{fetch, put};
-use crate::{Around, Progress80, Regs80, Waiting};
+use crate::{Context, Progress80, Regs80, Waiting};
 use z80_alu::compute;
 use z80_decode::{Place8, Task80};
 
@@ -14,13 +14,13 @@ use z80_decode::{Place8, Task80};
 pub fn operate(
     task: Task80,
     place: Place8,
-    around: &Around,
+    context: &Context,
     regs: &mut Regs80,
     progress: &mut Progress80,
 ) -> Result<bool, Waiting>
-    ensures { Ends result regs.new (done_of progress.new) (arithmetic.arithmetic task place regs.old (memory_of around.now) (done_of progress.old)) }
+    ensures { Ends result regs.new (done_of progress.new) (arithmetic.arithmetic task place regs.old (memory_of context.now) (done_of progress.old)) }
 {
-    let value = fetch(place, around, regs, progress)?;
+    let value = fetch(place, context, regs, progress)?;
     let out = compute(task, regs.a(), value, regs.f());
     regs.set_af(out.value, out.f);
     Ok(false)
@@ -32,16 +32,16 @@ pub fn operate(
 pub fn change(
     task: Task80,
     place: Place8,
-    around: &Around,
+    context: &Context,
     regs: &mut Regs80,
     progress: &mut Progress80,
 ) -> Result<bool, Waiting>
     requires { array_vec_len progress.old.writes + 1 ≤ 4 }
-    ensures { Ends result regs.new (done_of progress.new) (arithmetic.change task place regs.old (memory_of around.now) (done_of progress.old)) }
+    ensures { Ends result regs.new (done_of progress.new) (arithmetic.change task place regs.old (memory_of context.now) (done_of progress.old)) }
 {
-    let value = fetch(place, around, regs, progress)?;
+    let value = fetch(place, context, regs, progress)?;
     let out = compute(task, regs.a(), value, regs.f());
-    put(place, out.value, around, regs, progress)?;
+    put(place, out.value, context, regs, progress)?;
     regs.set_f(out.f);
     Ok(false)
 }

@@ -2,7 +2,7 @@ ghost use Rattle.z80_exec.specs.Access.Clauses.{Ends, done_of, memory_of};
 ghost use Rattle.z80_exec.specs.Rows.Bits as bits;
 
 use crate::access::operands::fetch;
-use crate::{Around, Progress80, Regs80, Waiting};
+use crate::{Context, Progress80, Regs80, Waiting};
 use z80_alu::compute;
 use z80_decode::{Bit, Place8, Task80};
 
@@ -11,13 +11,13 @@ use z80_decode::{Bit, Place8, Task80};
 pub fn test_bit(
     bit: Bit,
     place: Place8,
-    around: &Around,
+    context: &Context,
     regs: &mut Regs80,
     progress: &mut Progress80,
 ) -> Result<bool, Waiting>
-    ensures { Ends result regs.new (done_of progress.new) (bits.test_bit bit place regs.old (memory_of around.now) (done_of progress.old)) }
+    ensures { Ends result regs.new (done_of progress.new) (bits.test_bit bit place regs.old (memory_of context.now) (done_of progress.old)) }
 {
-    let value = fetch(place, around, regs, progress)?;
+    let value = fetch(place, context, regs, progress)?;
     let out = compute(Task80::Test(bit), regs.a(), value, regs.f());
     regs.set_f(out.f);
     Ok(false)

@@ -6,7 +6,7 @@ ghost use Rattle.z80_exec.specs.Rows.Blocks as blocks;
 
 use crate::access::{read, write};
 use crate::regs80::with_low;
-use crate::{Around, Progress80, Regs80, Waiting};
+use crate::{Context, Progress80, Regs80, Waiting};
 use z80_alu::{block_compared, block_loaded};
 use z80_decode::Block;
 
@@ -54,15 +54,15 @@ fn transfer(block: Block, regs: &mut Regs80)
 #[tactic(auto, unfolding(crate::specs::Rows::Blocks::block_load))]
 pub fn block_load(
     block: Block,
-    around: &Around,
+    context: &Context,
     regs: &mut Regs80,
     progress: &mut Progress80,
 ) -> Result<bool, Waiting>
     requires { array_vec_len progress.old.writes + 1 ≤ 4 }
-    ensures { Ends result regs.new (done_of progress.new) (blocks.block_load block regs.old (memory_of around.now) (done_of progress.old)) }
+    ensures { Ends result regs.new (done_of progress.new) (blocks.block_load block regs.old (memory_of context.now) (done_of progress.old)) }
 {
-    let value = read(regs.hl, around, progress)?;
-    write(regs.de, value, around, progress)?;
+    let value = read(regs.hl, context, progress)?;
+    write(regs.de, value, context, progress)?;
     let again = repeats(block) && regs.bc.wrapping_sub(1) != 0;
     transfer(block, regs);
     Ok(go_on(again, regs))
@@ -83,13 +83,13 @@ fn search(block: Block, value: u8, regs: &mut Regs80)
 #[tactic(auto, unfolding(crate::specs::Rows::Blocks::block_compare))]
 pub fn block_compare(
     block: Block,
-    around: &Around,
+    context: &Context,
     regs: &mut Regs80,
     progress: &mut Progress80,
 ) -> Result<bool, Waiting>
-    ensures { Ends result regs.new (done_of progress.new) (blocks.block_compare block regs.old (memory_of around.now) (done_of progress.old)) }
+    ensures { Ends result regs.new (done_of progress.new) (blocks.block_compare block regs.old (memory_of context.now) (done_of progress.old)) }
 {
-    let value = read(regs.hl, around, progress)?;
+    let value = read(regs.hl, context, progress)?;
     let again = repeats(block) && regs.bc.wrapping_sub(1) != 0 && regs.a() != value;
     search(block, value, regs);
     Ok(go_on(again, regs))

@@ -5,21 +5,21 @@ ghost use Rattle.z80_exec.specs.Rows.Calls as calls;
 
 use crate::access::conditions::holds;
 use crate::access::operands::{pop, push};
-use crate::{Around, Progress80, Regs80, Waiting};
+use crate::{Context, Progress80, Regs80, Waiting};
 use z80_decode::Condition;
 
 /// CALL nn, and RST. The error is the access that waits for its answer.
 #[tactic(auto, unfolding(crate::specs::Rows::Calls::call))]
 pub fn call(
     target: u16,
-    around: &Around,
+    context: &Context,
     regs: &mut Regs80,
     progress: &mut Progress80,
 ) -> Result<bool, Waiting>
     requires { array_vec_len progress.old.writes + 2 ≤ 4 }
-    ensures { Ends result regs.new (done_of progress.new) (calls.call target regs.old (memory_of around.now) (done_of progress.old)) }
+    ensures { Ends result regs.new (done_of progress.new) (calls.call target regs.old (memory_of context.now) (done_of progress.old)) }
 {
-    push(regs.pc, around, regs, progress)?;
+    push(regs.pc, context, regs, progress)?;
     regs.pc = target;
     Ok(true)
 }
@@ -29,15 +29,15 @@ pub fn call(
 pub fn call_if(
     condition: Condition,
     target: u16,
-    around: &Around,
+    context: &Context,
     regs: &mut Regs80,
     progress: &mut Progress80,
 ) -> Result<bool, Waiting>
     requires { array_vec_len progress.old.writes + 2 ≤ 4 }
-    ensures { Ends result regs.new (done_of progress.new) (calls.call_if condition target regs.old (memory_of around.now) (done_of progress.old)) }
+    ensures { Ends result regs.new (done_of progress.new) (calls.call_if condition target regs.old (memory_of context.now) (done_of progress.old)) }
 {
     if holds(condition, regs.f()) {
-        call(target, around, regs, progress)
+        call(target, context, regs, progress)
     } else {
         Ok(false)
     }
@@ -46,13 +46,13 @@ pub fn call_if(
 /// RET, and RETI. The error is the access that waits for its answer.
 #[tactic(auto, unfolding(crate::specs::Rows::Calls::return_from))]
 pub fn return_from(
-    around: &Around,
+    context: &Context,
     regs: &mut Regs80,
     progress: &mut Progress80,
 ) -> Result<bool, Waiting>
-    ensures { Ends result regs.new (done_of progress.new) (calls.return_from regs.old (memory_of around.now) (done_of progress.old)) }
+    ensures { Ends result regs.new (done_of progress.new) (calls.return_from regs.old (memory_of context.now) (done_of progress.old)) }
 {
-    regs.pc = pop(around, regs, progress)?;
+    regs.pc = pop(context, regs, progress)?;
     Ok(true)
 }
 
@@ -60,14 +60,14 @@ pub fn return_from(
 #[tactic(auto, unfolding(crate::specs::Rows::Calls::return_if))]
 pub fn return_if(
     condition: Condition,
-    around: &Around,
+    context: &Context,
     regs: &mut Regs80,
     progress: &mut Progress80,
 ) -> Result<bool, Waiting>
-    ensures { Ends result regs.new (done_of progress.new) (calls.return_if condition regs.old (memory_of around.now) (done_of progress.old)) }
+    ensures { Ends result regs.new (done_of progress.new) (calls.return_if condition regs.old (memory_of context.now) (done_of progress.old)) }
 {
     if holds(condition, regs.f()) {
-        return_from(around, regs, progress)
+        return_from(context, regs, progress)
     } else {
         Ok(false)
     }
@@ -76,12 +76,12 @@ pub fn return_if(
 /// RETN. The error is the access that waits for its answer.
 #[tactic(auto, unfolding(crate::specs::Rows::Calls::return_from_non_maskable))]
 pub fn return_from_non_maskable(
-    around: &Around,
+    context: &Context,
     regs: &mut Regs80,
     progress: &mut Progress80,
 ) -> Result<bool, Waiting>
-    ensures { Ends result regs.new (done_of progress.new) (calls.return_from_non_maskable regs.old (memory_of around.now) (done_of progress.old)) }
+    ensures { Ends result regs.new (done_of progress.new) (calls.return_from_non_maskable regs.old (memory_of context.now) (done_of progress.old)) }
 {
     regs.iff1 = regs.iff2;
-    return_from(around, regs, progress)
+    return_from(context, regs, progress)
 }

@@ -5,7 +5,7 @@ ghost use Rattle.z80_exec.specs.Rows.Exchanges as exchanges;
 
 use crate::access::{read, write};
 use crate::regs80::{high, low, pair_at};
-use crate::{Around, Progress80, Regs80, Waiting};
+use crate::{Context, Progress80, Regs80, Waiting};
 use z80_decode::Index;
 
 /// EX DE,HL.
@@ -46,20 +46,20 @@ pub fn exchange_all(regs: &mut Regs80)
 #[tactic(auto, unfolding(crate::specs::Rows::Exchanges::exchange_stack))]
 pub fn exchange_stack(
     index: Index,
-    around: &Around,
+    context: &Context,
     regs: &mut Regs80,
     progress: &mut Progress80,
 ) -> Result<bool, Waiting>
     requires { array_vec_len progress.old.writes + 2 ≤ 4 }
-    ensures { Ends result regs.new (done_of progress.new) (exchanges.exchange_stack index regs.old (memory_of around.now) (done_of progress.old)) }
+    ensures { Ends result regs.new (done_of progress.new) (exchanges.exchange_stack index regs.old (memory_of context.now) (done_of progress.old)) }
 {
     let pair = pair_at(index);
     let value = regs.pair(pair);
     let above = regs.sp.wrapping_add(1);
-    let low_byte = read(regs.sp, around, progress)?;
-    let high_byte = read(above, around, progress)?;
-    write(above, high(value), around, progress)?;
-    write(regs.sp, low(value), around, progress)?;
+    let low_byte = read(regs.sp, context, progress)?;
+    let high_byte = read(above, context, progress)?;
+    write(above, high(value), context, progress)?;
+    write(regs.sp, low(value), context, progress)?;
     regs.set_pair(pair, u16::from(high_byte) * 0x100 + u16::from(low_byte));
     Ok(false)
 }

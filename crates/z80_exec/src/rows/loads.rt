@@ -4,39 +4,39 @@ ghost use Rattle.z80_exec.specs.Access.Clauses.{Ends, Leaves, Meets, done_of, me
 ghost use Rattle.z80_exec.specs.Access.Actions as actions;
 ghost use Rattle.z80_exec.specs.Access.Operands as operands;
 ghost use Rattle.z80_exec.specs.Rows.Loads as loads;
-ghost use Rattle.z80_exec.specs.Sample.Foresight.{Foresees, WaitsForLast};
+ghost use Rattle.z80_exec.specs.Sample.Prediction.{Predicts, WaitsForLast};
 
 use crate::access::operands::{address, fetch, pop, push};
 use crate::access::{read_word, write, write_word};
 use crate::regs80::pair_at;
-use crate::{Around, Foreseen80, Progress80, Regs80, Waiting};
+use crate::{Context, Predicted80, Progress80, Regs80, Waiting};
 use z80_alu::special_loaded;
 use z80_decode::{Index, Pair, Place8, Special};
 
 /// Writes a byte. Where the write waits, and takes the next answer, the registers after it are predicted:
 /// those given. The error is the access that waits for its answer.
 #[inline(always)]
-#[tactic(auto, using(crate::proofs::Foresight::nothing_waits))]
+#[tactic(auto, using(crate::proofs::Prediction::nothing_waits))]
 fn write_last(
     at: u16,
     value: u8,
-    around: &Around,
+    context: &Context,
     regs: &Regs80,
     progress: &mut Progress80,
-    foreseen: &mut Foreseen80,
+    predicted: &mut Predicted80,
 ) -> Result<(), Waiting>
     requires fresh { array_vec_len progress.old.writes ≡ 0 }
-    requires nothing { foreseen.old.known ≡ false }
-    ensures value { Meets result (done_of progress.new) (actions.write at value (memory_of around.now) (done_of progress.old)) }
-    ensures foreseen { WaitsForLast result foreseen.new regs.now (actions.write at value) tt (memory_of around.now) (done_of progress.old) }
+    requires nothing { predicted.old.known ≡ false }
+    ensures value { Meets result (done_of progress.new) (actions.write at value (memory_of context.now) (done_of progress.old)) }
+    ensures predicted { WaitsForLast result predicted.new regs.now (actions.write at value) tt (memory_of context.now) (done_of progress.old) }
 {
-    let last = progress.used == around.answers.len();
-    match write(at, value, around, progress) {
+    let last = progress.used == context.answers.len();
+    match write(at, value, context, progress) {
         Ok(()) => Ok(()),
         Err(waiting) => {
             if last {
-                foreseen.known = true;
-                foreseen.regs = *regs;
+                predicted.known = true;
+                predicted.regs = *regs;
             }
             Err(waiting)
         }
@@ -46,22 +46,22 @@ fn write_last(
 /// Puts a byte in its place. Where the write waits, the registers after it are predicted.
 /// The error is the access that waits for its answer.
 #[inline(always)]
-#[tactic(auto, using(crate::proofs::Foresight::nothing_waits), unfolding(crate::specs::Access::Operands::put, crate::specs::Access::Operands::put_memory))]
+#[tactic(auto, using(crate::proofs::Prediction::nothing_waits), unfolding(crate::specs::Access::Operands::put, crate::specs::Access::Operands::put_memory))]
 fn put_last(
     place: Place8,
     value: u8,
-    around: &Around,
+    context: &Context,
     regs: &mut Regs80,
     progress: &mut Progress80,
-    foreseen: &mut Foreseen80,
+    predicted: &mut Predicted80,
 ) -> Result<(), Waiting>
     requires fresh { array_vec_len progress.old.writes ≡ 0 }
-    requires nothing { foreseen.old.known ≡ false }
-    ensures value { Leaves result regs.new (done_of progress.new) (operands.put place value regs.old (memory_of around.now) (done_of progress.old)) }
-    ensures foreseen { WaitsForLast result foreseen.new regs.old (operands.put place value regs.old) regs.old (memory_of around.now) (done_of progress.old) }
+    requires nothing { predicted.old.known ≡ false }
+    ensures value { Leaves result regs.new (done_of progress.new) (operands.put place value regs.old (memory_of context.now) (done_of progress.old)) }
+    ensures predicted { WaitsForLast result predicted.new regs.old (operands.put place value regs.old) regs.old (memory_of context.now) (done_of progress.old) }
 {
     match address(place, regs) {
-        Some(at) => write_last(at, value, around, regs, progress, foreseen),
+        Some(at) => write_last(at, value, context, regs, progress, predicted),
         None => {
             regs.set_byte(place, value);
             Ok(())
@@ -70,22 +70,22 @@ fn put_last(
 }
 
 /// LD of 8 bits. The error is the access that waits for its answer.
-#[tactic(auto, using(crate::proofs::Foresight::nothing_foreseen), unfolding(crate::specs::Rows::Loads::load))]
+#[tactic(auto, using(crate::proofs::Prediction::nothing_predicted), unfolding(crate::specs::Rows::Loads::load))]
 pub fn load(
     target: Place8,
     source: Place8,
-    around: &Around,
+    context: &Context,
     regs: &mut Regs80,
     progress: &mut Progress80,
-    foreseen: &mut Foreseen80,
+    predicted: &mut Predicted80,
 ) -> Result<bool, Waiting>
     requires fresh { array_vec_len progress.old.writes ≡ 0 }
-    requires nothing { foreseen.old.known ≡ false }
-    ensures value { Ends result regs.new (done_of progress.new) (loads.load target source regs.old (memory_of around.now) (done_of progress.old)) }
-    ensures foreseen { Foresees result foreseen.new (loads.load target source regs.old) (memory_of around.now) (done_of progress.old) }
+    requires nothing { predicted.old.known ≡ false }
+    ensures value { Ends result regs.new (done_of progress.new) (loads.load target source regs.old (memory_of context.now) (done_of progress.old)) }
+    ensures predicted { Predicts result predicted.new (loads.load target source regs.old) (memory_of context.now) (done_of progress.old) }
 {
-    let value = fetch(source, around, regs, progress)?;
-    match put_last(target, value, around, regs, progress, foreseen) {
+    let value = fetch(source, context, regs, progress)?;
+    match put_last(target, value, context, regs, progress, predicted) {
         Ok(()) => Ok(false),
         Err(waiting) => Err(waiting),
     }
@@ -120,13 +120,13 @@ pub fn load_to_special(special: Special, regs: &mut Regs80)
 pub fn load_pair_from(
     pair: Pair,
     at: u16,
-    around: &Around,
+    context: &Context,
     regs: &mut Regs80,
     progress: &mut Progress80,
 ) -> Result<bool, Waiting>
-    ensures { Ends result regs.new (done_of progress.new) (loads.load_pair_from pair at regs.old (memory_of around.now) (done_of progress.old)) }
+    ensures { Ends result regs.new (done_of progress.new) (loads.load_pair_from pair at regs.old (memory_of context.now) (done_of progress.old)) }
 {
-    let value = read_word(at, around, progress)?;
+    let value = read_word(at, context, progress)?;
     regs.set_pair(pair, value);
     Ok(false)
 }
@@ -136,14 +136,14 @@ pub fn load_pair_from(
 pub fn store_pair(
     at: u16,
     pair: Pair,
-    around: &Around,
+    context: &Context,
     regs: &Regs80,
     progress: &mut Progress80,
 ) -> Result<bool, Waiting>
     requires { array_vec_len progress.old.writes + 2 ≤ 4 }
-    ensures { Ends result regs.now (done_of progress.new) (loads.store_pair at pair regs.now (memory_of around.now) (done_of progress.old)) }
+    ensures { Ends result regs.now (done_of progress.new) (loads.store_pair at pair regs.now (memory_of context.now) (done_of progress.old)) }
 {
-    write_word(at, regs.pair(pair), around, progress)?;
+    write_word(at, regs.pair(pair), context, progress)?;
     Ok(false)
 }
 
@@ -159,14 +159,14 @@ pub fn load_stack_pointer(index: Index, regs: &mut Regs80)
 #[tactic(auto, unfolding(crate::specs::Rows::Loads::push_pair))]
 pub fn push_pair(
     pair: Pair,
-    around: &Around,
+    context: &Context,
     regs: &mut Regs80,
     progress: &mut Progress80,
 ) -> Result<bool, Waiting>
     requires { array_vec_len progress.old.writes + 2 ≤ 4 }
-    ensures { Ends result regs.new (done_of progress.new) (loads.push_pair pair regs.old (memory_of around.now) (done_of progress.old)) }
+    ensures { Ends result regs.new (done_of progress.new) (loads.push_pair pair regs.old (memory_of context.now) (done_of progress.old)) }
 {
-    push(regs.pair(pair), around, regs, progress)?;
+    push(regs.pair(pair), context, regs, progress)?;
     Ok(false)
 }
 
@@ -174,13 +174,13 @@ pub fn push_pair(
 #[tactic(auto, unfolding(crate::specs::Rows::Loads::pop_pair))]
 pub fn pop_pair(
     pair: Pair,
-    around: &Around,
+    context: &Context,
     regs: &mut Regs80,
     progress: &mut Progress80,
 ) -> Result<bool, Waiting>
-    ensures { Ends result regs.new (done_of progress.new) (loads.pop_pair pair regs.old (memory_of around.now) (done_of progress.old)) }
+    ensures { Ends result regs.new (done_of progress.new) (loads.pop_pair pair regs.old (memory_of context.now) (done_of progress.old)) }
 {
-    let value = pop(around, regs, progress)?;
+    let value = pop(context, regs, progress)?;
     regs.set_pair(pair, value);
     Ok(false)
 }

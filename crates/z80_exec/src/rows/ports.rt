@@ -7,7 +7,7 @@ use crate::access::operands::put;
 use crate::access::{read, write};
 use crate::regs80::{high, with_high, with_low};
 use crate::rows::blocks::{go_on, repeats, stepped};
-use crate::{Around, Progress80, Regs80, Waiting};
+use crate::{Context, Progress80, Regs80, Waiting};
 use z80_alu::{block_passed, compute};
 use z80_decode::{Block, Place8, Task80};
 
@@ -27,15 +27,15 @@ pub fn input_at_number(regs: &mut Regs80)
 #[tactic(auto, unfolding(crate::specs::Rows::Ports::input))]
 pub fn input(
     place: Place8,
-    around: &Around,
+    context: &Context,
     regs: &mut Regs80,
     progress: &mut Progress80,
 ) -> Result<bool, Waiting>
     requires { array_vec_len progress.old.writes + 1 ≤ 4 }
-    ensures { Ends result regs.new (done_of progress.new) (ports.input place regs.old (memory_of around.now) (done_of progress.old)) }
+    ensures { Ends result regs.new (done_of progress.new) (ports.input place regs.old (memory_of context.now) (done_of progress.old)) }
 {
     let out = compute(Task80::In, regs.a(), PORT_BYTE, regs.f());
-    put(place, out.value, around, regs, progress)?;
+    put(place, out.value, context, regs, progress)?;
     regs.set_f(out.f);
     Ok(false)
 }
@@ -55,14 +55,14 @@ fn pass(block: Block, regs: &mut Regs80)
 #[tactic(auto, unfolding(crate::specs::Rows::Ports::block_input))]
 pub fn block_input(
     block: Block,
-    around: &Around,
+    context: &Context,
     regs: &mut Regs80,
     progress: &mut Progress80,
 ) -> Result<bool, Waiting>
     requires { array_vec_len progress.old.writes + 1 ≤ 4 }
-    ensures { Ends result regs.new (done_of progress.new) (ports.block_input block regs.old (memory_of around.now) (done_of progress.old)) }
+    ensures { Ends result regs.new (done_of progress.new) (ports.block_input block regs.old (memory_of context.now) (done_of progress.old)) }
 {
-    write(regs.hl, PORT_BYTE, around, progress)?;
+    write(regs.hl, PORT_BYTE, context, progress)?;
     let again = repeats(block) && high(regs.bc).wrapping_sub(1) != 0;
     pass(block, regs);
     Ok(go_on(again, regs))
@@ -72,13 +72,13 @@ pub fn block_input(
 #[tactic(auto, unfolding(crate::specs::Rows::Ports::block_output))]
 pub fn block_output(
     block: Block,
-    around: &Around,
+    context: &Context,
     regs: &mut Regs80,
     progress: &mut Progress80,
 ) -> Result<bool, Waiting>
-    ensures { Ends result regs.new (done_of progress.new) (ports.block_output block regs.old (memory_of around.now) (done_of progress.old)) }
+    ensures { Ends result regs.new (done_of progress.new) (ports.block_output block regs.old (memory_of context.now) (done_of progress.old)) }
 {
-    read(regs.hl, around, progress)?;
+    read(regs.hl, context, progress)?;
     let again = repeats(block) && high(regs.bc).wrapping_sub(1) != 0;
     pass(block, regs);
     Ok(go_on(again, regs))

@@ -27,7 +27,7 @@ pub enum Step80 {
 /// What follows a write that waits for its answer, where that is known: the write is the last
 /// access of its instruction, no answer to it changes anything, and nothing private is written.
 #[derive(Clone, Copy)]
-pub struct Foreseen80 {
+pub struct Predicted80 {
     pub known: bool,
     /// The registers then.
     pub regs: Regs80,
@@ -35,12 +35,12 @@ pub struct Foreseen80 {
     pub finish: Finish80,
 }
 
-impl Foreseen80 {
+impl Predicted80 {
     /// Nothing is known.
     pub fn nothing() -> Self
         ensures { result.known ≡ false }
     {
-        Foreseen80 {
+        Predicted80 {
             known: false,
             regs: Regs80 {
                 af: 0,

@@ -1,34 +1,34 @@
 use Rattle.std.proofs.Common.{◌∙◌, ℕ, List, take, drop, Err, ap, sym, subst, inl, inr, arith}
 use Rattle.md_word.specs.declared.unspell.Unspell.TheVariants.{Rule}
 use Rattle.md_fields.proofs.Items.{refused_within}
-use Rattle.fm_port.specs.PortSpelling.{PortGoesWrongAt}
+use Rattle.fm_port.specs.PortSpelling.{PortInvalidAt}
 use Rattle.psg_sound.specs.PortSpelling as psg_spelling
 use Rattle.bus_shared.specs.Saved.{lines_fields}
-use Rattle.bus_shared.specs.Spelling.{LinesGoWrongAt}
+use Rattle.bus_shared.specs.Spelling.{LinesInvalidAt}
 use Rattle.bus_shared.proofs.SavedLaws.{lines_size}
-use Rattle.bus_shared.proofs.SpellingLaws.{behind_rule, place_is, psg_near, same_fault}
+use Rattle.bus_shared.proofs.SpellingLaws.{after_rule, place_is, psg_near, same_fault}
 use Rattle.bus_shared.proofs.saved_ports.ports_in.Goals as goal
 
 pub returns-in-Err-clause-rule : goal.returns-in-Err-clause-rule
 returns-in-Err-clause-rule c = λ place e.
     inl (
       place,
-      subst (λ (l : List ℕ). PortGoesWrongAt c.args.at l place) c.split_at.ensures.front (c.in-Err.ensures.rule place (ap Err (same_fault c.in-Err.fault (Rule place) e))),
+      subst (λ (l : List ℕ). PortInvalidAt c.args.at l place) c.split_at.ensures.front (c.in-Err.ensures.rule place (ap Err (same_fault c.in-Err.fault (Rule place) e))),
       omega arith,
     )
 
-pub behind-requires-clause-near : goal.behind-requires-clause-near
-behind-requires-clause-near c = λ place e.
+pub following-requires-clause-near : goal.following-requires-clause-near
+following-requires-clause-near c = λ place e.
     omega (arith, psg_near c.args.at _ place (c.in-Err-psg_in.ensures.rule place (ap Err e)))
 
 pub returns-in-Err-psg_in-clause-rule : goal.returns-in-Err-psg_in-clause-rule
 returns-in-Err-psg_in-clause-rule c = λ place e.
-    let w = behind_rule 12316 c.in-Err-psg_in.fault place (sym c.behind.ensures ∙ same_fault c.behind.result (Rule place) e) in
+    let w = after_rule 12316 c.in-Err-psg_in.fault place (sym c.following.ensures ∙ same_fault c.following.result (Rule place) e) in
     inr (
-      λ p wrong. c.in-Ok.ensures.right p (subst (λ (l : List ℕ). PortGoesWrongAt c.args.at l p) (sym c.split_at.ensures.front) wrong),
+      λ p invalid. c.in-Ok.ensures.right p (subst (λ (l : List ℕ). PortInvalidAt c.args.at l p) (sym c.split_at.ensures.front) invalid),
       inl (
         w.0,
-        subst (λ (l : List ℕ). psg_spelling.PortGoesWrongAt c.args.at l w.0) (c.split_at-2.ensures.front ∙ ap (take 10242) c.split_at.ensures.back) (c.in-Err-psg_in.ensures.rule w.0 (ap Err w.1)),
+        subst (λ (l : List ℕ). psg_spelling.PortInvalidAt c.args.at l w.0) (c.split_at-2.ensures.front ∙ ap (take 10242) c.split_at.ensures.back) (c.in-Err-psg_in.ensures.rule w.0 (ap Err w.1)),
         omega (arith, w.2),
       ),
     )
@@ -44,13 +44,13 @@ returns-in-Ok-checked-clause-lines c =
 pub returns-in-Err-checked-clause-rule : goal.returns-in-Err-checked-clause-rule
 returns-in-Err-checked-clause-rule c = λ place e.
     inr (
-      λ p wrong. c.in-Ok.ensures.right p (subst (λ (l : List ℕ). PortGoesWrongAt c.args.at l p) (sym c.split_at.ensures.front) wrong),
+      λ p invalid. c.in-Ok.ensures.right p (subst (λ (l : List ℕ). PortInvalidAt c.args.at l p) (sym c.split_at.ensures.front) invalid),
       inr (
-        λ p wrong. c.in-Ok-psg_in.ensures.right p
-            (subst (λ (l : List ℕ). psg_spelling.PortGoesWrongAt c.args.at l p) (sym (c.split_at-2.ensures.front ∙ ap (take 10242) c.split_at.ensures.back)) wrong),
+        λ p invalid. c.in-Ok-psg_in.ensures.right p
+            (subst (λ (l : List ℕ). psg_spelling.PortInvalidAt c.args.at l p) (sym (c.split_at-2.ensures.front ∙ ap (take 10242) c.split_at.ensures.back)) invalid),
         inl (
           c.in-Err-checked.place,
-          subst (λ (l : List ℕ). LinesGoWrongAt c.args.at l c.in-Err-checked.place) (c.split_at-2.ensures.back ∙ ap (drop 10242) c.split_at.ensures.back) c.in-Err-checked.ensures.refused,
+          subst (λ (l : List ℕ). LinesInvalidAt c.args.at l c.in-Err-checked.place) (c.split_at-2.ensures.back ∙ ap (drop 10242) c.split_at.ensures.back) c.in-Err-checked.ensures.refused,
           omega (arith, place_is _ _ (same_fault _ (Rule place) e)),
         ),
       ),

@@ -11,14 +11,14 @@ use Rattle.vdp_ports.specs.Spelling as vdp_spelling
 use Rattle.z80_parcel.specs.Parcels.{store_of}
 use Rattle.bus_shared.specs.Board.{Board}
 use Rattle.bus_shared.specs.Saved.{lines_fields}
-use Rattle.bus_shared.specs.Spelling.{IsLength, Spells, StoreGoesWrongAt, cut, store_length}
+use Rattle.bus_shared.specs.Spelling.{IsLength, Spells, StoreInvalidAt, cut, store_length}
 use Rattle.bus_shared.proofs.SavedLaws.{falls_of}
-use Rattle.bus_shared.proofs.SpellingLaws.{PortsIn, behind_rule, ok_not, ports_exit, ports_near, same_fault, vdp_exit, vdp_near, whole}
+use Rattle.bus_shared.proofs.SpellingLaws.{PortsIn, after_rule, ok_not, ports_exit, ports_near, same_fault, vdp_exit, vdp_near, whole}
 use Rattle.bus_shared.proofs.spelling.read.Goals as goal
 use Rattle.bus_shared.proofs.spelling.read.Goals.{else-bytes-ne-SHORT-via-then-bytes-ne-SHORT+else-bytes-ne-LONG, else-bytes-ne-SHORT-via-else-bytes-ne-SHORT}
 
-pub behind-requires-clause-near : goal.behind-requires-clause-near
-behind-requires-clause-near c = λ place e. omega (arith, vdp_near c.args.at c.args.pal _ place ((c.in-Err-unspell.ensures.rule place).0 (ap Err e)))
+pub following-requires-clause-near : goal.following-requires-clause-near
+following-requires-clause-near c = λ place e. omega (arith, vdp_near c.args.at c.args.pal _ place ((c.in-Err-unspell.ensures.rule place).0 (ap Err e)))
 
 pub returns-in-Err-unspell-clause-rule : goal.returns-in-Err-unspell-clause-rule
 returns-in-Err-unspell-clause-rule c = λ place e.
@@ -27,11 +27,11 @@ returns-in-Err-unspell-clause-rule c = λ place e.
       | else-bytes-ne-SHORT-via-then-bytes-ne-SHORT+else-bytes-ne-LONG w ↦ inr (w.if-bytes-ne-LONG.false)
       | else-bytes-ne-SHORT-via-else-bytes-ne-SHORT w ↦ inl (w.if-bytes-ne-SHORT.false)
     ] in
-    let w = behind_rule (length c.split_at.result.0.now) c.in-Err-unspell.fault place (sym c.behind.ensures ∙ same_fault c.behind.result (Rule place) e) in
+    let w = after_rule (length c.split_at.result.0.now) c.in-Err-unspell.fault place (sym c.following.ensures ∙ same_fault c.following.result (Rule place) e) in
     let front : c.split_at-2.result.0.now ≡ (cut bytes).vdp = c.split_at-2.ensures.front ∙ ap (take 65813) c.split_at.ensures.back in
     vdp_exit c.args.at c.args.pal bytes w.0 place long
-    (λ q wrong. c.in-Ok.ensures.right q (subst (λ (l : List ℕ). StoreGoesWrongAt l q) (sym c.split_at.ensures.front) wrong))
-    (subst (λ (l : List ℕ). vdp_spelling.GoesWrongAt c.args.at c.args.pal l w.0) front ((c.in-Err-unspell.ensures.rule w.0).0 (ap Err w.1)))
+    (λ q invalid. c.in-Ok.ensures.right q (subst (λ (l : List ℕ). StoreInvalidAt l q) (sym c.split_at.ensures.front) invalid))
+    (subst (λ (l : List ℕ). vdp_spelling.InvalidAt c.args.at c.args.pal l w.0) front ((c.in-Err-unspell.ensures.rule w.0).0 (ap Err w.1)))
     (w.2 ∙ ap (λ (n : ℕ). n + w.0) c.split_at.ensures.front_len)
 
 pub ports_in-requires-clause-length : goal.ports_in-requires-clause-length
@@ -46,8 +46,8 @@ ports_in-requires-clause-length c =
       | inr e ↦ omega (arith, e, c.split_at.ensures.front_len, c.split_at.ensures.back_len, c.split_at-2.ensures.back_len, c.split_at-2.ensures.front_len)
     ]
 
-pub behind-requires-in-Err-ports_in-clause-near : goal.behind-requires-in-Err-ports_in-clause-near
-behind-requires-in-Err-ports_in-clause-near c = λ place e. omega (arith, ports_near c.args.at _ _ _ place (c.in-Err-ports_in.ensures.rule place (ap Err e)))
+pub following-requires-in-Err-ports_in-clause-near : goal.following-requires-in-Err-ports_in-clause-near
+following-requires-in-Err-ports_in-clause-near c = λ place e. omega (arith, ports_near c.args.at _ _ _ place (c.in-Err-ports_in.ensures.rule place (ap Err e)))
 
 pub returns-in-Err-ports_in-clause-rule : goal.returns-in-Err-ports_in-clause-rule
 returns-in-Err-ports_in-clause-rule c = λ place e.
@@ -56,12 +56,12 @@ returns-in-Err-ports_in-clause-rule c = λ place e.
       | else-bytes-ne-SHORT-via-then-bytes-ne-SHORT+else-bytes-ne-LONG w ↦ inr (w.if-bytes-ne-LONG.false)
       | else-bytes-ne-SHORT-via-else-bytes-ne-SHORT w ↦ inl (w.if-bytes-ne-SHORT.false)
     ] in
-    let w = behind_rule (length c.split_at.result.0.now + 65813) c.in-Err-ports_in.fault place (sym c.behind-in-Err-ports_in.ensures ∙ same_fault c.behind-in-Err-ports_in.result (Rule place) e) in
+    let w = after_rule (length c.split_at.result.0.now + 65813) c.in-Err-ports_in.fault place (sym c.following-in-Err-ports_in.ensures ∙ same_fault c.following-in-Err-ports_in.result (Rule place) e) in
     let front : c.split_at-2.result.0.now ≡ (cut bytes).vdp = c.split_at-2.ensures.front ∙ ap (take 65813) c.split_at.ensures.back in
     let back : c.split_at-2.result.1.now ≡ drop 65813 (drop (store_length bytes) bytes) = c.split_at-2.ensures.back ∙ ap (drop 65813) c.split_at.ensures.back in
     ports_exit c.args.at c.args.pal bytes w.0 place long
-    (λ q wrong. c.in-Ok.ensures.right q (subst (λ (l : List ℕ). StoreGoesWrongAt l q) (sym c.split_at.ensures.front) wrong))
-    (λ q wrong. ok_not _ (Rule q) ((c.in-Ok-unspell.ensures.rule q).1 (subst (λ (l : List ℕ). vdp_spelling.GoesWrongAt c.args.at c.args.pal l q) (sym front) wrong)))
+    (λ q invalid. c.in-Ok.ensures.right q (subst (λ (l : List ℕ). StoreInvalidAt l q) (sym c.split_at.ensures.front) invalid))
+    (λ q invalid. ok_not _ (Rule q) ((c.in-Ok-unspell.ensures.rule q).1 (subst (λ (l : List ℕ). vdp_spelling.InvalidAt c.args.at c.args.pal l q) (sym front) invalid)))
     (subst (λ (l : List ℕ). PortsIn c.args.at l w.0) back (c.in-Err-ports_in.ensures.rule w.0 (ap Err w.1)))
     (w.2 ∙ ap (λ (n : ℕ). n + 65813 + w.0) c.split_at.ensures.front_len)
 

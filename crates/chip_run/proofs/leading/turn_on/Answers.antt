@@ -1,5 +1,5 @@
 use Rattle.std.proofs.Common.{refl, ◌∙◌, arith, [], ◌∷◌}
-use Rattle.chip_run.proofs.Desks.{turned-place}
+use Rattle.chip_run.proofs.WorkQueues.{turned-place}
 use Rattle.chip_run.proofs.Rounds.{at-free}
 use Rattle.chip_run.proofs.leading.turn_on.Goals as goal
 

@@ -1,21 +1,21 @@
 use Rattle.std.proofs.Common.{◌≡◌, ◌∙◌, ℕ, Bool, List, ap, sym, subst, arith}
-use Rattle.md_fields.specs.Fields.{first_wrong, sizes}
+use Rattle.md_fields.specs.Fields.{first_invalid, sizes}
 use Rattle.fm_port.specs.PortSpelling.{SpellsPort, are_writes, port_with, writes_from}
 use Rattle.fm_port.specs.declared.write.FmWrite.{FmWrite}
 use Rattle.fm_port.proofs.PortBytes.{breaks_number, breaks_writes, count_in, entries_in, number_size, read_spells}
 use Rattle.fm_port.proofs.spelling.parts_of.Goals as goal
 
-pub first_wrong-requires : goal.first_wrong-requires
-first_wrong-requires c = omega (arith, ap sizes c.fields.ensures.fields ∙ number_size c.args.at c.read-numbers.result)
+pub first_invalid-requires : goal.first_invalid-requires
+first_invalid-requires c = omega (arith, ap sizes c.fields.ensures.fields ∙ number_size c.args.at c.read-numbers.result)
 
 pub returns-in-Some-clause-refused : goal.returns-in-Some-clause-refused
 returns-in-Some-clause-refused c =
     breaks_number c.args.at c.args.bytes.now c.read-numbers.result c.in-Some.place (λ i. omega (arith, c.type_inv.bytes i)) c.if-bytes-ne-LENGTH.false c.read-numbers.ensures
-    (ap (first_wrong 0) (sym c.fields.ensures.fields) ∙ sym c.first_wrong.ensures ∙ c.in-Some.is)
+    (ap (first_invalid 0) (sym c.fields.ensures.fields) ∙ sym c.first_invalid.ensures ∙ c.in-Some.is)
 
 -- the rule of the writes by the count that was read
-told_by : (at count there : ℕ) (entries : List ℕ) (told : Bool) → count ≡ there → told ≡ are_writes at count entries → are_writes at there entries ≡ told
-told_by at count there entries told same e = sym (e ∙ ap (λ (n : ℕ). are_writes at n entries) same)
+reported_by : (at count there : ℕ) (entries : List ℕ) (reported : Bool) → count ≡ there → reported ≡ are_writes at count entries → are_writes at there entries ≡ reported
+reported_by at count there entries reported same e = sym (e ∙ ap (λ (n : ℕ). are_writes at n entries) same)
 
 pub returns-clause-found : goal.returns-clause-found
 returns-clause-found c =
@@ -23,12 +23,12 @@ returns-clause-found c =
     subst (λ (ws : List FmWrite). SpellsPort c.args.at c.args.bytes.now (port_with c.read-numbers.result ws))
     (sym (c.writes_at.ensures ∙ ap (λ (n : ℕ). writes_from n (entries_in c.args.bytes.now)) same))
     (read_spells c.args.at c.args.bytes.now c.read-numbers.result (λ i. omega (arith, c.type_inv.bytes i)) c.if-bytes-ne-LENGTH.false c.read-numbers.ensures
-    (ap (first_wrong 0) (sym c.fields.ensures.fields) ∙ sym c.first_wrong.ensures ∙ c.in_default.is)
-    (told_by c.args.at c.from-count.result _ (entries_in c.args.bytes.now) _ same c.are_right.ensures ∙ c.if-not-are_right.false))
+    (ap (first_invalid 0) (sym c.fields.ensures.fields) ∙ sym c.first_invalid.ensures ∙ c.in_default.is)
+    (reported_by c.args.at c.from-count.result _ (entries_in c.args.bytes.now) _ same c.are_right.ensures ∙ c.if-not-are_right.false))
 
 pub returns-then-not-are_right-clause-refused : goal.returns-then-not-are_right-clause-refused
 returns-then-not-are_right-clause-refused c =
     let same : c.from-count.result ≡ count_in c.args.bytes.now = c.from-count.ensures ∙ c.u16_at.ensures in
     breaks_writes c.args.at c.args.bytes.now c.read-numbers.result (λ i. omega (arith, c.type_inv.bytes i)) c.if-bytes-ne-LENGTH.false c.read-numbers.ensures
-    (ap (first_wrong 0) (sym c.fields.ensures.fields) ∙ sym c.first_wrong.ensures ∙ c.in_default.is)
-    (told_by c.args.at c.from-count.result _ (entries_in c.args.bytes.now) _ same c.are_right.ensures ∙ c.if-not-are_right.true)
+    (ap (first_invalid 0) (sym c.fields.ensures.fields) ∙ sym c.first_invalid.ensures ∙ c.in_default.is)
+    (reported_by c.args.at c.from-count.result _ (entries_in c.args.bytes.now) _ same c.are_right.ensures ∙ c.if-not-are_right.true)

@@ -6,7 +6,7 @@ ghost use Rattle.m68k_exec.specs.Rows.Turns as turns;
 
 use crate::access::read;
 use crate::rows::movem::{Order, next_address};
-use crate::{Around, Progress, Stop};
+use crate::{Context, Progress, Stop};
 use md_word::{Regs, Size, extend};
 
 /// Reads one register, a word with its sign extended.
@@ -15,15 +15,15 @@ fn load_one(
     size: Size,
     place: u8,
     at: u32,
-    around: &Around,
+    context: &Context,
     regs: &mut Regs,
     progress: &mut Progress,
 ) -> Result<u32, Stop>
     requires place { place < 16 }
-    ensures value { Reaches result regs.new (done_of progress.new) (turns.load_one size place at regs.old (memory_of around.now) (done_of progress.old)) }
+    ensures value { Reaches result regs.new (done_of progress.new) (turns.load_one size place at regs.old (memory_of context.now) (done_of progress.old)) }
     ensures written { array_vec_len progress.new.writes ≤ array_vec_len progress.old.writes }
 {
-    let value = read(size, at, around, progress)?;
+    let value = read(size, at, context, progress)?;
     regs.set_register(place, extend(value, size));
     Ok(next_address(Order::Rising, size, at))
 }
@@ -34,16 +34,16 @@ fn load_turn(
     chosen: bool,
     place: u8,
     at: u32,
-    around: &Around,
+    context: &Context,
     regs: &mut Regs,
     progress: &mut Progress,
 ) -> Result<u32, Stop>
     requires place { place < 16 }
-    ensures value { Reaches result regs.new (done_of progress.new) (turns.load_turn size chosen place at regs.old (memory_of around.now) (done_of progress.old)) }
+    ensures value { Reaches result regs.new (done_of progress.new) (turns.load_turn size chosen place at regs.old (memory_of context.now) (done_of progress.old)) }
     ensures written { array_vec_len progress.new.writes ≤ array_vec_len progress.old.writes }
 {
     if chosen {
-        load_one(size, place, at, around, regs, progress)
+        load_one(size, place, at, context, regs, progress)
     } else {
         Ok(at)
     }
@@ -55,17 +55,17 @@ fn load_each(
     size: Size,
     list: u16,
     at: u32,
-    around: &Around,
+    context: &Context,
     regs: &mut Regs,
     progress: &mut Progress,
 ) -> Result<u32, Stop>
-    ensures value { Reaches result regs.new (done_of progress.new) (movem.load_each size (movem.places_in list) at regs.old (memory_of around.now) (done_of progress.old)) }
+    ensures value { Reaches result regs.new (done_of progress.new) (movem.load_each size (movem.places_in list) at regs.old (memory_of context.now) (done_of progress.old)) }
     ensures written { array_vec_len progress.new.writes ≤ array_vec_len progress.old.writes }
 {
     let mut left = list;
     let mut address = at;
     'registers: for place in 0..16u8 {
-        address = load_turn(size, left % 2 == 1, place, address, around, regs, progress)?;
+        address = load_turn(size, left % 2 == 1, place, address, context, regs, progress)?;
         left /= 2;
     }
     Ok(address)
@@ -77,11 +77,11 @@ pub fn load_list(
     size: Size,
     list: u16,
     at: u32,
-    around: &Around,
+    context: &Context,
     regs: &mut Regs,
     progress: &mut Progress,
 ) -> Result<u32, Stop>
-    ensures value { Reaches result regs.new (done_of progress.new) (movem.load_list size list at regs.old (memory_of around.now) (done_of progress.old)) }
+    ensures value { Reaches result regs.new (done_of progress.new) (movem.load_list size list at regs.old (memory_of context.now) (done_of progress.old)) }
     ensures written { array_vec_len progress.new.writes ≤ array_vec_len progress.old.writes }
 {
     if list == 0 {
@@ -94,5 +94,5 @@ pub fn load_list(
             used: progress.used,
         });
     }
-    load_each(size, list, at, around, regs, progress)
+    load_each(size, list, at, context, regs, progress)
 }

@@ -6,7 +6,7 @@ ghost use Rattle.m68k_exec.specs.Rows.Turns as turns;
 
 use crate::access::write;
 use crate::rows::movem::{Order, named, next_address, place_at};
-use crate::{Around, Progress, Stop};
+use crate::{Context, Progress, Stop};
 use md_word::{Regs, Size};
 
 /// Writes one register, and gives the next address.
@@ -16,17 +16,17 @@ fn store_one(
     size: Size,
     place: u8,
     at: u32,
-    around: &Around,
+    context: &Context,
     regs: &Regs,
     progress: &mut Progress,
 ) -> Result<u32, Stop>
     requires place { place < 16 }
     requires room { array_vec_len progress.old.writes + 4 ≤ 80 }
-    ensures value { Meets result (done_of progress.new) (turns.store_one order size place at regs.now (memory_of around.now) (done_of progress.old)) }
+    ensures value { Meets result (done_of progress.new) (turns.store_one order size place at regs.now (memory_of context.now) (done_of progress.old)) }
     ensures written { array_vec_len progress.new.writes ≤ array_vec_len progress.old.writes + 4 }
 {
     let value = size.low(regs.register(named(order, place)));
-    write(size, place_at(order, size, at), value, around, progress)?;
+    write(size, place_at(order, size, at), value, context, progress)?;
     Ok(next_address(order, size, at))
 }
 
@@ -37,17 +37,17 @@ fn store_turn(
     chosen: bool,
     place: u8,
     at: u32,
-    around: &Around,
+    context: &Context,
     regs: &Regs,
     progress: &mut Progress,
 ) -> Result<u32, Stop>
     requires place { place < 16 }
     requires room { array_vec_len progress.old.writes + 4 ≤ 80 }
-    ensures value { Meets result (done_of progress.new) (turns.store_turn order size chosen place at regs.now (memory_of around.now) (done_of progress.old)) }
+    ensures value { Meets result (done_of progress.new) (turns.store_turn order size chosen place at regs.now (memory_of context.now) (done_of progress.old)) }
     ensures written { array_vec_len progress.new.writes ≤ array_vec_len progress.old.writes + 4 }
 {
     if chosen {
-        store_one(order, size, place, at, around, regs, progress)
+        store_one(order, size, place, at, context, regs, progress)
     } else {
         Ok(at)
     }
@@ -61,12 +61,12 @@ fn store_each(
     size: Size,
     list: u16,
     at: u32,
-    around: &Around,
+    context: &Context,
     regs: &Regs,
     progress: &mut Progress,
 ) -> Result<u32, Stop>
     requires fresh { array_vec_len progress.old.writes ≡ 0 }
-    ensures value { Meets result (done_of progress.new) (movem.store_each order size (movem.places_in list) at regs.now (memory_of around.now) (done_of progress.old)) }
+    ensures value { Meets result (done_of progress.new) (movem.store_each order size (movem.places_in list) at regs.now (memory_of context.now) (done_of progress.old)) }
     ensures written { array_vec_len progress.new.writes ≤ array_vec_len progress.old.writes + 64 }
 {
     let mut left = list;
@@ -78,7 +78,7 @@ fn store_each(
             left % 2 == 1,
             place,
             address,
-            around,
+            context,
             regs,
             progress,
         )?;
@@ -94,12 +94,12 @@ pub fn store_list(
     size: Size,
     list: u16,
     at: u32,
-    around: &Around,
+    context: &Context,
     regs: &Regs,
     progress: &mut Progress,
 ) -> Result<u32, Stop>
     requires { array_vec_len progress.old.writes ≡ 0 }
-    ensures value { Meets result (done_of progress.new) (movem.store_list order size list at regs.now (memory_of around.now) (done_of progress.old)) }
+    ensures value { Meets result (done_of progress.new) (movem.store_list order size list at regs.now (memory_of context.now) (done_of progress.old)) }
     ensures written { array_vec_len progress.new.writes ≤ array_vec_len progress.old.writes + 64 }
 {
     if list == 0 {
@@ -112,5 +112,5 @@ pub fn store_list(
             used: progress.used,
         });
     }
-    store_each(order, size, list, at, around, regs, progress)
+    store_each(order, size, list, at, context, regs, progress)
 }

@@ -9,7 +9,7 @@ use crate::rows::control::{illegal, line_a_opcode, line_f_opcode, rte, rtr, trap
 use crate::rows::status::{
     move_from_sr, move_from_usp, move_to_ccr, move_to_sr, move_to_usp, reset, stop,
 };
-use crate::{Around, Outcome, Progress, Stop};
+use crate::{Context, Outcome, Progress, Stop};
 use m68k_decode::Op;
 use md_word::Regs;
 
@@ -18,28 +18,28 @@ use md_word::Regs;
 pub fn control(
     op: &Op,
     start: u32,
-    around: &Around,
+    context: &Context,
     regs: &mut Regs,
     progress: &mut Progress,
 ) -> Result<Outcome, Stop>
     requires group { IsControl op.now }
     requires operands { IsOp op.now }
     requires fresh { array_vec_len progress.old.writes ≡ 0 }
-    ensures value { Ends result regs.new (done_of progress.new) (execution.row op.now start regs.old (memory_of around.now) (done_of progress.old)) }
+    ensures value { Ends result regs.new (done_of progress.new) (execution.row op.now start regs.old (memory_of context.now) (done_of progress.old)) }
     ensures written { array_vec_len progress.new.writes ≤ array_vec_len progress.old.writes + 64 }
 {
     match *op {
-        Op::MoveFromSr(mode) => move_from_sr(mode, start, around, regs, progress),
-        Op::MoveToCcr(mode) => move_to_ccr(mode, start, around, regs, progress),
-        Op::MoveToSr(mode) => move_to_sr(mode, start, around, regs, progress),
+        Op::MoveFromSr(mode) => move_from_sr(mode, start, context, regs, progress),
+        Op::MoveToCcr(mode) => move_to_ccr(mode, start, context, regs, progress),
+        Op::MoveToSr(mode) => move_to_sr(mode, start, context, regs, progress),
         Op::Trap(number) => Ok(trap(number, regs)),
         Op::MoveToUsp(number) => Ok(move_to_usp(number, start, regs)),
         Op::MoveFromUsp(number) => Ok(move_from_usp(number, start, regs)),
         Op::Reset => Ok(reset(start, regs)),
         Op::Stop(value) => Ok(stop(value, start, regs)),
-        Op::Rte => rte(start, around, regs, progress),
+        Op::Rte => rte(start, context, regs, progress),
         Op::Trapv => Ok(trapv(regs)),
-        Op::Rtr => rtr(around, regs, progress),
+        Op::Rtr => rtr(context, regs, progress),
         Op::Illegal(_) => Ok(illegal(start, regs)),
         Op::LineA(_) => Ok(line_a_opcode(start, regs)),
         Op::LineF(_) => Ok(line_f_opcode(start, regs)),

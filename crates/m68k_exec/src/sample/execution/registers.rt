@@ -9,7 +9,7 @@ use crate::rows::arithmetic::shift_memory;
 use crate::rows::registers::exg;
 use crate::rows::shifts::{shift_by_number, shift_by_register};
 use crate::rows::single::{ext, swap};
-use crate::{Around, Outcome, Progress, Stop};
+use crate::{Context, Outcome, Progress, Stop};
 use m68k_decode::Op;
 use md_word::Regs;
 
@@ -18,14 +18,14 @@ use md_word::Regs;
 pub fn registers(
     op: &Op,
     start: u32,
-    around: &Around,
+    context: &Context,
     regs: &mut Regs,
     progress: &mut Progress,
 ) -> Result<Outcome, Stop>
     requires group { IsOnRegister op.now }
     requires operands { IsOp op.now }
     requires fresh { array_vec_len progress.old.writes ≡ 0 }
-    ensures value { Ends result regs.new (done_of progress.new) (execution.row op.now start regs.old (memory_of around.now) (done_of progress.old)) }
+    ensures value { Ends result regs.new (done_of progress.new) (execution.row op.now start regs.old (memory_of context.now) (done_of progress.old)) }
     ensures written { array_vec_len progress.new.writes ≤ array_vec_len progress.old.writes + 64 }
 {
     match *op {
@@ -38,7 +38,7 @@ pub fn registers(
         Op::ShiftByRegister(task, size, first, second) => {
             Ok(shift_by_register(task, size, first, second, regs))
         }
-        Op::ShiftMemory(task, mode) => shift_memory(task, mode, start, around, regs, progress),
+        Op::ShiftMemory(task, mode) => shift_memory(task, mode, start, context, regs, progress),
         _ => unreachable!(),
     }
 }

@@ -4,7 +4,7 @@ use Rattle.md_asm.specs.Numbers.{bytes_of}
 use Rattle.md_asm.proofs.data.bytes_of.Given as goal
 
 abbrev pub invariant-loop-rest : goal.invariant-loop-rest
-invariant-loop-rest l = l.bytes.items ++ bytes_of (map shown l.rest) ≡ bytes_of (map shown l.fn.pieces)
+invariant-loop-rest l = l.bytes.items ++ bytes_of (map shown l.rest) ≡ bytes_of (map shown l.fn.tokens)
 
 abbrev pub decreases-loop-rest : goal.decreases-loop-rest
 decreases-loop-rest l = length l.rest

@@ -5,8 +5,8 @@ use Rattle.md_asm.proofs.data.count.Given as goal
 
 abbrev pub invariant-loop-rest : goal.invariant-loop-rest
 invariant-loop-rest l = record {
-  value : l.found + count (map shown l.rest) ≡ count (map shown l.fn.pieces);
-  within : l.found + length l.rest ≤ length l.fn.pieces;
+  value : l.found + count (map shown l.rest) ≡ count (map shown l.fn.tokens);
+  within : l.found + length l.rest ≤ length l.fn.tokens;
 }
 
 abbrev pub decreases-loop-rest : goal.decreases-loop-rest

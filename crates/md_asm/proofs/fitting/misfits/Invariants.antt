@@ -5,8 +5,8 @@ use Rattle.md_asm.proofs.fitting.misfits.Given as goal
 
 abbrev pub invariant-loop-rest : goal.invariant-loop-rest
 invariant-loop-rest l = record {
-  value : misfits l.z80 (map shown l.pieces) l.i (map shown l.rest) ≡ misfits l.z80 (map shown l.pieces) 0 (map shown l.pieces);
-  within : l.i + length l.rest ≡ length l.pieces;
+  value : misfits l.z80 (map shown l.tokens) l.i (map shown l.rest) ≡ misfits l.z80 (map shown l.tokens) 0 (map shown l.tokens);
+  within : l.i + length l.rest ≡ length l.tokens;
 }
 
 abbrev pub decreases-loop-rest : goal.decreases-loop-rest

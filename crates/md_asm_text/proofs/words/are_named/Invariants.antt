@@ -1,5 +1,5 @@
 use Rattle.std.proofs.Common.{◌≡◌, length}
-use Rattle.md_asm_text.specs.Pieces.{every, is_named}
+use Rattle.md_asm_text.specs.Tokens.{every, is_named}
 use Rattle.md_asm_text.proofs.words.are_named.Given as goal
 
 abbrev pub invariant-loop-rest : goal.invariant-loop-rest

@@ -13,5 +13,5 @@ pub returns-in-Err-clause-ends : goal.returns-in-Err-clause-ends
 returns-in-Err-clause-ends g c = record {
   replies = [];
   plays = plays_none c.args.cart c.args.script.now;
-  puts = puts_none g.S.Sink.told (g.S.Sink.state c.args.out.now);
+  puts = puts_none g.S.Sink.observable (g.S.Sink.state c.args.out.now);
 }

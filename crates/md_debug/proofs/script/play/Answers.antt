@@ -11,7 +11,7 @@ loop-rest-init g c = (
   [],
   [],
   record { parts = refl; obeyed = obeys_none g.I.Images.size g.I.Images.spelling g.I.Images.keeps c.args.session.now [] refl },
-  puts_none g.S.Sink.told (g.S.Sink.state c.args.out.now),
+  puts_none g.S.Sink.observable (g.S.Sink.state c.args.out.now),
   refl,
   omega arith,
 )
@@ -31,8 +31,8 @@ loop-rest-preserved g c =
       first_more g.I.Images.size g.I.Images.spelling g.I.Images.keeps (lines_of c.args.script.now) so_far.0 (lines_of after) line done.0 c.args.session.now c.loop-rest.session c.obey.new.session replies (replies ++ reply)
           (subst (λ (l : List (List ℕ)). ObeysFirst g.I.Images.size g.I.Images.spelling g.I.Images.keeps (lines_of c.args.script.now) so_far.0 l c.args.session.now c.loop-rest.session replies) c.first_line.ensures.lines so_far.2)
           done.1.0 done.1.1.0 refl,
-      puts_more g.S.Sink.told replies reply (g.S.Sink.state c.args.out.now) (g.S.Sink.state c.loop-rest.out) (g.S.Sink.state c.put.new.self) so_far.3
-          (puts_whole g.S.Sink.told c.as_slice.result.now reply (g.S.Sink.state c.loop-rest.out) (g.S.Sink.state c.put.new.self) (c.in-Ok-put.ensures {u = tt}) (c.as_slice.ensures.value ∙ done.1.1.1)),
+      puts_more g.S.Sink.observable replies reply (g.S.Sink.state c.args.out.now) (g.S.Sink.state c.loop-rest.out) (g.S.Sink.state c.put.new.self) so_far.3
+          (puts_whole g.S.Sink.observable c.as_slice.result.now reply (g.S.Sink.state c.loop-rest.out) (g.S.Sink.state c.put.new.self) (c.in-Ok-put.ensures {u = tt}) (c.as_slice.ensures.value ∙ done.1.1.1)),
       omega (arith, number, length-append so_far.0 (line ∷ [])),
       omega (arith, fits, c.first_line.ensures.shorter),
     )
@@ -48,8 +48,8 @@ returns-in-Err-clause-ends g c =
     record {
       replies = replies;
       plays =
-          plays_stopped g.I.Images.size g.I.Images.spelling g.I.Images.keeps (lines_of c.args.script.now) so_far.0 (lines_of after) line c.args.session.now c.loop-rest.session c.obey.new.session replies c.ending_of.result (c.loop-rest.number + 1) c.in-Err.fault
-          stands (omega (arith, number)) c.ending_of.ensures.memory c.ending_of.ensures.refused (λ other. (c.in-Err.ensures.refused other, c.in-Err.ensures.fault));
+          plays_stopped g.I.Images.size g.I.Images.spelling g.I.Images.keeps (lines_of c.args.script.now) so_far.0 (lines_of after) line c.args.session.now c.loop-rest.session c.obey.new.session replies c.session_outcome_of.result (c.loop-rest.number + 1) c.in-Err.fault
+          stands (omega (arith, number)) c.session_outcome_of.ensures.memory c.session_outcome_of.ensures.refused (λ other. (c.in-Err.ensures.refused other, c.in-Err.ensures.fault));
       puts = so_far.3;
     }
 
@@ -74,7 +74,7 @@ returns-in-Err-put-clause-stops g c =
       asks = done.1.0;
       obeys = done.1.1.0;
       fails =
-          fails_within g.S.Sink.told c.as_slice.result.now reply (g.S.Sink.state c.loop-rest.out) (g.S.Sink.state c.put.new.self) c.in-Err-put.failed (c.in-Err-put.ensures {u = tt})
+          fails_within g.S.Sink.observable c.as_slice.result.now reply (g.S.Sink.state c.loop-rest.out) (g.S.Sink.state c.put.new.self) c.in-Err-put.failed (c.in-Err-put.ensures {u = tt})
           (c.as_slice.ensures.value ∙ done.1.1.1);
     }
 

@@ -7,7 +7,7 @@ use Rattle.md_debug.proofs.script.play.Given as goal
 abbrev pub invariant-loop-rest : goal.invariant-loop-rest
 invariant-loop-rest g l =
     (before : List (List ℕ)) × (replies : List ℕ) × ObeysFirst g.I.Images.size g.I.Images.spelling g.I.Images.keeps (lines_of l.script) before (lines_of l.rest) l.fn.session l.session replies
-    × PutsWhole g.S.Sink.told replies (g.S.Sink.state l.fn.out) (g.S.Sink.state l.out) × (l.number ≡ length before) × (l.number + length l.rest ≤ length l.script)
+    × PutsWhole g.S.Sink.observable replies (g.S.Sink.state l.fn.out) (g.S.Sink.state l.out) × (l.number ≡ length before) × (l.number + length l.rest ≤ length l.script)
 
 abbrev pub decreases-loop-rest : goal.decreases-loop-rest
 decreases-loop-rest g l = length l.rest

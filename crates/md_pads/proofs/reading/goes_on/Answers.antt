@@ -1,12 +1,12 @@
 use Rattle.std.proofs.Common.{arith}
 use Rattle.std.proofs.lemmas.Bool.{ltb-true}
-use Rattle.md_pads.proofs.Steps.{At, mark_step, count_step, word_goes, word_kept}
+use Rattle.md_pads.proofs.Steps.{At, magic_step, count_step, word_goes, word_kept}
 use Rattle.md_pads.proofs.reading.goes_on.Goals as goal
 
 pub returns-then-place-start : goal.returns-then-place-start
 returns-then-place-start c =
     let early = c.if-place-start.true in
-    rw c.lead.ensures (mark_step c.args.version c.args.bytes.now c.args.place (record { small = λ i. omega (arith, c.type_inv.bytes i); within = c.requires.within; begun = c.requires.begins }) (omega (arith, c.start-start.ensures.place)))
+    rw c.lead.ensures (magic_step c.args.version c.args.bytes.now c.args.place (record { small = λ i. omega (arith, c.type_inv.bytes i); within = c.requires.within; begun = c.requires.begins }) (omega (arith, c.start-start.ensures.place)))
 
 pub returns-then-place-start-2 : goal.returns-then-place-start-2
 returns-then-place-start-2 c =

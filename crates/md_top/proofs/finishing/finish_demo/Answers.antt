@@ -1,7 +1,7 @@
 use Rattle.std.proofs.Common.{Some, arith}
 use Rattle.md_args.specs.Shown.{shown_demo}
 use Rattle.md_args.specs.Words.{RunDemo}
-use Rattle.md_top.specs.declared.ending.Ending.TheVariants.{DemoDone}
+use Rattle.md_top.specs.declared.command_outcome.CommandOutcome.TheVariants.{DemoDone}
 use Rattle.md_top.proofs.Stages.{not_ten}
 use Rattle.md_top.proofs.finishing.finish_demo.Goals as goal
 
@@ -19,5 +19,5 @@ returns-clause-reported g c = (c.sum_up-summary.result, c.sum_up-summary.ensures
 
 pub returns-clause-memory : goal.returns-clause-memory
 returns-clause-memory g c =
-    not_ten g.S.Sink.told (Some (RunDemo (shown_demo c.args.demo.now))) (DemoDone c.sum_up-summary.result) (g.S.Sink.state c.args.out.now) (g.S.Sink.state c.report.new.out)
+    not_ten g.S.Sink.observable (Some (RunDemo (shown_demo c.args.demo.now))) (DemoDone c.sum_up-summary.result) (g.S.Sink.state c.args.out.now) (g.S.Sink.state c.report.new.out)
     c.report.result c.report.ensures (λ is. omega (arith, is))

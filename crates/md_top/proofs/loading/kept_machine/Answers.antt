@@ -4,7 +4,7 @@ use Rattle.std.specs.Arc.{arc_value}
 use Rattle.md_pads.specs.Recording.{IsFrame, Recorded}
 use Rattle.md_top.specs.Courses.{start_at}
 use Rattle.md_top.specs.Loads.{IsFound}
-use Rattle.state_laws.specs.Verdicts.{Keeps, OfOther, StateWrongAt}
+use Rattle.state_laws.specs.Verdicts.{Keeps, OfOther, StateInvalidAt}
 use Rattle.md_top.specs.declared.inputs.Inputs.{Inputs}
 use Rattle.md_top.proofs.loading.kept_machine.Goals as goal
 
@@ -23,8 +23,8 @@ returns-in-Ok-read-clause-fresh c = record {
 
 pub returns-in-Err-Form-clause-err : goal.returns-in-Err-Form-clause-err
 returns-in-Err-Form-clause-err c =
-    let wrong = rw c.in-Err-Form.field-0-is at c.in-Err-Form.ensures.form in
-    subst (λ (inputs : Inputs). IsFound inputs c.args.bytes.now (StateWrongAt c.in-Err-Form.place)) c.in-Ok.ensures (wrong c.in-Err-Form.place refl)
+    let invalid = rw c.in-Err-Form.field-0-is at c.in-Err-Form.ensures.form in
+    subst (λ (inputs : Inputs). IsFound inputs c.args.bytes.now (StateInvalidAt c.in-Err-Form.place)) c.in-Ok.ensures (invalid c.in-Err-Form.place refl)
 
 pub returns-in-Err-OtherCart-clause-err : goal.returns-in-Err-OtherCart-clause-err
 returns-in-Err-OtherCart-clause-err c =

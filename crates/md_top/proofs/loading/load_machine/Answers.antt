@@ -14,10 +14,10 @@ returns-in-Ok-clause-begins g c =
     let file = (g.D.Depot.state c.args.depot.now).files c.args.name.now in
     IfOk-weaker c.kept_machine.result
     (λ machine. IsFound inputs c.as_slice.result.now (Keeps (start_at machine)))
-    (λ machine. g.D.Depot.told → IsFoundIn file inputs (Keeps (start_at machine)))
-    (λ machine found told.
+    (λ machine. g.D.Depot.observable → IsFoundIn file inputs (Keeps (start_at machine)))
+    (λ machine found observable.
     held (λ bytes. (length bytes ≤ state_limit) × IsFound inputs bytes (Keeps (start_at machine))) file c.in-Ok.bytes.items
-    (c.in-Ok.ensures.bytes told)
+    (c.in-Ok.ensures.bytes observable)
     (c.in-Ok.ensures.within, subst (λ (bytes : List ℕ). IsFound inputs bytes (Keeps (start_at machine))) c.as_slice.ensures.value found))
     c.kept_machine.ensures.found
 
@@ -26,8 +26,8 @@ returns-in-Ok-clause-err g c =
     let inputs = c.args.inputs in
     let old : DepotState = g.D.Depot.state c.args.depot.now in
     let new : DepotState = g.D.Depot.state c.fetch.new.self in
-    IfErr-weaker c.kept_machine.result (IsRefused inputs c.as_slice.result.now) (StateCause g.D.Depot.told (Some c.args.name.now) inputs old new)
-    (λ ending refused.
-    refused-cause g.D.Depot.told c.args.name.now inputs old new c.in-Ok.bytes.items ending c.in-Ok.ensures.bytes c.in-Ok.ensures.within
-    (subst (λ (bytes : List ℕ). IsRefused inputs bytes ending) c.as_slice.ensures.value refused))
+    IfErr-weaker c.kept_machine.result (IsRefused inputs c.as_slice.result.now) (StateCause g.D.Depot.observable (Some c.args.name.now) inputs old new)
+    (λ command_outcome refused.
+    refused-cause g.D.Depot.observable c.args.name.now inputs old new c.in-Ok.bytes.items command_outcome c.in-Ok.ensures.bytes c.in-Ok.ensures.within
+    (subst (λ (bytes : List ℕ). IsRefused inputs bytes command_outcome) c.as_slice.ensures.value refused))
     c.kept_machine.ensures.err

@@ -18,7 +18,7 @@ returns-in-Err-clause-err_files g c = λ t.
 
 pub returns-in-Err-begin-clause-err : goal.returns-in-Err-begin-clause-err
 returns-in-Err-begin-clause-err g c =
-    unwritten-before (shown_run c.args.run.now) (g.D.Depot.state c.args.depot.now) (g.D.Depot.state c.begin.new.depot) (g.D.Depot.state c.begin-2.new.depot) c.in-Err-begin.ending
+    unwritten-before (shown_run c.args.run.now) (g.D.Depot.state c.args.depot.now) (g.D.Depot.state c.begin.new.depot) (g.D.Depot.state c.begin-2.new.depot) c.in-Err-begin.command_outcome
     c.begin.ensures.goes_on c.in-Err-begin.ensures.err
 
 pub returns-in-Err-begin-clause-err_files : goal.returns-in-Err-begin-clause-err_files
@@ -33,7 +33,7 @@ returns-in-Err-begin-clause-err_files g c = λ t. record {
 
 pub returns-in-Err-begin-2-clause-err : goal.returns-in-Err-begin-2-clause-err
 returns-in-Err-begin-2-clause-err g c =
-    unwritten-before (shown_run c.args.run.now) (g.D.Depot.state c.args.depot.now) (g.D.Depot.state c.begin-2.new.depot) (g.D.Depot.state c.begin-3.new.depot) c.in-Err-begin-2.ending
+    unwritten-before (shown_run c.args.run.now) (g.D.Depot.state c.args.depot.now) (g.D.Depot.state c.begin-2.new.depot) (g.D.Depot.state c.begin-3.new.depot) c.in-Err-begin-2.command_outcome
     (goes-far (g.D.Depot.state c.args.depot.now) (g.D.Depot.state c.begin.new.depot) (g.D.Depot.state c.begin-2.new.depot) c.begin.ensures.goes_on c.begin-2.ensures.goes_on)
     c.in-Err-begin-2.ensures.err
 
@@ -52,7 +52,7 @@ pub returns-in-Err-begin-3-clause-err : goal.returns-in-Err-begin-3-clause-err
 returns-in-Err-begin-3-clause-err g c =
     let old = g.D.Depot.state c.args.depot.now in
     let two = g.D.Depot.state c.begin-2.new.depot in
-    unwritten-before (shown_run c.args.run.now) old (g.D.Depot.state c.begin-3.new.depot) (g.D.Depot.state c.begin-4.new.depot) c.in-Err-begin-3.ending
+    unwritten-before (shown_run c.args.run.now) old (g.D.Depot.state c.begin-3.new.depot) (g.D.Depot.state c.begin-4.new.depot) c.in-Err-begin-3.command_outcome
     (goes-far old two (g.D.Depot.state c.begin-3.new.depot)
     (goes-far old (g.D.Depot.state c.begin.new.depot) two c.begin.ensures.goes_on c.begin-2.ensures.goes_on) c.begin-3.ensures.goes_on)
     c.in-Err-begin-3.ensures.err

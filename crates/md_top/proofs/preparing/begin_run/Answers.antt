@@ -3,13 +3,13 @@ use Rattle.md_outer.specs.Outside.{Files}
 use Rattle.md_args.specs.Shown.{shown_run}
 use Rattle.md_top.specs.Courses.{start_in}
 use Rattle.md_top.specs.Outputs.{Holds, LeavesParts, nothing}
-use Rattle.md_top.specs.declared.ending.Ending.TheVariants.{Memory}
+use Rattle.md_top.specs.declared.command_outcome.CommandOutcome.TheVariants.{Memory}
 use Rattle.md_top.proofs.Ends.{empty-parts, goes-far, unbegun-files, unbegun-run, unchanged, untouched}
 use Rattle.md_top.proofs.preparing.begin_run.Goals as goal
 
 pub returns-in-Err-clause-left : goal.returns-in-Err-clause-left
 returns-in-Err-clause-left g c = λ t.
-    unchanged (shown_run c.args.run.now) (g.D.Depot.state c.args.depot.now).files (g.D.Depot.state c.find_start.new.depot).files c.in-Err.ending (c.in-Err.ensures.files t)
+    unchanged (shown_run c.args.run.now) (g.D.Depot.state c.args.depot.now).files (g.D.Depot.state c.find_start.new.depot).files c.in-Err.command_outcome (c.in-Err.ensures.files t)
 
 pub returns-in-Err-clause-files : goal.returns-in-Err-clause-files
 returns-in-Err-clause-files g c = λ t.
@@ -40,14 +40,14 @@ returns-in-Ok-begin_all-clause-files g c = λ t.
 pub returns-in-Err-begin_all-clause-cause : goal.returns-in-Err-begin_all-clause-cause
 returns-in-Err-begin_all-clause-cause g c =
     let has = c.in-Ok.ensures.start in
-    unbegun-run g.D.Depot.told (shown_run c.args.run.now) (start_in c.in-Ok.course) (g.D.Depot.state c.args.depot.now) (g.D.Depot.state c.find_start.new.depot)
-    (g.D.Depot.state c.begin_all.new.depot) c.in-Err-begin_all.ending c.runs_begin_once.ensures has.end has.may has.begins has.above c.in-Ok.ensures.goes_on c.in-Ok.ensures.files
+    unbegun-run g.D.Depot.observable (shown_run c.args.run.now) (start_in c.in-Ok.course) (g.D.Depot.state c.args.depot.now) (g.D.Depot.state c.find_start.new.depot)
+    (g.D.Depot.state c.begin_all.new.depot) c.in-Err-begin_all.command_outcome c.runs_begin_once.ensures has.end has.may has.begins has.above c.in-Ok.ensures.goes_on c.in-Ok.ensures.files
     c.in-Err-begin_all.ensures.err c.in-Err-begin_all.ensures.err_files
 
 pub returns-in-Err-begin_all-clause-left : goal.returns-in-Err-begin_all-clause-left
 returns-in-Err-begin_all-clause-left g c = λ t.
     unbegun-files (shown_run c.args.run.now) (g.D.Depot.state c.find_start.new.depot) (g.D.Depot.state c.begin_all.new.depot) (g.D.Depot.state c.args.depot.now).files
-    (g.D.Depot.state c.begin_all.new.depot).files c.in-Err-begin_all.ending c.in-Err-begin_all.ensures.err
+    (g.D.Depot.state c.begin_all.new.depot).files c.in-Err-begin_all.command_outcome c.in-Err-begin_all.ensures.err
     (subst (λ (old : Files). LeavesParts (shown_run c.args.run.now) old (g.D.Depot.state c.begin_all.new.depot).files nothing) (c.in-Ok.ensures.files t) (c.in-Err-begin_all.ensures.err_files t))
 
 pub returns-in-Err-begin_all-clause-files : goal.returns-in-Err-begin_all-clause-files

@@ -10,13 +10,13 @@ use Rattle.md_top.proofs.preparing.find_start.Goals as goal
 
 pub returns-in-Err-first_machine-clause-cause : goal.returns-in-Err-first_machine-clause-cause
 returns-in-Err-first_machine-clause-cause g c =
-    let cause : LoadCause g.D.Depot.told (shown_run c.args.run.now) (g.D.Depot.state c.args.depot.now) (g.D.Depot.state c.first_machine.new.depot) c.in-Err-first_machine.ending = (
+    let cause : LoadCause g.D.Depot.observable (shown_run c.args.run.now) (g.D.Depot.state c.args.depot.now) (g.D.Depot.state c.first_machine.new.depot) c.in-Err-first_machine.command_outcome = (
       c.in-Ok.inputs,
       c.in-Ok.ensures.inputs,
-      state-cause-before g.D.Depot.told (shown_run c.args.run.now).load c.in-Ok.inputs (g.D.Depot.state c.args.depot.now) (g.D.Depot.state c.read_inputs.new.depot)
-          (g.D.Depot.state c.first_machine.new.depot) c.in-Err-first_machine.ending c.in-Ok.ensures.files c.in-Ok.ensures.goes_on c.in-Err-first_machine.ensures.err,
+      state-cause-before g.D.Depot.observable (shown_run c.args.run.now).load c.in-Ok.inputs (g.D.Depot.state c.args.depot.now) (g.D.Depot.state c.read_inputs.new.depot)
+          (g.D.Depot.state c.first_machine.new.depot) c.in-Err-first_machine.command_outcome c.in-Ok.ensures.files c.in-Ok.ensures.goes_on c.in-Err-first_machine.ensures.err,
     ) in
-    load-ends g.D.Depot.told (shown_run c.args.run.now) (g.D.Depot.state c.args.depot.now) (g.D.Depot.state c.first_machine.new.depot) c.in-Err-first_machine.ending
+    load-ends g.D.Depot.observable (shown_run c.args.run.now) (g.D.Depot.state c.args.depot.now) (g.D.Depot.state c.first_machine.new.depot) c.in-Err-first_machine.command_outcome
     (omega (arith, c.if-run-gt-LAST_CYCLE.false)) cause
 
 pub returns-then-run-from-clause-cause : goal.returns-then-run-from-clause-cause

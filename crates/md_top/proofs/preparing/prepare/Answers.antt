@@ -10,7 +10,7 @@ pub returns-in-Ok-Some-clause-prepared : goal.returns-in-Ok-Some-clause-prepared
 returns-in-Ok-Some-clause-prepared g c =
     let words : Some (shown_command c.in-Ok-Some.command) ≡ command_of (map (string_bytes {Z = Global}) c.args.words.now.items) =
     rw c.as_slice.ensures.value at (rw c.in-Ok-Some.field-0-is at (c.in-Ok-Some.ensures {u = tt})) in
-    subst (λ (asked : Option Command). Stands g.D.Depot.told g.S.Sink.told asked (g.D.Depot.state c.args.depot.now) (g.D.Depot.state c.prepare_command.new.depot)
+    subst (λ (asked : Option Command). Stands g.D.Depot.observable g.S.Sink.observable asked (g.D.Depot.state c.args.depot.now) (g.D.Depot.state c.prepare_command.new.depot)
     (g.S.Sink.state c.args.out.now) (g.S.Sink.state c.prepare_command.new.out) c.prepare_command.result)
     words c.prepare_command.ensures.stands
 

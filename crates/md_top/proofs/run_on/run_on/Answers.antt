@@ -2,7 +2,7 @@ use Rattle.std.proofs.Common.{rules, ◌≡◌, ℕ, Bool, Option, ap, ap₂, sy
 use Rattle.md_machine.specs.Starts.{Start}
 use Rattle.md_top.specs.Courses.{cycle_of, start_in}
 use Rattle.md_top.specs.Counts.{frames_between}
-use Rattle.md_top.specs.Endings.{HoldsUntil}
+use Rattle.md_top.specs.CommandOutcomes.{HoldsUntil}
 use Rattle.md_top.specs.Resuming.{RunsWell}
 use Rattle.md_top.specs.Runs.{state_to}
 use Rattle.md_args.specs.Shown.{shown_run}
@@ -62,7 +62,7 @@ returns-clause-files g c = λ t first holds.
     let held : HoldsUntil start (shown_run c.args.run.now) first (g.D.Depot.state c.segments.depot).files c.args.run.now.cycles =
     subst (λ (n : ℕ). HoldsUntil start (shown_run c.args.run.now) first (g.D.Depot.state c.segments.depot).files n) at (c.segments.invariant.4 t first holds) in
     fault-leaves start (shown_run c.args.run.now) first (g.D.Depot.state c.save.new.depot).files (g.D.Depot.state c.segments.depot) (g.D.Depot.state c.save.new.depot)
-    c.in-Err-save.ending c.in-Err-save.ensures.err
+    c.in-Err-save.command_outcome c.in-Err-save.ensures.err
     (state-parts (shown_run c.args.run.now) start first (g.D.Depot.state c.segments.depot).files (g.D.Depot.state c.save.new.depot).files
     (state_bytes course.machine.at course.machine.console)
     (state-found start course.machine course.accesses c.segments.invariant.1 (omega (arith, at, c.requires.end.1)) ∙ ap (state_to start) at)
@@ -70,11 +70,11 @@ returns-clause-files g c = λ t first holds.
 
 pub returns-in-Err-clause-memory : goal.returns-in-Err-clause-memory
 returns-in-Err-clause-memory g c =
-    fault-not_memory (shown_run c.args.run.now) (g.D.Depot.state c.segments.depot) (g.D.Depot.state c.run_segment.new.depot) c.in-Err.ending c.in-Err.ensures.err
+    fault-not_memory (shown_run c.args.run.now) (g.D.Depot.state c.segments.depot) (g.D.Depot.state c.run_segment.new.depot) c.in-Err.command_outcome c.in-Err.ensures.err
 
 pub returns-clause-memory : goal.returns-clause-memory
 returns-clause-memory g c =
-    fault-not_memory (shown_run c.args.run.now) (g.D.Depot.state c.segments.depot) (g.D.Depot.state c.save.new.depot) c.in-Err-save.ending c.in-Err-save.ensures.err
+    fault-not_memory (shown_run c.args.run.now) (g.D.Depot.state c.segments.depot) (g.D.Depot.state c.save.new.depot) c.in-Err-save.command_outcome c.in-Err-save.ensures.err
 
 pub save-requires-clause-buffers : goal.save-requires-clause-buffers
 save-requires-clause-buffers g c = c.segments.invariant.5

@@ -1,7 +1,7 @@
 use Rattle.std.proofs.Common.{◌-◌, ◌≤◌}
 use Rattle.md_outer.specs.Outside.{Files, GoesOn}
 use Rattle.md_top.specs.Courses.{CameFrom, cycle_of, start_in}
-use Rattle.md_top.specs.Endings.{HoldsUntil}
+use Rattle.md_top.specs.CommandOutcomes.{HoldsUntil}
 use Rattle.md_top.specs.Outputs.{AreBegun}
 use Rattle.md_top.specs.Saves.{CanSave}
 use Rattle.md_args.specs.Shown.{shown_run}
@@ -14,7 +14,7 @@ invariant-segments g l =
     × CameFrom (start_in l.initial.course) l.course
     × AreBegun (shown_run l.run) (g.D.Depot.state l.depot).begun l.outputs
     × GoesOn (g.D.Depot.state l.initial.depot) (g.D.Depot.state l.depot)
-    × (g.D.Depot.told → (first : Files)
+    × (g.D.Depot.observable → (first : Files)
     → HoldsUntil (start_in l.initial.course) (shown_run l.run) first (g.D.Depot.state l.initial.depot).files (cycle_of l.initial.course)
     → HoldsUntil (start_in l.initial.course) (shown_run l.run) first (g.D.Depot.state l.depot).files (cycle_of l.course))
     × CanSave (shown_run l.run) l.buffers

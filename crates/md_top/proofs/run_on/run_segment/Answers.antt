@@ -1,7 +1,7 @@
 use Rattle.std.proofs.Common.{◌≡◌, ℕ, refl, sym, subst, arith}
 use Rattle.md_machine.specs.Starts.{Start}
 use Rattle.md_top.specs.Courses.{CameFrom, cycle_of}
-use Rattle.md_top.specs.Endings.{HoldsUntil}
+use Rattle.md_top.specs.CommandOutcomes.{HoldsUntil}
 use Rattle.md_top.specs.Outputs.{Pieces, lengthened, nothing}
 use Rattle.md_top.specs.Runs.{pieces_until}
 use Rattle.md_args.specs.Shown.{shown_run}
@@ -33,9 +33,9 @@ returns-clause-err_files g c =
     (rw c.as_slice.ensures.value (c.advance.ensures.frames start came)) (rw c.as_slice-2.ensures.value (c.advance.ensures.pairs start came))
     (rw c.as_slice-3.ensures.value (c.advance.ensures.records start came)) in
     both-err c.append_all.result
-    (λ ending fault adds t start first came holds.
+    (λ command_outcome fault adds t start first came holds.
     fault-leaves start (shown_run c.args.run.now) first (g.D.Depot.state c.append_all.new.depot).files
-    (g.D.Depot.state c.args.depot.now) (g.D.Depot.state c.append_all.new.depot) ending fault
+    (g.D.Depot.state c.args.depot.now) (g.D.Depot.state c.append_all.new.depot) command_outcome fault
     (segment-parts (shown_run c.args.run.now) start first (g.D.Depot.state c.args.depot.now).files (g.D.Depot.state c.append_all.new.depot).files
     (cycle_of c.args.course.now) c.segment_end-end.result more
     came.from came.laws (omega (arith, c.segment_end-end.ensures)) (omega (arith, c.requires.end.1)) (next start came) (adds t) holds))

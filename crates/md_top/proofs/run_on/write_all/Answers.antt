@@ -1,19 +1,19 @@
 use Rattle.std.proofs.Common.{◌≡◌, ap, subst, sym}
 use Rattle.md_machine.specs.Starts.{Start}
 use Rattle.md_top.specs.Courses.{start_at, start_in}
-use Rattle.md_top.specs.Endings.{HoldsUntil, RunCause, RunLeaves}
+use Rattle.md_top.specs.CommandOutcomes.{HoldsUntil, RunCause, RunLeaves}
 use Rattle.md_args.specs.Shown.{shown_run}
 use Rattle.md_top.proofs.Ends.{begun-on, cause-before, fault-leaves, fault-not_memory}
 use Rattle.md_top.proofs.run_on.write_all.Goals as goal
 
 pub returns-in-Err-clause-memory : goal.returns-in-Err-clause-memory
 returns-in-Err-clause-memory g c =
-    fault-not_memory (shown_run c.args.run.now) (g.D.Depot.state c.args.depot.now) (g.D.Depot.state c.append_head.new.depot) c.in-Err.ending c.in-Err.ensures.err
+    fault-not_memory (shown_run c.args.run.now) (g.D.Depot.state c.args.depot.now) (g.D.Depot.state c.append_head.new.depot) c.in-Err.command_outcome c.in-Err.ensures.err
 
 pub returns-in-Err-clause-files : goal.returns-in-Err-clause-files
 returns-in-Err-clause-files g c = λ t first holds.
     fault-leaves (start_in c.args.course) (shown_run c.args.run.now) first (g.D.Depot.state c.append_head.new.depot).files
-    (g.D.Depot.state c.args.depot.now) (g.D.Depot.state c.append_head.new.depot) c.in-Err.ending c.in-Err.ensures.err
+    (g.D.Depot.state c.args.depot.now) (g.D.Depot.state c.append_head.new.depot) c.in-Err.command_outcome c.in-Err.ensures.err
     (c.in-Err.ensures.err_files t first holds)
 
 pub returns-in-Ok-clause-cause : goal.returns-in-Ok-clause-cause

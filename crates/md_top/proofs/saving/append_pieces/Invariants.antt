@@ -10,7 +10,7 @@ invariant-pieces g l =
     AreBegun (shown_run l.run) (g.D.Depot.state l.depot).begun l.outputs
     × GoesOn (g.D.Depot.state l.initial.depot) (g.D.Depot.state l.depot)
     × ((front : List ℕ) × (front ++ l.rest ≡ l.fn.bytes)
-    × (g.D.Depot.told → Adds (shown_run l.run) (g.D.Depot.state l.initial.depot).files (g.D.Depot.state l.depot).files (record nothing { state = front })))
+    × (g.D.Depot.observable → Adds (shown_run l.run) (g.D.Depot.state l.initial.depot).files (g.D.Depot.state l.depot).files (record nothing { state = front })))
 
 abbrev pub decreases-pieces : goal.decreases-pieces
 decreases-pieces g l = length l.rest

@@ -22,7 +22,7 @@ loop-place-preserved c =
     let next : trues (p + 1) (set tests p b) ≡ c.loop-place.count + cond b 1 0 = ap (λ n. trues n (set tests p b)) at ∙ trues-next p tests b within ∙ ap (λ n. n + cond b 1 0) (sym c.loop-place.invariant.counted) in
     let mine : c.page_of_state.result.now ≡ page_at c.args.state.now p = c.page_of_state.ensures in
     let there : c.bytes.result.now ≡ page_at (bytes_of c.args.shelf.now.items) p = c.bytes.ensures ∙ sym (page_at-bytes_of c.args.shelf.now.items p c.requires.whole (omega (arith, c.requires.sizes.1, c.loop-place-test.true))) in
-    let told : b ≡ not (bytes_eq c.page_of_state.result.now c.bytes.result.now) = c.differ-is_changed.ensures in
+    let reported : b ≡ not (bytes_eq c.page_of_state.result.now c.bytes.result.now) = c.differ-is_changed.ensures in
     record {
       long = length-set tests p b ∙ c.loop-place.invariant.long;
       counted = elim c.if-is_changed.branch [
@@ -32,8 +32,8 @@ loop-place-preserved c =
       changes = λ i lt. changes-next p c.args.state.now (bytes_of c.args.shelf.now.items) tests b within c.loop-place.invariant.changes
           (λ f. elim (cases_Bool (bytes_eq c.page_of_state.result.now c.bytes.result.now)) [
             | inl t ↦ sym mine ∙ (bytes_eq-Decides c.page_of_state.result.now c.bytes.result.now).0 t ∙ there
-            | inr other ↦ absurd (true≢false (sym (told ∙ ap not other) ∙ f))
+            | inr other ↦ absurd (true≢false (sym (reported ∙ ap not other) ∙ f))
           ])
-          (λ t e. true≢false (sym t ∙ told ∙ ap not ((bytes_eq-Decides c.page_of_state.result.now c.bytes.result.now).1 (mine ∙ e ∙ sym there))))
+          (λ t e. true≢false (sym t ∙ reported ∙ ap not ((bytes_eq-Decides c.page_of_state.result.now c.bytes.result.now).1 (mine ∙ e ∙ sym there))))
           i (omega (arith, lt));
     }

@@ -1,13 +1,13 @@
 use Rattle.std.proofs.Common.{ℕ, ◌==◌, ap, inl, inr, arith}
 use Rattle.save_state.specs.Items.{at_of, region_of}
-use Rattle.save_state.proofs.MachineLaws.{machine_refused, machine_read, next_68, next_80, is_first, at_refused, one_region, region_refused, right_at, right_cycle, wrong_at, wrong_region}
+use Rattle.save_state.proofs.MachineLaws.{machine_refused, machine_read, next_68, next_80, is_first, at_refused, one_region, region_refused, right_at, right_cycle, invalid_at, invalid_region}
 use Rattle.save_state.proofs.Joins.{wanting}
 use Rattle.save_state.proofs.reading.read_machine.Goals as goal
 use Rattle.save_state.proofs.reading.read_machine.Goals.{then-at-lt1-via-then-at-lt1, then-at-lt1-via-else-at-lt1+then-at-gt-LAST_CYCLE}
 
 pub returns-then-at-lt1 : goal.returns-then-at-lt1
 returns-then-at-lt1 c =
-    at_refused _ _ c.args.bytes.now (wrong_at c.args.bytes.now c.u64_at-at.result c.u64_at-at.ensures (
+    at_refused _ _ c.args.bytes.now (invalid_at c.args.bytes.now c.u64_at-at.result c.u64_at-at.ensures (
     elim c.then-at-lt1.branch [
       | then-at-lt1-via-then-at-lt1 w ↦ inl w.if-at-lt1.true
       | then-at-lt1-via-else-at-lt1+then-at-gt-LAST_CYCLE w ↦ inr w.if-at-gt-LAST_CYCLE.true
@@ -45,7 +45,7 @@ machine_of-requires-clause-region c = one_region _ _ c.args.bytes.now c.in-Ok.pi
 pub returns-then-region-gt1 : goal.returns-then-region-gt1
 returns-then-region-gt1 c =
     region_refused _ _ c.args.bytes.now (right_cycle c.args.bytes.now c.u64_at-at.result c.u64_at-at.ensures c.if-at-lt1.false c.if-at-gt-LAST_CYCLE.false)
-    (wrong_region c.args.bytes.now c.u8_at-region.result c.u8_at-region.ensures c.if-region-gt1.true)
+    (invalid_region c.args.bytes.now c.u8_at-region.result c.u8_at-region.ensures c.if-region-gt1.true)
 
 pub read_pieces-requires-clause-region : goal.read_pieces-requires-clause-region
 read_pieces-requires-clause-region c = ap (λ (n : ℕ). n == 1) c.u8_at-region.ensures

@@ -5,8 +5,8 @@ use Rattle.save_state.specs.OldPads.{HasPads}
 use Rattle.save_state.specs.Layout.{digest_part, part_of}
 use Rattle.save_state.specs.Refusals.{FieldFailsBack}
 use Rattle.save_state.specs.States.{IsNewest}
-use Rattle.save_state.specs.Versions.{IsWrongAt, migrated}
-use Rattle.save_state.proofs.VersionLaws.{form_of, form_wrong, only_of, same_digest, state_own, unversioned, wrong_of}
+use Rattle.save_state.specs.Versions.{IsInvalidAt, migrated}
+use Rattle.save_state.proofs.VersionLaws.{form_of, form_invalid, only_of, same_digest, state_own, unversioned, invalid_of}
 use Rattle.save_state.proofs.reading.read_with.Goals as goal
 
 pub returns-in-Err-clause-only : goal.returns-in-Err-clause-only
@@ -15,7 +15,7 @@ returns-in-Err-clause-only c = λ start s pads n. absurd (unversioned s.version 
 pub returns-in-Err-clause-form : goal.returns-in-Err-clause-form
 returns-in-Err-clause-form c = λ place e.
     let same : c.in-Err.place ≡ place = cc in
-    subst (IsWrongAt (arc_value c.args.cart) c.args.bytes.now) same (inl c.in-Err.ensures.none)
+    subst (IsInvalidAt (arc_value c.args.cart) c.args.bytes.now) same (inl c.in-Err.ensures.none)
 
 pub returns-then-not-is_same-clause-only : goal.returns-then-not-is_same-clause-only
 returns-then-not-is_same-clause-only c = λ start s pads n.
@@ -44,12 +44,12 @@ pub returns-in-Ok-migrated-clause-form : goal.returns-in-Ok-migrated-clause-form
 returns-in-Ok-migrated-clause-form c = λ place e.
     let cart = arc_value c.args.cart in
     let same : c.newest_of.result.now ≡ migrated c.in-Ok.version c.args.bytes.now = c.newest_of.ensures ∙ c.in-Ok-migrated.ensures in
-    form_wrong c.in-Ok.version cart c.args.bytes.now place c.in-Ok.ensures.version
+    form_invalid c.in-Ok.version cart c.args.bytes.now place c.in-Ok.ensures.version
     (subst (λ (l : List ℕ). FieldFailsBack c.in-Ok.version cart l place) same (c.read_newest.ensures.form place e))
 
-pub returns-in-Ok-migrated-clause-wrong : goal.returns-in-Ok-migrated-clause-wrong
-returns-in-Ok-migrated-clause-wrong c = λ place w n.
+pub returns-in-Ok-migrated-clause-invalid : goal.returns-in-Ok-migrated-clause-invalid
+returns-in-Ok-migrated-clause-invalid c = λ place w n.
     let cart = arc_value c.args.cart in
     let same : c.newest_of.result.now ≡ migrated c.in-Ok.version c.args.bytes.now = c.newest_of.ensures ∙ c.in-Ok-migrated.ensures in
-    c.read_newest.ensures.wrong place
-    (subst (λ (l : List ℕ). FieldFailsBack c.in-Ok.version cart l place) (sym same) (wrong_of c.in-Ok.version cart c.args.bytes.now place c.in-Ok.ensures.version w)) n
+    c.read_newest.ensures.invalid place
+    (subst (λ (l : List ℕ). FieldFailsBack c.in-Ok.version cart l place) (sym same) (invalid_of c.in-Ok.version cart c.args.bytes.now place c.in-Ok.ensures.version w)) n

@@ -16,8 +16,8 @@ returns-clause-bytes c =
     (omega (arith, c.spell.new.into.ok.0, c.spell.ensures.length, board_least (is_some c.shared-2.result.now.store))) in
     c.cut_off.ensures.front ∙ cut.0
 
-pub returns-clause-behind : goal.returns-clause-behind
-returns-clause-behind c =
+pub returns-clause-following : goal.returns-clause-following
+returns-clause-following c =
     let b : Board = c.args.machine.now.console.shared in
     let all : c.spell.new.into.items ≡ c.args.into.now.items ++ shared.board_bytes (shared.settled_board c.args.machine.now.at b) =
     c.spell.ensures.bytes ∙ (λ i. c.args.into.now.items ++ shared.board_bytes (shared.settled_board (c.at.ensures i) (c.shared-2.ensures i))) in

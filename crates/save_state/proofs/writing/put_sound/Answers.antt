@@ -13,7 +13,7 @@ use Rattle.save_state.proofs.writing.put_sound.Goals as goal
 pub returns-clause-bytes : goal.returns-clause-bytes
 returns-clause-bytes c =
     let m : Console = c.args.machine.now.console in
-    let rest : List ℕ = c.args.behind.now in
+    let rest : List ℕ = c.args.following.now in
     let next : List ℕ = to_be_bytes w64 (starts.first_batch c.args.machine.now.at) in
     let batch : c.to_be_bytes-batch.result ≡ next = c.to_be_bytes-batch.ensures ∙ ap (to_be_bytes w64) (c.first_batch.ensures ∙ ap starts.first_batch c.at-at.ensures) in
     seven c.args.into.now.items (part_of fm_port_there rest) next (fm.synth_bytes m.fm) next (part_of psg_port_there rest) (psg.synth_bytes m.psg) (part_of lines_there rest)

@@ -2,16 +2,16 @@ use Rattle.std.proofs.Common.{◌∙◌, ◌++◌, length, ap, arith}
 use Rattle.m68k_chip.specs.Validity.{Chip68Value}
 use Rattle.m68k_chip.specs.Spelling as main
 use Rattle.md_machine.specs.Console.{Console}
-use Rattle.save_state.proofs.WriteLaws.{behind_long, own_room, owner_room, written}
+use Rattle.save_state.proofs.WriteLaws.{after_long, own_room, owner_room, written}
 use Rattle.save_state.proofs.writing.spell.Goals as goal
 
 pub put_board-requires-clause-room : goal.put_board-requires-clause-room
 put_board-requires-clause-room c =
     omega (arith, c.requires.room, c.put_head.ensures.length, c.put_head.ensures.room, c.spell.ensures.length, c.spell.ensures.room, c.put_sub.ensures.length, c.put_sub.ensures.room, own_room c.args.machine.now.console c.put_sub.ensures.few)
 
-pub put_sound-requires-clause-behind : goal.put_sound-requires-clause-behind
-put_sound-requires-clause-behind c =
-    ap length (c.as_slice.ensures.value ∙ c.put_board.ensures.behind) ∙ behind_long c.args.machine.now.at c.args.machine.now.console.shared c.put_board.ensures.board
+pub put_sound-requires-clause-following : goal.put_sound-requires-clause-following
+put_sound-requires-clause-following c =
+    ap length (c.as_slice.ensures.value ∙ c.put_board.ensures.following) ∙ after_long c.args.machine.now.at c.args.machine.now.console.shared c.put_board.ensures.board
 
 pub put_sound-requires-clause-room : goal.put_sound-requires-clause-room
 put_sound-requires-clause-room c =
@@ -22,7 +22,7 @@ returns-clause-bytes c =
     let m : Console = c.args.machine.now.console in
     written c.args.machine.now.at m c.args.digest.now c.as_slice.result.now c.draw_chip.result.now
     c.args.into.now.items c.put_head.new.into.items c.spell.new.into.items c.put_sub.new.into.items c.put_board.new.into.items c.spell-2.new.into.items c.put_sound.new.into.items
-    c.put_board.ensures.board c.requires.digest (c.as_slice.ensures.value ∙ c.put_board.ensures.behind)
+    c.put_board.ensures.board c.requires.digest (c.as_slice.ensures.value ∙ c.put_board.ensures.following)
     c.draw_chip.ensures.next c.draw_chip.ensures.note c.draw_chip.ensures.picture
     c.put_head.ensures.bytes
     (c.spell.ensures.bytes ∙ ap (λ (x : Chip68Value). c.put_head.new.into.items ++ main.chip_bytes x.state) c.main_chip.ensures)

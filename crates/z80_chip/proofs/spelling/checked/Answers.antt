@@ -1,14 +1,14 @@
 use Rattle.std.proofs.Common.{ℕ, true, false, ltb, inl, inr, sym, ap, ◌∙◌, arith}
 use Rattle.std.proofs.lemmas.Bool.{both_ways, eq-eqb, le-ltb, lt-ltb, ne_eqb}
-use Rattle.md_fields.specs.Fields.{sizes, first_wrong}
+use Rattle.md_fields.specs.Fields.{sizes, first_invalid}
 use Rattle.z80_chip.specs.Saved.{number_fields}
 use Rattle.z80_chip.proofs.SpellingLaws.{breaks_bank, breaks_number, has_store, number_size, right_numbers, stands_by}
 use Rattle.z80_chip.proofs.spelling.checked.Goals as goal
 use Rattle.z80_parcel.specs.Parcels.{banks}
 use Rattle.z80_chip.proofs.spelling.checked.Goals.{else-bytes-ne-RAM-via-then-bytes-ne-RAM+else-bytes-ne-LENGTH, else-bytes-ne-RAM-via-else-bytes-ne-RAM, else-has-via-then-has+else-u16_at-ge-BANKS, else-has-via-else-has}
 
-pub first_wrong-requires : goal.first_wrong-requires
-first_wrong-requires c = omega (arith, ap sizes c.fields.ensures.fields ∙ number_size c.args.at _ c.read-saved.result)
+pub first_invalid-requires : goal.first_invalid-requires
+first_invalid-requires c = omega (arith, ap sizes c.fields.ensures.fields ∙ number_size c.args.at _ c.read-saved.result)
 
 pub returns-in-Some-clause-refused : goal.returns-in-Some-clause-refused
 returns-in-Some-clause-refused c = λ cart.
@@ -17,7 +17,7 @@ returns-in-Some-clause-refused c = λ cart.
       | else-bytes-ne-RAM-via-then-bytes-ne-RAM+else-bytes-ne-LENGTH w ↦ inr (w.if-bytes-ne-LENGTH.false)
       | else-bytes-ne-RAM-via-else-bytes-ne-RAM w ↦ inl (w.if-bytes-ne-RAM.false)
     ]) c.read-saved.ensures)
-    (ap (λ has. first_wrong 0 (number_fields c.args.at has c.read-saved.result)) (sym (has_store c.args.bytes.now)) ∙ ap (first_wrong 0) (sym c.fields.ensures.fields) ∙ sym c.first_wrong.ensures ∙ c.in-Some.is)
+    (ap (λ has. first_invalid 0 (number_fields c.args.at has c.read-saved.result)) (sym (has_store c.args.bytes.now)) ∙ ap (first_invalid 0) (sym c.fields.ensures.fields) ∙ sym c.first_invalid.ensures ∙ c.in-Some.is)
 
 pub returns-then-u16_at-ge-BANKS-clause-refused : goal.returns-then-u16_at-ge-BANKS-clause-refused
 returns-then-u16_at-ge-BANKS-clause-refused c = λ cart.
@@ -26,7 +26,7 @@ returns-then-u16_at-ge-BANKS-clause-refused c = λ cart.
       | else-bytes-ne-RAM-via-then-bytes-ne-RAM+else-bytes-ne-LENGTH w ↦ inr (w.if-bytes-ne-LENGTH.false)
       | else-bytes-ne-RAM-via-else-bytes-ne-RAM w ↦ inl (w.if-bytes-ne-RAM.false)
     ]) c.read-saved.ensures)
-    (ap (λ has. first_wrong 0 (number_fields c.args.at has c.read-saved.result)) (sym (has_store c.args.bytes.now)) ∙ ap (first_wrong 0) (sym c.fields.ensures.fields) ∙ sym c.first_wrong.ensures ∙ c.in_default.is)
+    (ap (λ has. first_invalid 0 (number_fields c.args.at has c.read-saved.result)) (sym (has_store c.args.bytes.now)) ∙ ap (first_invalid 0) (sym c.fields.ensures.fields) ∙ sym c.first_invalid.ensures ∙ c.in_default.is)
     (ne_eqb _ _ c.if-has.true)
     (ap (λ (n : ℕ). ltb n banks) (sym c.u16_at.ensures) ∙ le-ltb c.u16_at.result banks c.if-u16_at-ge-BANKS.true)
 
@@ -41,7 +41,7 @@ returns-clause-found c = record {
     | else-bytes-ne-RAM-via-else-bytes-ne-RAM w ↦ inl (w.if-bytes-ne-RAM.false)
   ]) c.read-saved.ensures;
   right = right_numbers c.args.at c.args.bytes.now c.read-saved.result
-      (ap (λ has. first_wrong 0 (number_fields c.args.at has c.read-saved.result)) (sym (has_store c.args.bytes.now)) ∙ ap (first_wrong 0) (sym c.fields.ensures.fields) ∙ sym c.first_wrong.ensures ∙ c.in_default.is)
+      (ap (λ has. first_invalid 0 (number_fields c.args.at has c.read-saved.result)) (sym (has_store c.args.bytes.now)) ∙ ap (first_invalid 0) (sym c.fields.ensures.fields) ∙ sym c.first_invalid.ensures ∙ c.in_default.is)
       (elim c.else-has.branch [
         | else-has-via-then-has+else-u16_at-ge-BANKS w ↦ (λ long. ap (λ (n : ℕ). ltb n banks) (sym w.u16_at.ensures) ∙ lt-ltb w.u16_at.result banks (omega (arith, w.if-u16_at-ge-BANKS.false)))
         | else-has-via-else-has w ↦ (λ long. absurd (both_ways _ long (eq-eqb _ _ w.if-has.false)))

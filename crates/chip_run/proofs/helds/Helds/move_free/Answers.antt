@@ -1,5 +1,5 @@
 use Rattle.std.proofs.Common.{None}
-use Rattle.chip_run.proofs.Desks.{moved-free}
+use Rattle.chip_run.proofs.WorkQueues.{moved-free}
 use Rattle.chip_run.proofs.Rounds.{set-free}
 use Rattle.chip_run.proofs.helds.Helds.move_free.Goals as goal
 

@@ -1,35 +1,35 @@
 use Rattle.std.proofs.Common.{◌≡◌, ◌+◌, ap, ◌∙◌, refl}
 use Rattle.std.specs.Arc.{arc_value}
 use Rattle.m68k_chip.specs.Events.{answered}
-use Rattle.m68k_chip.specs.Laps.{sampling}
+use Rattle.m68k_chip.specs.Iterations.{sampling}
 use Rattle.m68k_chip.specs.States.{state_of}
 use Rattle.m68k_chip.specs.Validity.{Chip68Value}
 use Rattle.m68k_chip.proofs.Kept.{after_answer}
-use Rattle.m68k_chip.proofs.Laps.{answers-again, reads-here, sampling-foresees, sampling-waits, stands-behind}
+use Rattle.m68k_chip.proofs.Iterations.{answers-again, reads-here, sampling-predicts, sampling-waits, stands-following}
 use Rattle.m68k_chip.proofs.Laws.{of}
 use Rattle.m68k_chip.proofs.chip.Chip68.answer.Goals as goal
-use Rattle.m68k_chip.proofs.chip.Chip68.answer.Goals.{After-stand_behind}
+use Rattle.m68k_chip.proofs.chip.Chip68.answer.Goals.{After-stand_after}
 
-pub stand_behind-requires : goal.stand_behind-requires
-stand_behind-requires c =
-    reads-here c.self.inside.lap (arc_value c.self.inside.cart) c.self.inside.ram.value c.self.inside.sequencer c.self.inside.lap.place _ _ c.self.invariant.2 (c.is_read_again.ensures.place c.if-is_read_again.true)
+pub stand_after-requires : goal.stand_after-requires
+stand_after-requires c =
+    reads-here c.self.inside.iteration (arc_value c.self.inside.cart) c.self.inside.ram.value c.self.inside.sequencer c.self.inside.iteration.place _ _ c.self.invariant.2 (c.is_read_again.ensures.place c.if-is_read_again.true)
 
 -- it is after the answer that is known
-behind : (c : After-stand_behind) → state_of c.stand_behind.new.self c.self.inside.ram.value ≡ sampling c.self.inside.ram.value c.self.inside.lap.after (c.self.inside.sequencer.start + c.self.inside.lap.first)
-behind c = c.stand_behind.ensures.state c.self.inside.ram.value ∙ ap (λ n. sampling c.self.inside.ram.value c.self.inside.lap.after (c.self.inside.sequencer.start + n)) c.from.ensures
+following : (c : After-stand_after) → state_of c.stand_after.new.self c.self.inside.ram.value ≡ sampling c.self.inside.ram.value c.self.inside.iteration.after (c.self.inside.sequencer.start + c.self.inside.iteration.first)
+following c = c.stand_after.ensures.state c.self.inside.ram.value ∙ ap (λ n. sampling c.self.inside.ram.value c.self.inside.iteration.after (c.self.inside.sequencer.start + n)) c.from.ensures
 
-comes : (c : After-stand_behind) → state_of c.stand_behind.new.self c.self.inside.ram.value ≡ answered (arc_value c.self.inside.cart) (state_of c.self.inside.sequencer c.self.inside.ram.value) c.args.answer
+comes : (c : After-stand_after) → state_of c.stand_after.new.self c.self.inside.ram.value ≡ answered (arc_value c.self.inside.cart) (state_of c.self.inside.sequencer c.self.inside.ram.value) c.args.answer
 comes c =
-    answers-again c.self.inside.lap (arc_value c.self.inside.cart) (state_of c.self.inside.sequencer c.self.inside.ram.value) _ c.self.inside.lap.place _ _ c.args.answer c.self.invariant.2
-    (c.is_read_again.ensures.place c.if-is_read_again.true) (c.is_read_again.ensures.answer c.if-is_read_again.true) (behind c)
+    answers-again c.self.inside.iteration (arc_value c.self.inside.cart) (state_of c.self.inside.sequencer c.self.inside.ram.value) _ c.self.inside.iteration.place _ _ c.args.answer c.self.invariant.2
+    (c.is_read_again.ensures.place c.if-is_read_again.true) (c.is_read_again.ensures.answer c.if-is_read_again.true) (following c)
 
 pub invariant_of-self : goal.invariant_of-self
 invariant_of-self c = (
   after_answer (arc_value c.self.inside.cart) (arc_value c.self.inside.cart) (state_of c.self.inside.sequencer c.self.inside.ram.value) _ _ _ _ c.args.answer c.self.view_is c.self.invariant.0.valid c.requires.asking c.requires.fits refl (comes c)
-      (sampling-waits _ _ _ _ _ _ (behind c)) (sampling-foresees _ _ _ _ _ _ (behind c)),
+      (sampling-waits _ _ _ _ _ _ (following c)) (sampling-predicts _ _ _ _ _ _ (following c)),
   c.self.invariant.1,
-  rw (c.stand_behind.ensures.request, c.stand_behind.ensures.foreseen)
-      (stands-behind c.self.inside.lap (arc_value c.self.inside.cart) (state_of c.self.inside.sequencer c.self.inside.ram.value) _ c.self.inside.lap.place _ _ c.self.invariant.2 (c.is_read_again.ensures.place c.if-is_read_again.true) c.self.invariant.0.waiting c.self.invariant.0.foresees (behind c)),
+  rw (c.stand_after.ensures.request, c.stand_after.ensures.predicted)
+      (stands-following c.self.inside.iteration (arc_value c.self.inside.cart) (state_of c.self.inside.sequencer c.self.inside.ram.value) _ c.self.inside.iteration.place _ _ c.self.invariant.2 (c.is_read_again.ensures.place c.if-is_read_again.true) c.self.invariant.0.waiting c.self.invariant.0.predicts (following c)),
   c.self.invariant.3,
 )
 

@@ -3,7 +3,7 @@ use Rattle.std.specs.Arc.{arc_value}
 use Rattle.rom_header.specs.Cartridge.{IsImage}
 use Rattle.m68k_chip.specs.States.{State68, power_on, state_of}
 use Rattle.m68k_chip.proofs.Kept.{at_power_on}
-use Rattle.m68k_chip.proofs.Laps.{away, away-aside}
+use Rattle.m68k_chip.proofs.Iterations.{away, away-aside}
 use Rattle.m68k_chip.proofs.Laws.{of}
 use Rattle.m68k_chip.proofs.chip.Chip68.power_on.Goals as goal
 use Rattle.m68k_chip.proofs.chip.Chip68.power_on.Goals.{After-new}

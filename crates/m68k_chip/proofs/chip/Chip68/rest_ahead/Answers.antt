@@ -1,7 +1,7 @@
 use Rattle.std.proofs.Common.{◌+◌, ◌*◌, sym, ap, subst, ◌∙◌, arith}
 use Rattle.std.specs.Arc.{arc_value}
 use Rattle.m68k_chip.specs.Events.{at_sample, step, steps_to}
-use Rattle.m68k_chip.specs.Held.{IsForeseen, WaitsFor}
+use Rattle.m68k_chip.specs.Held.{IsPredicted, WaitsFor}
 use Rattle.m68k_chip.specs.Validity.{Chip68Value, IsChip68}
 use Rattle.m68k_chip.specs.States.{State68, next_of, state_of}
 use Rattle.m68k_chip.proofs.Laws.{sample-between, of}
@@ -18,7 +18,7 @@ invariant_of-self c =
         valid = subst (λ (state : State68). IsChip68 (of (arc_value c.self.inside.cart) state)) (sym (c.rest_ahead.ensures.state c.self.inside.ram.value))
             (rested-valid _ old _ c.self.invariant.0.valid at.0 at.1 (omega (arith, start)));
         waiting = subst (λ (state : State68). WaitsFor state.stage (arc_value c.self.inside.cart) state c.rest_ahead.new.self.request) (sym (c.rest_ahead.ensures.state c.self.inside.ram.value)) tt;
-        foresees = subst (λ (state : State68). IsForeseen state.stage (arc_value c.self.inside.cart) state c.rest_ahead.new.self.foreseen) (sym (c.rest_ahead.ensures.state c.self.inside.ram.value)) tt;
+        predicts = subst (λ (state : State68). IsPredicted state.stage (arc_value c.self.inside.cart) state c.rest_ahead.new.self.predicted) (sym (c.rest_ahead.ensures.state c.self.inside.ram.value)) tt;
       },
       c.self.invariant.1,
       tt,

@@ -1,12 +1,12 @@
 use Rattle.std.proofs.Common.{ℕ, List, refl, sym, ap, subst, ◌∙◌, arith}
 use Rattle.m68k_chip.specs.Events.{begun}
 use Rattle.md_word.specs.declared.event.Next.{Next}
-use Rattle.m68k_chip.specs.Laps.{HasWatched}
+use Rattle.m68k_chip.specs.Iterations.{HasWatched}
 use Rattle.m68k_chip.specs.States.{next_of}
 use Rattle.m68k_chip.specs.Validity.{Chip68Value}
 use Rattle.m68k_chip.specs.declared.watched.Watched.{Watched}
 use Rattle.m68k_chip.proofs.Ahead.{not-below}
-use Rattle.m68k_chip.proofs.Laps.{more-watched, one-watched}
+use Rattle.m68k_chip.proofs.Iterations.{more-watched, one-watched}
 use Rattle.m68k_chip.proofs.Laws.{begun-later}
 use Rattle.m68k_chip.proofs.chip.Chip68.sample_watched.Goals as goal
 

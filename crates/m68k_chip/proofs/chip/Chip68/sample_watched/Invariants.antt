@@ -1,5 +1,5 @@
 use Rattle.std.proofs.Common.{◌≡◌, ◌+◌, ◌-◌, ◌≤◌}
-use Rattle.m68k_chip.specs.Laps.{HasWatched}
+use Rattle.m68k_chip.specs.Iterations.{HasWatched}
 use Rattle.m68k_chip.proofs.chip.Chip68.sample_watched.Given as goal
 
 -- samples led here, over the same cartridge

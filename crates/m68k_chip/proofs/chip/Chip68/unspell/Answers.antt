@@ -6,15 +6,15 @@ use Rattle.rom_header.specs.Cartridge.{IsImage}
 use Rattle.m68k_chip.specs.Held.{WaitsFor}
 use Rattle.m68k_chip.specs.Rules.{HasRules}
 use Rattle.m68k_chip.specs.Validity.{IsChip68}
-use Rattle.m68k_chip.specs.Spelling.{GoesWrongAt, IsKept, Spells, ram_in}
+use Rattle.m68k_chip.specs.Spelling.{InvalidAt, IsKept, Spells, ram_in}
 use Rattle.m68k_chip.specs.States.{State68, state_of}
-use Rattle.m68k_chip.proofs.Laps.{away, away-aside}
+use Rattle.m68k_chip.proofs.Iterations.{away, away-aside}
 use Rattle.m68k_chip.proofs.Laws.{of}
 use Rattle.md_fields.proofs.Standing.{IsBytes-drop, IsBytes-take}
 use Rattle.md_fields.proofs.Refusals.{no_rule, same_rule}
 use Rattle.m68k_chip.proofs.RuleLaws.{recent_from}
 use Rattle.m68k_chip.proofs.SpellingLaws.{no_other, only_place, right_not_refused, spelled_long, spelled_valid}
-use Rattle.m68k_chip.proofs.Waiting.{unknown-foreseen}
+use Rattle.m68k_chip.proofs.Waiting.{unknown-predicted}
 use Rattle.m68k_chip.proofs.chip.Chip68.unspell.Goals as goal
 use Rattle.m68k_chip.proofs.chip.Chip68.unspell.Goals.{After-new}
 
@@ -28,15 +28,15 @@ returns-in_err-ram-in-Ok-clause-rule c =
     subst (λ (image : List ℕ). Spells image c.args.at c.args.bytes.now (state_of c.in-Ok.sequencer (ram_in c.args.bytes.now))) c.deref-2.ensures c.in-Ok.ensures.found.spelled in
     λ place. (
       λ e. absurd (no_rule place p.0 (sym p.2) (sym p.1 ∙ e)),
-      λ wrong. absurd (right_not_refused (arc_value c.args.cart) c.args.at c.args.bytes.now _ place kept wrong),
+      λ invalid. absurd (right_not_refused (arc_value c.args.cart) c.args.at c.args.bytes.now _ place kept invalid),
     )
 
 -- what is made is what the bytes keep
 made : (c : goal.After-new) → state_of c.in-Ok.sequencer c.in_ok-ram-in-Ok.ram.value ≡ state_of c.in-Ok.sequencer (ram_in c.args.bytes.now)
 made c = ap (state_of c.in-Ok.sequencer) c.in_ok-ram-in-Ok.ensures
 
-kept : (c : goal.After-new) → IsKept (arc_value c.args.cart) c.args.at c.args.bytes.now (state_of c.in-Ok.sequencer (ram_in c.args.bytes.now)) c.in-Ok.sequencer.request c.in-Ok.sequencer.foreseen
-kept c = subst (λ (image : List ℕ). IsKept image c.args.at c.args.bytes.now (state_of c.in-Ok.sequencer (ram_in c.args.bytes.now)) c.in-Ok.sequencer.request c.in-Ok.sequencer.foreseen) c.deref-2.ensures c.in-Ok.ensures.found
+kept : (c : goal.After-new) → IsKept (arc_value c.args.cart) c.args.at c.args.bytes.now (state_of c.in-Ok.sequencer (ram_in c.args.bytes.now)) c.in-Ok.sequencer.request c.in-Ok.sequencer.predicted
+kept c = subst (λ (image : List ℕ). IsKept image c.args.at c.args.bytes.now (state_of c.in-Ok.sequencer (ram_in c.args.bytes.now)) c.in-Ok.sequencer.request c.in-Ok.sequencer.predicted) c.deref-2.ensures c.in-Ok.ensures.found
 
 pub invariant_of-result : goal.invariant_of-result
 invariant_of-result c = (
@@ -44,7 +44,7 @@ invariant_of-result c = (
     valid = subst (λ (s : State68). IsChip68 (of (arc_value c.args.cart) s)) (sym (made c))
         (spelled_valid (arc_value c.args.cart) c.args.at c.args.bytes.now _ (subst (λ (image : List ℕ). IsImage image) c.deref.ensures c.bytes.ensures.image) (kept c).spelled);
     waiting = subst (λ (s : State68). WaitsFor s.stage (arc_value c.args.cart) s c.in-Ok.sequencer.request) (sym (made c)) (kept c).waits;
-    foresees = unknown-foreseen _ (arc_value c.args.cart) _ c.in-Ok.sequencer.foreseen (kept c).unknown;
+    predicts = unknown-predicted _ (arc_value c.args.cart) _ c.in-Ok.sequencer.predicted (kept c).unknown;
   },
   c.in_ok-cache-in-Ok.ensures (arc_value c.args.cart),
   away _ _ _ _ _ _ c.none-none.ensures,
@@ -68,21 +68,21 @@ returns-in_ok-ram-in-Ok-clause-only c = λ state p n.
 pub returns-in_ok-ram-in-Ok-clause-rule : goal.returns-in_ok-ram-in-Ok-clause-rule
 returns-in_ok-ram-in-Ok-clause-rule c = λ place. (
   λ e. absurd cc,
-  λ wrong. absurd (right_not_refused (arc_value c.args.cart) c.args.at c.args.bytes.now _ place (kept c).spelled wrong),
+  λ invalid. absurd (right_not_refused (arc_value c.args.cart) c.args.at c.args.bytes.now _ place (kept c).spelled invalid),
 )
 
 pub returns-in-Err-clause-only : goal.returns-in-Err-clause-only
 returns-in-Err-clause-only c = λ state p n.
     absurd (right_not_refused (arc_value c.args.cart) c.args.at c.args.bytes.now state c.in-Err.place p
-    (subst (λ (image : List ℕ). GoesWrongAt image c.args.at c.args.bytes.now c.in-Err.place) c.deref-2.ensures c.in-Err.ensures.refused))
+    (subst (λ (image : List ℕ). InvalidAt image c.args.at c.args.bytes.now c.in-Err.place) c.deref-2.ensures c.in-Err.ensures.refused))
 
 pub returns-in-Err-clause-rule : goal.returns-in-Err-clause-rule
 returns-in-Err-clause-rule c =
-    let wrong : GoesWrongAt (arc_value c.args.cart) c.args.at c.args.bytes.now c.in-Err.place =
-    subst (λ (image : List ℕ). GoesWrongAt image c.args.at c.args.bytes.now c.in-Err.place) c.deref-2.ensures c.in-Err.ensures.refused in
+    let invalid : InvalidAt (arc_value c.args.cart) c.args.at c.args.bytes.now c.in-Err.place =
+    subst (λ (image : List ℕ). InvalidAt image c.args.at c.args.bytes.now c.in-Err.place) c.deref-2.ensures c.in-Err.ensures.refused in
     λ place. (
-      λ e. subst (GoesWrongAt (arc_value c.args.cart) c.args.at c.args.bytes.now) (same_rule c.in-Err.place place e) wrong,
-      λ other. ap (λ (p : ℕ). Err (Rule p)) (only_place (arc_value c.args.cart) c.args.at c.args.bytes.now c.in-Err.place place wrong other),
+      λ e. subst (InvalidAt (arc_value c.args.cart) c.args.at c.args.bytes.now) (same_rule c.in-Err.place place e) invalid,
+      λ other. ap (λ (p : ℕ). Err (Rule p)) (only_place (arc_value c.args.cart) c.args.at c.args.bytes.now c.in-Err.place place invalid other),
     )
 
 pub returns-in_err-cache-in-Ok-clause-rule : goal.returns-in_err-cache-in-Ok-clause-rule
@@ -92,5 +92,5 @@ returns-in_err-cache-in-Ok-clause-rule c =
     subst (λ (image : List ℕ). Spells image c.args.at c.args.bytes.now (state_of c.in-Ok.sequencer (ram_in c.args.bytes.now))) c.deref-2.ensures c.in-Ok.ensures.found.spelled in
     λ place. (
       λ e. absurd (no_rule place p.0 (sym p.2) (sym p.1 ∙ e)),
-      λ wrong. absurd (right_not_refused (arc_value c.args.cart) c.args.at c.args.bytes.now _ place kept wrong),
+      λ invalid. absurd (right_not_refused (arc_value c.args.cart) c.args.at c.args.bytes.now _ place kept invalid),
     )

@@ -7,7 +7,7 @@ use Rattle.m68k_exec.proofs.sample.entry.push_words.Given as goal
 -- what is left to push from here is what there was to push
 abbrev pub invariant-words : goal.invariant-words
 invariant-words l = record {
-  left : pushed (length l.words - l.place) l.place l.words l.stack (memory_of l.around) (done_of l.progress) ≡ pushed (length l.words) 0 l.words l.stack (memory_of l.around) (done_of l.fn.progress);
+  left : pushed (length l.words - l.place) l.place l.words l.stack (memory_of l.context) (done_of l.progress) ≡ pushed (length l.words) 0 l.words l.stack (memory_of l.context) (done_of l.fn.progress);
   used : l.progress.used ≤ l.fn.progress.used + l.place;
   written : array_vec_len l.progress.writes ≤ array_vec_len l.fn.progress.writes + 2 * l.place;
 }

@@ -5,7 +5,7 @@ use Rattle.md_machine.specs.Drained.{frame_of}
 use Rattle.md_machine.specs.Lines.{frames_of}
 use Rattle.md_machine.specs.Machines.{MachineValue}
 use Rattle.md_machine.specs.Outputs.{frame_length, frames_bytes}
-use Rattle.md_machine.specs.Refinement.{console_of, draw_of}
+use Rattle.md_machine.specs.Refinement.{console_of, renderer_of}
 use Rattle.md_machine.specs.declared.chips.Chip.{Chip}
 use Rattle.md_machine.proofs.Held.{read-chip}
 use Rattle.md_machine.proofs.machine.Machine.drain_frames.Goals as goal
@@ -14,8 +14,8 @@ pub put_frames-requires-clause-size : goal.put_frames-requires-clause-size
 unfolding console_of
 put_frames-requires-clause-size c =
     let v = c.core.result.now in
-    let region : (draw_of c.index-chips-2.result).chip.pal ≡ c.pal-pal.result =
-    ap (λ (x : Chip). (draw_of x).chip.pal) (read-chip v c.chips.result.now 2 c.index-chips-2.result c.core.ensures.core c.chips.ensures.value (lit< tt) c.index-chips-2.is)
+    let region : (renderer_of c.index-chips-2.result).chip.pal ≡ c.pal-pal.result =
+    ap (λ (x : Chip). (renderer_of x).chip.pal) (read-chip v c.chips.result.now 2 c.index-chips-2.result c.core.ensures.core c.chips.ensures.value (lit< tt) c.index-chips-2.is)
     ∙ ap (λ (m : MachineValue). m.console.pal) c.core.ensures.value ∙ sym c.pal-pal.ensures.value in
     subst (λ (b : Bool). IfSome (option_copied c.frame_in.result) (λ picture. length picture ≡ picture_length b)) region c.frame_in.ensures.size
 

@@ -1,14 +1,14 @@
 use Rattle.std.proofs.Common.{ap, ◌∙◌, lit<}
-use Rattle.vdp_chip.specs.Drawing.{Drawing}
+use Rattle.vdp_chip.specs.RendererState.{RendererState}
 use Rattle.md_machine.specs.Machines.{MachineValue}
-use Rattle.md_machine.specs.Refinement.{console_of, draw_of}
+use Rattle.md_machine.specs.Refinement.{console_of, renderer_of}
 use Rattle.md_machine.specs.Rules.{next}
 use Rattle.md_machine.specs.declared.chips.Chip.{Chip}
 use Rattle.md_machine.proofs.Held.{read-chip}
 use Rattle.md_machine.proofs.machine.Machine.draw_chip.Goals as goal
 
-pub draw_in-requires : goal.draw_in-requires
-draw_in-requires c =
+pub renderer_in-requires : goal.renderer_in-requires
+renderer_in-requires c =
     let v = c.core.result.now in
     ap (λ (x : Chip). (next x).key.chip)
     (read-chip v c.chips.result.now 2 c.index-chips-2.result c.core.ensures.core c.chips.ensures.value (lit< tt) c.index-chips-2.is)
@@ -18,8 +18,8 @@ pub returns-clause-next : goal.returns-clause-next
 unfolding console_of
 returns-clause-next c =
     let v = c.core.result.now in
-    ap (λ (d : Drawing). d.next) c.draw_in.ensures
-    ∙ ap (λ (x : Chip). (draw_of x).chip.next)
+    ap (λ (d : RendererState). d.next) c.renderer_in.ensures
+    ∙ ap (λ (x : Chip). (renderer_of x).chip.next)
     (read-chip v c.chips.result.now 2 c.index-chips-2.result c.core.ensures.core c.chips.ensures.value (lit< tt) c.index-chips-2.is)
     ∙ ap (λ (v : MachineValue). v.console.line) c.core.ensures.value
 
@@ -27,8 +27,8 @@ pub returns-clause-note : goal.returns-clause-note
 unfolding console_of
 returns-clause-note c =
     let v = c.core.result.now in
-    ap (λ (d : Drawing). d.note) c.draw_in.ensures
-    ∙ ap (λ (x : Chip). (draw_of x).chip.note)
+    ap (λ (d : RendererState). d.note) c.renderer_in.ensures
+    ∙ ap (λ (x : Chip). (renderer_of x).chip.note)
     (read-chip v c.chips.result.now 2 c.index-chips-2.result c.core.ensures.core c.chips.ensures.value (lit< tt) c.index-chips-2.is)
     ∙ ap (λ (v : MachineValue). v.console.note) c.core.ensures.value
 
@@ -36,8 +36,8 @@ pub returns-clause-picture : goal.returns-clause-picture
 unfolding console_of
 returns-clause-picture c =
     let v = c.core.result.now in
-    ap (λ (d : Drawing). d.picture) c.draw_in.ensures
-    ∙ ap (λ (x : Chip). (draw_of x).chip.picture)
+    ap (λ (d : RendererState). d.picture) c.renderer_in.ensures
+    ∙ ap (λ (x : Chip). (renderer_of x).chip.picture)
     (read-chip v c.chips.result.now 2 c.index-chips-2.result c.core.ensures.core c.chips.ensures.value (lit< tt) c.index-chips-2.is)
     ∙ ap (λ (v : MachineValue). v.console.picture) c.core.ensures.value
 
@@ -45,7 +45,7 @@ pub returns-clause-region : goal.returns-clause-region
 unfolding console_of
 returns-clause-region c =
     let v = c.core.result.now in
-    ap (λ (d : Drawing). d.pal) c.draw_in.ensures
-    ∙ ap (λ (x : Chip). (draw_of x).chip.pal)
+    ap (λ (d : RendererState). d.pal) c.renderer_in.ensures
+    ∙ ap (λ (x : Chip). (renderer_of x).chip.pal)
     (read-chip v c.chips.result.now 2 c.index-chips-2.result c.core.ensures.core c.chips.ensures.value (lit< tt) c.index-chips-2.is)
     ∙ ap (λ (v : MachineValue). v.console.pal) c.core.ensures.value

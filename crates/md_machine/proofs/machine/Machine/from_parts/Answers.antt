@@ -11,12 +11,12 @@ use Rattle.md_machine.proofs.Assembled.{assembled-machine, assembled-value}
 use Rattle.md_machine.proofs.machine.Machine.from_parts.Goals as goal
 
 -- the journal has the room that was asked for
-ample : (pal draw : Bool) (n room : ℕ) → n ≡ most_entries pal → pal ≡ draw → n ≤ room → most_entries draw ≤ room
-ample pal draw n room is same enough = subst (λ (b : Bool). most_entries b ≤ room) same (subst (λ (k : ℕ). k ≤ room) is enough)
+ample : (pal renderer : Bool) (n room : ℕ) → n ≡ most_entries pal → pal ≡ renderer → n ≤ room → most_entries renderer ≤ room
+ample pal renderer n room is same enough = subst (λ (b : Bool). most_entries b ≤ room) same (subst (λ (k : ℕ). k ≤ room) is enough)
 
 pub make-core-requires-after_bounds : goal.make-core-requires-after_bounds
 make-core-requires-after_bounds c κs =
-    let parts : Assembly = record { at = c.args.at; main = c.args.main; sub = c.args.sub; draw = c.args.draw; fm = c.args.fm; psg = c.args.psg } in
+    let parts : Assembly = record { at = c.args.at; main = c.args.main; sub = c.args.sub; renderer = c.args.renderer; fm = c.args.fm; psg = c.args.psg } in
     let journal = c.in_ok-journal.ensures {u = tt} in
     let bounds = c.in_ok-bounds.ensures.bounds in
     (assembled-machine parts c.args.shared c.in_ok-chips.chips.items c.in_ok-bounds.bounds.items c.in_ok-journal.journal.items (vec_capacity c.in_ok-journal.journal)
@@ -26,7 +26,7 @@ make-core-requires-after_bounds c κs =
 
 pub invariant_of-result : goal.invariant_of-result
 invariant_of-result c =
-    let parts : Assembly = record { at = c.args.at; main = c.args.main; sub = c.args.sub; draw = c.args.draw; fm = c.args.fm; psg = c.args.psg } in
+    let parts : Assembly = record { at = c.args.at; main = c.args.main; sub = c.args.sub; renderer = c.args.renderer; fm = c.args.fm; psg = c.args.psg } in
     let journal = c.in_ok-journal.ensures {u = tt} in
     let bounds = c.in_ok-bounds.ensures.bounds in
     subst (λ (v : CoreValue Chip Board). IsMachine c.args.at (Some v)) (sym c.make-core.ensures)
@@ -37,7 +37,7 @@ invariant_of-result c =
 
 pub returns : goal.returns
 returns c =
-    let parts : Assembly = record { at = c.args.at; main = c.args.main; sub = c.args.sub; draw = c.args.draw; fm = c.args.fm; psg = c.args.psg } in
+    let parts : Assembly = record { at = c.args.at; main = c.args.main; sub = c.args.sub; renderer = c.args.renderer; fm = c.args.fm; psg = c.args.psg } in
     let journal = c.in_ok-journal.ensures {u = tt} in
     ap (λ (v : CoreValue Chip Board). machine_at c.args.at v) c.make-core.ensures
     ∙ assembled-value parts c.args.shared c.in_ok-chips.chips.items c.in_ok-bounds.bounds.items c.in_ok-journal.journal.items (vec_capacity c.in_ok-journal.journal)

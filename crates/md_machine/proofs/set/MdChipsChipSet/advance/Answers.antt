@@ -1,5 +1,5 @@
 use Rattle.std.proofs.Common.{◌∙◌, sym}
-use Rattle.md_machine.proofs.Advances.{performed-cycle, performed-fits, performed-kind, performed-line, performed-told, performed-view}
+use Rattle.md_machine.proofs.Advances.{performed-cycle, performed-fits, performed-kind, performed-line, performed-reported, performed-view}
 use Rattle.md_machine.proofs.set.MdChipsChipSet.advance.Goals as goal
 
 pub advance-requires-clause-fits : goal.advance-requires-clause-fits
@@ -13,10 +13,10 @@ advance-requires-in-Sub-clause-cycle c = performed-cycle c.requires.before c.req
 
 pub advance-requires-in-Sub-clause-fits : goal.advance-requires-in-Sub-clause-fits
 advance-requires-in-Sub-clause-fits c =
-    performed-told c.requires.before c.requires.shared c.requires.due.chip c.requires.due.shared c.in-Sub.sub (sym c.in-Sub.is ∙ c.requires.is)
+    performed-reported c.requires.before c.requires.shared c.requires.due.chip c.requires.due.shared c.in-Sub.sub (sym c.in-Sub.is ∙ c.requires.is)
 
-pub advance-requires-in-Draw-clause-view : goal.advance-requires-in-Draw-clause-view
-advance-requires-in-Draw-clause-view c = performed-view c.requires.before c.requires.shared c.in-Draw.draw (sym c.in-Draw.is ∙ c.requires.is)
+pub advance-requires-in-Renderer-clause-view : goal.advance-requires-in-Renderer-clause-view
+advance-requires-in-Renderer-clause-view c = performed-view c.requires.before c.requires.shared c.in-Renderer.renderer (sym c.in-Renderer.is ∙ c.requires.is)
 
-pub advance-requires-in-Draw-clause-cycle : goal.advance-requires-in-Draw-clause-cycle
-advance-requires-in-Draw-clause-cycle c = performed-line c.requires.before c.requires.shared c.in-Draw.draw (sym c.in-Draw.is ∙ c.requires.is) c.requires.due.cycle
+pub advance-requires-in-Renderer-clause-cycle : goal.advance-requires-in-Renderer-clause-cycle
+advance-requires-in-Renderer-clause-cycle c = performed-line c.requires.before c.requires.shared c.in-Renderer.renderer (sym c.in-Renderer.is ∙ c.requires.is) c.requires.due.cycle

@@ -1,14 +1,14 @@
 use Rattle.std.proofs.Common.{◌≡◌, ◌∙◌, ◌+◌, ℕ, Ok, Err, drop, subst, ap, arith}
 use Rattle.md_pads.specs.declared.fault.RecFault.TheVariants.{Form}
-use Rattle.md_pads.specs.Recording.{GoesWrongAt, Recorded}
+use Rattle.md_pads.specs.Recording.{InvalidAt, Recorded}
 use Rattle.md_pads.proofs.Opening.{of}
 use Rattle.md_pads.proofs.Whole.{read_spelled, one_recording, spelled_len, same_place}
 use Rattle.md_pads.proofs.recording.Recording.read.Goals as goal
 
 pub returns-in-Err-clause-form : goal.returns-in-Err-clause-form
 returns-in-Err-clause-form c = λ place. (
-  λ same. let e : c.in-Err.place ≡ place = cc in subst (GoesWrongAt c.args.bytes.now) e c.in-Err.ensures.wrong,
-  λ other. ap (λ (n : ℕ). Err (Form n)) (same_place c.args.bytes.now c.in-Err.place place c.in-Err.ensures.wrong.longest other.longest),
+  λ same. let e : c.in-Err.place ≡ place = cc in subst (InvalidAt c.args.bytes.now) e c.in-Err.ensures.invalid,
+  λ other. ap (λ (n : ℕ). Err (Form n)) (same_place c.args.bytes.now c.in-Err.place place c.in-Err.ensures.invalid.longest other.longest),
 )
 
 pub split_at-requires : goal.split_at-requires

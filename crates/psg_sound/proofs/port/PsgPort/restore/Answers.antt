@@ -1,7 +1,7 @@
 use Rattle.std.proofs.Common.{refl}
-use Rattle.psg_sound.specs.PortSpelling.{PortGoesWrongAt}
-use Rattle.md_fields.proofs.Refusals.{told_right, told_wrong}
-use Rattle.psg_sound.proofs.PortBytes.{port_sound, right_nowhere, spelled_once, wrong_once}
+use Rattle.psg_sound.specs.PortSpelling.{PortInvalidAt}
+use Rattle.md_fields.proofs.Refusals.{reported_right, reported_invalid}
+use Rattle.psg_sound.proofs.PortBytes.{port_sound, right_nowhere, spelled_once, invalid_once}
 use Rattle.psg_sound.proofs.port.PsgPort.restore.Goals as goal
 
 pub invariant_of-self : goal.invariant_of-self
@@ -11,13 +11,13 @@ pub returns-in-Ok-clause-only : goal.returns-in-Ok-clause-only
 returns-in-Ok-clause-only c = λ port spells. (refl, spelled_once c.args.at c.args.bytes.now _ port c.in-Ok.ensures.found spells)
 
 pub returns-in-Ok-clause-rule : goal.returns-in-Ok-clause-rule
-returns-in-Ok-clause-rule c = told_right _ (PortGoesWrongAt c.args.at c.args.bytes.now) (right_nowhere c.args.at c.args.bytes.now _ c.in-Ok.ensures.found)
+returns-in-Ok-clause-rule c = reported_right _ (PortInvalidAt c.args.at c.args.bytes.now) (right_nowhere c.args.at c.args.bytes.now _ c.in-Ok.ensures.found)
 
 pub returns-in-Err-clause-only : goal.returns-in-Err-clause-only
 returns-in-Err-clause-only c = λ port spells. absurd (right_nowhere c.args.at c.args.bytes.now port spells c.in-Err.place c.in-Err.ensures.refused)
 
 pub returns-in-Err-clause-rule : goal.returns-in-Err-clause-rule
-returns-in-Err-clause-rule c = told_wrong (PortGoesWrongAt c.args.at c.args.bytes.now) c.in-Err.place c.in-Err.ensures.refused (wrong_once c.args.at c.args.bytes.now)
+returns-in-Err-clause-rule c = reported_invalid (PortInvalidAt c.args.at c.args.bytes.now) c.in-Err.place c.in-Err.ensures.refused (invalid_once c.args.at c.args.bytes.now)
 
 pub returns-in-Ok-clause-port : goal.returns-in-Ok-clause-port
 returns-in-Ok-clause-port c = port_sound c.args.at c.args.bytes.now _ c.in-Ok.ensures.found

@@ -1,8 +1,8 @@
 use Rattle.std.proofs.Common.{◌≡◌, ◌∙◌, Ok, ap, subst, sym}
-use Rattle.md_fields.proofs.Refusals.{told_right, told_wrong}
+use Rattle.md_fields.proofs.Refusals.{reported_right, reported_invalid}
 use Rattle.psg_sound.specs.Synth.{IsSynth}
-use Rattle.psg_sound.specs.SynthSpelling.{SpellsSynth, SynthGoesWrongAt, synth_from}
-use Rattle.psg_sound.proofs.SynthBytes.{read_only, read_sound, read_spells, right_nowhere, wrong_once}
+use Rattle.psg_sound.specs.SynthSpelling.{SpellsSynth, SynthInvalidAt, synth_from}
+use Rattle.psg_sound.proofs.SynthBytes.{read_only, read_sound, read_spells, right_nowhere, invalid_once}
 use Rattle.psg_sound.proofs.synth.PsgSynth.unspell.Goals as goal
 
 -- what is made
@@ -25,10 +25,10 @@ pub returns-in-Ok-clause-only : goal.returns-in-Ok-clause-only
 returns-in-Ok-clause-only c = λ synth spells. ap Ok (made c ∙ read_only c.args.bytes.now c.in-Ok.saved synth c.in-Ok.ensures.found.0 spells)
 
 pub returns-in-Ok-clause-rule : goal.returns-in-Ok-clause-rule
-returns-in-Ok-clause-rule c = told_right _ (SynthGoesWrongAt c.args.bytes.now) (right_nowhere c.args.bytes.now c.in-Ok.saved c.in-Ok.ensures.found.0 c.in-Ok.ensures.found.1)
+returns-in-Ok-clause-rule c = reported_right _ (SynthInvalidAt c.args.bytes.now) (right_nowhere c.args.bytes.now c.in-Ok.saved c.in-Ok.ensures.found.0 c.in-Ok.ensures.found.1)
 
 pub returns-in-Err-clause-only : goal.returns-in-Err-clause-only
 returns-in-Err-clause-only c = λ synth spells. absurd (right_nowhere c.args.bytes.now _ spells.keeps spells.right c.in-Err.place c.in-Err.ensures.refused)
 
 pub returns-in-Err-clause-rule : goal.returns-in-Err-clause-rule
-returns-in-Err-clause-rule c = told_wrong (SynthGoesWrongAt c.args.bytes.now) c.in-Err.place c.in-Err.ensures.refused (wrong_once c.args.bytes.now)
+returns-in-Err-clause-rule c = reported_invalid (SynthInvalidAt c.args.bytes.now) c.in-Err.place c.in-Err.ensures.refused (invalid_once c.args.bytes.now)

@@ -8,7 +8,7 @@ use Rattle.z80_parcel.specs.Parcels.{Store, store_of}
 use Rattle.z80_chip.specs.Rules.{HasRules}
 use Rattle.z80_chip.specs.Saved.{asks_more, chip_fields, kept_of, state_from}
 use Rattle.z80_chip.specs.Validity.{IsChip80}
-use Rattle.z80_chip.specs.Spelling.{GoesWrongAt, Spells, ram_offset, store_at}
+use Rattle.z80_chip.specs.Spelling.{InvalidAt, Spells, ram_offset, store_at}
 use Rattle.z80_chip.specs.States.{State80, state_of}
 use Rattle.z80_chip.specs.declared.saved.Saved80.{Saved80}
 use Rattle.z80_chip.proofs.Laws.{of}
@@ -16,7 +16,7 @@ use Rattle.md_fields.proofs.Refusals.{same_rule}
 use Rattle.z80_chip.proofs.RuleLaws.{rules_from}
 use Rattle.z80_chip.proofs.SavedLaws.{count_few, valid}
 use Rattle.z80_chip.proofs.SpellingLaws.{answers_four, breaks_ram, no_other, only_place, read_keeps, read_of, read_right, read_rules, read_store, right_not_refused, spelled_by}
-use Rattle.z80_chip.proofs.Foresight.{unknown-foreseen}
+use Rattle.z80_chip.proofs.Prediction.{unknown-predicted}
 use Rattle.z80_chip.proofs.chip.Chip80.unspell.Goals as goal
 
 pub returns-in-Err-clause-only : goal.returns-in-Err-clause-only
@@ -24,8 +24,8 @@ returns-in-Err-clause-only c = λ state p n.
     absurd (right_not_refused (arc_value c.args.cart) c.args.at c.args.bytes.now (kept_of state) c.in-Err.place p.keeps p.right (c.in-Err.ensures.refused (arc_value c.args.cart)))
 
 pub returns-in-Err-clause-refused : goal.returns-in-Err-clause-refused
-returns-in-Err-clause-refused c = λ place wrong n.
-    ap (λ (p : ℕ). Err (Rule p)) (only_place (arc_value c.args.cart) c.args.at c.args.bytes.now c.in-Err.place place (c.in-Err.ensures.refused (arc_value c.args.cart)) wrong)
+returns-in-Err-clause-refused c = λ place invalid n.
+    ap (λ (p : ℕ). Err (Rule p)) (only_place (arc_value c.args.cart) c.args.at c.args.bytes.now c.in-Err.place place (c.in-Err.ensures.refused (arc_value c.args.cart)) invalid)
 
 pub parcel_at-requires-clause-nine : goal.parcel_at-requires-clause-nine
 parcel_at-requires-clause-nine c = read_store c.args.at c.args.bytes.now c.in-Ok.saved c.in-Ok.ensures.found
@@ -34,29 +34,29 @@ pub asks_more-requires : goal.asks_more-requires
 asks_more-requires c = omega (arith, count_few c.args.at true _ (read_rules c.args.at c.args.bytes.now c.in-Ok.saved c.in-Ok.ensures.found))
 
 -- what the answer of `asks_more` tells
-told : (image cart bytes : List ℕ) (saved : Saved80) (store : Option Store) (asks : Bool) → image ≡ cart → store ≡ store_at bytes
+reported : (image cart bytes : List ℕ) (saved : Saved80) (store : Option Store) (asks : Bool) → image ≡ cart → store ≡ store_at bytes
     → asks ≡ asks_more image (record { numbers = saved; store = store }) → asks_more cart (read_of bytes saved) ≡ asks
-told image cart bytes saved store asks same there e =
+reported image cart bytes saved store asks same there e =
     sym (e ∙ ap (λ (l : List ℕ). asks_more l (record { numbers = saved; store = store })) same
     ∙ ap (λ (o : Option Store). asks_more cart (record { numbers = saved; store = o })) there)
 
-wrong_ram : (c : goal.After-drop-cart-then-not-asks_more) → GoesWrongAt (arc_value c.args.cart) c.args.at c.args.bytes.now ram_offset
-wrong_ram c =
+invalid_ram : (c : goal.After-drop-cart-then-not-asks_more) → InvalidAt (arc_value c.args.cart) c.args.at c.args.bytes.now ram_offset
+invalid_ram c =
     breaks_ram (arc_value c.args.cart) c.args.at c.args.bytes.now c.in-Ok.saved (λ i. omega (arith, c.type_inv.bytes i)) c.in-Ok.ensures.found
-    (told c.deref-2.result.now (arc_value c.args.cart) c.args.bytes.now c.in-Ok.saved (option_map store_of c.in_ok-parcel.parcel) c.asks_more.result c.deref-2.ensures c.in_ok-parcel.ensures c.asks_more.ensures
+    (reported c.deref-2.result.now (arc_value c.args.cart) c.args.bytes.now c.in-Ok.saved (option_map store_of c.in_ok-parcel.parcel) c.asks_more.result c.deref-2.ensures c.in_ok-parcel.ensures c.asks_more.ensures
     ∙ c.if-not-asks_more.true)
 
 pub returns-then-not-asks_more-clause-only : goal.returns-then-not-asks_more-clause-only
 returns-then-not-asks_more-clause-only c = λ state p n.
-    absurd (right_not_refused (arc_value c.args.cart) c.args.at c.args.bytes.now (kept_of state) ram_offset p.keeps p.right (wrong_ram c))
+    absurd (right_not_refused (arc_value c.args.cart) c.args.at c.args.bytes.now (kept_of state) ram_offset p.keeps p.right (invalid_ram c))
 
 pub returns-then-not-asks_more-clause-rule : goal.returns-then-not-asks_more-clause-rule
 returns-then-not-asks_more-clause-rule c = λ place e.
-    subst (λ (p : ℕ). GoesWrongAt (arc_value c.args.cart) c.args.at c.args.bytes.now p) (same_rule ram_offset place e) (wrong_ram c)
+    subst (λ (p : ℕ). InvalidAt (arc_value c.args.cart) c.args.at c.args.bytes.now p) (same_rule ram_offset place e) (invalid_ram c)
 
 pub returns-then-not-asks_more-clause-refused : goal.returns-then-not-asks_more-clause-refused
-returns-then-not-asks_more-clause-refused c = λ place wrong n.
-    ap (λ (p : ℕ). Err (Rule p)) (only_place (arc_value c.args.cart) c.args.at c.args.bytes.now ram_offset place (wrong_ram c) wrong)
+returns-then-not-asks_more-clause-refused c = λ place invalid n.
+    ap (λ (p : ℕ). Err (Rule p)) (only_place (arc_value c.args.cart) c.args.at c.args.bytes.now ram_offset place (invalid_ram c) invalid)
 
 pub sequencer-requires : goal.sequencer-requires
 sequencer-requires c = omega (arith, count_few c.args.at true _ (read_rules c.args.at c.args.bytes.now c.in-Ok.saved c.in-Ok.ensures.found))
@@ -67,7 +67,7 @@ made c = c.sequencer.ensures.state c.in_ok-parcel.parcel ∙ ap (state_from c.in
 
 asked_more : (c : goal.After-new) → asks_more (arc_value c.args.cart) (read_of c.args.bytes.now c.in-Ok.saved) ≡ true
 asked_more c =
-    told c.deref-2.result.now (arc_value c.args.cart) c.args.bytes.now c.in-Ok.saved (option_map store_of c.in_ok-parcel.parcel) c.asks_more.result c.deref-2.ensures c.in_ok-parcel.ensures c.asks_more.ensures
+    reported c.deref-2.result.now (arc_value c.args.cart) c.args.bytes.now c.in-Ok.saved (option_map store_of c.in_ok-parcel.parcel) c.asks_more.result c.deref-2.ensures c.in_ok-parcel.ensures c.asks_more.ensures
     ∙ c.if-not-asks_more.false
 
 keeps : (c : goal.After-new) → Keeps (chip_fields (arc_value c.args.cart) c.args.at) c.args.bytes.now (read_of c.args.bytes.now c.in-Ok.saved)
@@ -85,7 +85,7 @@ invariant_of-result c = record {
       (answers_four (arc_value c.args.cart) c.args.at c.args.bytes.now (read_of c.args.bytes.now c.in-Ok.saved) (keeps c))
       (read_rules c.args.at c.args.bytes.now c.in-Ok.saved c.in-Ok.ensures.found)
       (asked_more c));
-  foresees = unknown-foreseen _ (arc_value c.args.cart) _ c.sequencer.result.behind c.sequencer.ensures.unknown;
+  predicts = unknown-predicted _ (arc_value c.args.cart) _ c.sequencer.result.completion c.sequencer.ensures.unknown;
 }
 
 pub returns-clause-found : goal.returns-clause-found
@@ -107,5 +107,5 @@ returns-clause-only c = λ state p n.
     (made c ∙ no_other (arc_value c.args.cart) c.args.at c.args.bytes.now (read_of c.args.bytes.now c.in-Ok.saved) state (keeps c) p)
 
 pub returns-clause-refused : goal.returns-clause-refused
-returns-clause-refused c = λ place wrong n.
-    absurd (right_not_refused (arc_value c.args.cart) c.args.at c.args.bytes.now (read_of c.args.bytes.now c.in-Ok.saved) place (keeps c) (right c) wrong)
+returns-clause-refused c = λ place invalid n.
+    absurd (right_not_refused (arc_value c.args.cart) c.args.at c.args.bytes.now (read_of c.args.bytes.now c.in-Ok.saved) place (keeps c) (right c) invalid)

@@ -23,4 +23,4 @@ pub returns-then-rests-clause-all : goal.returns-then-rests-clause-all
 returns-then-rests-clause-all c rest = rested-late c.args.end c.begin.new.self.start c.rest_to.new.self.next (ap (λ (state : State80). state.next) (c.rest_to.ensures.state c.begin.new.parcel))
 
 pub returns-clause-all : goal.returns-clause-all
-returns-clause-all c rest = let wrong = sym c.if-rests.false ∙ c.is_rest-rests.ensures ∙ ap is_rest c.case_at.ensures.value ∙ rest in cc
+returns-clause-all c rest = let invalid = sym c.if-rests.false ∙ c.is_rest-rests.ensures ∙ ap is_rest c.case_at.ensures.value ∙ rest in cc

@@ -5,7 +5,7 @@ use Rattle.z80_exec.specs.Sample.Samples.{Ended}
 use Rattle.z80_chip.specs.Events.{asking, carried_out, ended_at, ended_by, went_on}
 use Rattle.z80_chip.specs.States.{State80, state_of}
 use Rattle.z80_chip.specs.declared.sequencer.Sequencer.{Sequencer}
-use Rattle.z80_chip.proofs.Foresight.{asked-foreseen}
+use Rattle.z80_chip.proofs.Prediction.{asked-predicted}
 use Rattle.z80_chip.proofs.Steps.{ends, came_waiting}
 use Rattle.z80_chip.proofs.sequencer.Sequencer.go_on.Goals as goal
 
@@ -42,8 +42,8 @@ returns-in-Some-clause-state c =
     ∙ ap (λ (s : Store). ended_at (record old { regs = c.step.new.self.regs; store = Some s }) c.in-Some.finish) stored
     ∙ ends old c.args.cause (carried_out c.args.cart.now old c.args.cause) ended (sym (ap (λ r. ended_by r c.step.new.self.regs (done_of c.step.new.progress)) c.in-Some.is) ∙ c.step.ensures.value)
 
-pub returns-in-None-clause-foreseen : goal.returns-in-None-clause-foreseen
-returns-in-None-clause-foreseen c =
-    asked-foreseen c.args.cart.now (state_of c.args.self.now (Some c.args.parcel.now)) _ c.args.cause c.step.new.self.behind _
+pub returns-in-None-clause-predicted : goal.returns-in-None-clause-predicted
+returns-in-None-clause-predicted c =
+    asked-predicted c.args.cart.now (state_of c.args.self.now (Some c.args.parcel.now)) _ c.args.cause c.step.new.self.completion _
     (c.ask.ensures.state (Some c.args.parcel.now) ∙ ap (λ (s : Sequencer). asking (state_of s (Some c.args.parcel.now)) c.args.cause) (c.step.ensures.kept c.in-None.is))
-    c.ask.ensures.behind (c.step.ensures.foretells c.in-None.is)
+    c.ask.ensures.completion (c.step.ensures.predicts_end c.in-None.is)

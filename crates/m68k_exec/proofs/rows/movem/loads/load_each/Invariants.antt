@@ -8,5 +8,5 @@ use Rattle.m68k_exec.proofs.rows.movem.loads.load_each.Given as goal
 abbrev pub invariant-registers : goal.invariant-registers
 invariant-registers l = record {
   written : array_vec_len l.progress.writes ≤ array_vec_len l.fn.progress.writes;
-  rest : load_each l.size (places (16 - l.place) l.left l.place) l.address l.regs (memory_of l.around) (done_of l.progress) ≡ load_each l.size (places_in l.list) l.at l.fn.regs (memory_of l.around) (done_of l.fn.progress);
+  rest : load_each l.size (places (16 - l.place) l.left l.place) l.address l.regs (memory_of l.context) (done_of l.progress) ≡ load_each l.size (places_in l.list) l.at l.fn.regs (memory_of l.context) (done_of l.fn.progress);
 }

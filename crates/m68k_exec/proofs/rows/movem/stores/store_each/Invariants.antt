@@ -8,5 +8,5 @@ use Rattle.m68k_exec.proofs.rows.movem.stores.store_each.Given as goal
 abbrev pub invariant-registers : goal.invariant-registers
 invariant-registers l = record {
   written : array_vec_len l.progress.writes ≤ 4 * l.place;
-  rest : store_each l.order l.size (places (16 - l.place) l.left l.place) l.address l.regs (memory_of l.around) (done_of l.progress) ≡ store_each l.order l.size (places_in l.list) l.at l.regs (memory_of l.around) (done_of l.fn.progress);
+  rest : store_each l.order l.size (places (16 - l.place) l.left l.place) l.address l.regs (memory_of l.context) (done_of l.progress) ≡ store_each l.order l.size (places_in l.list) l.at l.regs (memory_of l.context) (done_of l.fn.progress);
 }

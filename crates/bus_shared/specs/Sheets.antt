@@ -1,9 +1,0 @@
--- The buffer of pre-rendered lines on the board.
-use Rattle.std.specs.Prelude.{◌≡◌, Bool, true, Option, IfSome}
-use Rattle.vdp_ports.specs.Vdp.{Vdp}
-use Rattle.vdp_planes.specs.View.{view_of}
-use Rattle.vdp_ahead.specs.Sheets.{SheetValue}
-
--- where a buffer is said to fit, the VDP is as it shows it
-abbrev pub Fits : Bool → Option SheetValue → Vdp → Type 0
-Fits fits sheet vdp = fits ≡ true → IfSome sheet (λ s. s.view ≡ view_of s.view.pal vdp)

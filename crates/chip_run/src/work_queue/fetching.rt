@@ -1,0 +1,95 @@
+ghost use Rattle.chip_run.specs.Places.{AllFree};
+
+use crate::work_queue::WorkQueue;
+use crate::work_queue::laid::Found;
+use crate::{Helds, Named};
+use chip_core::ChipSet;
+use std::hint::spin_loop;
+use std::sync::Wait;
+use std::sync::atomic::Ordering;
+use std::sync::ledger::Ledger;
+use std::thread::yield_now;
+
+/// How often the leader looks for a chip before it lets other threads run, and for its helpers to leave before it
+/// sleeps.
+const GLANCES: u32 = 1_000;
+
+/// How often it lets them run before it does work of another chip.
+const YIELDS: u32 = 100;
+
+impl<C: ChipSet, N: Named, L0: Ledger, L1: Ledger, L2: Ledger, L3: Ledger, L4: Ledger> WorkQueue<
+    C,
+    N,
+    L0,
+    L1,
+    L2,
+    L3,
+    L4,
+> {
+    /// Takes all chips of which no work is due, or else the chip of this number, whose work is then done, or
+    /// which waits for its worker. Where it does not lie here, it waits for a while, and then does work of
+    /// another chip.
+    pub(crate) fn fetch<R: Wait>(
+        &self,
+        rt: &R,
+        helds: &mut Helds<C, N, L0, L1, L2, L3, L4>,
+        chip: u8,
+    )
+        requires { AllFree helds.old }
+        ensures { AllFree helds.new }
+    {
+        let seen = self.changes.load(Ordering::SeqCst);
+        if self.take_all(rt, helds) {
+            return;
+        }
+        if self.take_due(rt, helds, chip) {
+            helds.settle(chip);
+            return;
+        }
+        if self.take_waiting(rt, helds, chip) {
+            return;
+        }
+        if self.glance(seen) {
+            return;
+        }
+        match self.take_first(rt, helds) {
+            Found::Chip(other) => helds.settle(other),
+            Found::Nothing => {}
+            Found::Over => {}
+        }
+    }
+
+    /// Looks for a change after so many for a while, and lets other threads run meanwhile; answers whether one
+    /// came.
+    fn glance(&self, seen: u64) -> bool {
+        for _ in 0..GLANCES {
+            if self.changes.load(Ordering::SeqCst) != seen {
+                return true;
+            }
+            spin_loop();
+        }
+        self.give_way(seen)
+    }
+
+    /// Lets other threads run, again and again, until a change comes after so many; answers whether one came.
+    fn give_way(&self, seen: u64) -> bool {
+        for _ in 0..YIELDS {
+            yield_now();
+            if self.changes.load(Ordering::SeqCst) != seen {
+                return true;
+            }
+        }
+        false
+    }
+
+    /// Looks for a while until so many helpers have left. Once the run has ended they do so at once, or after the
+    /// job that they are at: to sleep until then, and to be woken, would take longer.
+    pub(crate) fn see_off(&self, helpers: u8) {
+        for _ in 0..GLANCES {
+            if self.left.load(Ordering::SeqCst) >= u64::from(helpers) {
+                return;
+            }
+            spin_loop();
+        }
+    }
+}

@@ -1,0 +1,165 @@
+ghost use Rattle.std.specs.Prelude.{◌≡◌, true, false};
+ghost use Rattle.chip_run.specs.WorkQueues.{IsFoundDue};
+ghost use Rattle.chip_run.specs.Places.{AllFree, FreeBut};
+
+use crate::{Helds, Named};
+use chip_core::ChipSet;
+use std::sync::ledger::Ledger;
+
+/// What a worker finds in the work queue.
+#[derive(Clone, Copy)]
+pub(crate) enum Found {
+    /// The chip of this number, of which private work is due.
+    Chip(u8),
+    Nothing,
+    /// No more work comes.
+    Over,
+}
+
+/// The chips that lie in the work queue.
+#[derive(Drop)]
+pub(crate) struct Laid<
+    C: ChipSet,
+    N: Named,
+    L0: Ledger,
+    L1: Ledger,
+    L2: Ledger,
+    L3: Ledger,
+    L4: Ledger,
+> {
+    /// Chips of which private work is due.
+    due: Helds<C, N, L0, L1, L2, L3, L4>,
+    /// Chips of which none is.
+    done: Helds<C, N, L0, L1, L2, L3, L4>,
+    /// Chips of workers that have not begun.
+    waiting: Helds<C, N, L0, L1, L2, L3, L4>,
+    /// No more work comes.
+    over: bool,
+    ghost free: { AllFree done },
+    ghost ready: { AllFree waiting },
+}
+
+impl<C: ChipSet, N: Named, L0: Ledger, L1: Ledger, L2: Ledger, L3: Ledger, L4: Ledger> Laid<
+    C,
+    N,
+    L0,
+    L1,
+    L2,
+    L3,
+    L4,
+> {
+    /// No chip lies here, and more work may come.
+    pub(crate) fn new() -> Self {
+        Laid {
+            due: Helds::none(),
+            done: Helds::none(),
+            waiting: Helds::none(),
+            over: false,
+        }
+    }
+
+    /// Queues a chip of which work is due.
+    pub(crate) fn lay_due(&mut self, helds: &mut Helds<C, N, L0, L1, L2, L3, L4>, chip: u8)
+        requires { FreeBut chip helds.old }
+        ensures { AllFree helds.new }
+    {
+        helds.move_to(&mut self.due, chip);
+    }
+
+    /// Queues a chip of which none is due.
+    pub(crate) fn lay_done(&mut self, helds: &mut Helds<C, N, L0, L1, L2, L3, L4>, chip: u8)
+        requires { AllFree helds.old }
+        ensures { AllFree helds.new }
+    {
+        helds.move_free(&mut self.done, chip);
+    }
+
+    /// Takes the chip of this number, if it lies here and no work of it is due.
+    pub(crate) fn take_done(
+        &mut self,
+        helds: &mut Helds<C, N, L0, L1, L2, L3, L4>,
+        chip: u8,
+    ) -> bool
+        requires { AllFree helds.old }
+        ensures { AllFree helds.new }
+    {
+        if !self.done.has(chip) {
+            return false;
+        }
+        self.done.move_free(helds, chip);
+        true
+    }
+
+    /// Takes the chip of this number, if it lies here and work of it is due.
+    pub(crate) fn take_due(&mut self, helds: &mut Helds<C, N, L0, L1, L2, L3, L4>, chip: u8) -> bool
+        requires { AllFree helds.old }
+        ensures found { result ≡ true → FreeBut chip helds.new }
+        ensures none { result ≡ false → AllFree helds.new }
+    {
+        if !self.due.has(chip) {
+            return false;
+        }
+        self.due.move_to(helds, chip);
+        true
+    }
+
+    /// Lays down the chip of a worker that has not begun.
+    pub(crate) fn lay_waiting(&mut self, helds: &mut Helds<C, N, L0, L1, L2, L3, L4>, chip: u8)
+        requires { AllFree helds.old }
+        ensures { AllFree helds.new }
+    {
+        helds.move_free(&mut self.waiting, chip);
+    }
+
+    /// Takes the chip of this number, if its worker has not begun.
+    pub(crate) fn take_waiting(
+        &mut self,
+        helds: &mut Helds<C, N, L0, L1, L2, L3, L4>,
+        chip: u8,
+    ) -> bool
+        requires { AllFree helds.old }
+        ensures { AllFree helds.new }
+    {
+        if !self.waiting.has(chip) {
+            return false;
+        }
+        self.waiting.move_free(helds, chip);
+        true
+    }
+
+    /// Takes all chips of which no work is due; answers whether there were any.
+    pub(crate) fn take_all(&mut self, helds: &mut Helds<C, N, L0, L1, L2, L3, L4>) -> bool
+        requires { AllFree helds.old }
+        ensures { AllFree helds.new }
+    {
+        let mut any = false;
+        for chip in 0..C::count() {
+            if self.take_done(helds, chip) {
+                any = true;
+            }
+        }
+        any
+    }
+
+    /// Takes the first chip of which work is due.
+    pub(crate) fn take_first(&mut self, helds: &mut Helds<C, N, L0, L1, L2, L3, L4>) -> Found
+        requires { AllFree helds.old }
+        ensures { IsFoundDue result helds.new }
+    {
+        for chip in 0..C::count() {
+            if self.take_due(helds, chip) {
+                return Found::Chip(chip);
+            }
+        }
+        if self.over {
+            Found::Over
+        } else {
+            Found::Nothing
+        }
+    }
+
+    /// No more work comes.
+    pub(crate) fn close(&mut self) {
+        self.over = true;
+    }
+}

@@ -1,5 +1,0 @@
-use Rattle.std.proofs.Common.{[]}
-use Rattle.m68k_chip.proofs.sequencer.Sequencer.end_foreseen.Goals as goal
-
-pub returns : goal.returns
-returns c = λ ram. c.finish.ensures ram []

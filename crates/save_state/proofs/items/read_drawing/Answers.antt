@@ -1,6 +1,0 @@
-use Rattle.save_state.proofs.ItemLaws.{drawing_read}
-use Rattle.save_state.proofs.items.read_drawing.Goals as goal
-
-pub returns : goal.returns
-returns c =
-    drawing_read c.args.bytes.now c.args.pal c.args.at c.of.result.now c.unspell.result c.placed.result c.placed.ensures c.requires.cycle c.requires.region c.of.ensures c.unspell.ensures.found c.unspell.ensures.only (λ p. (c.unspell.ensures.rule p).0) (λ p. (c.unspell.ensures.rule p).1)
