@@ -1,9 +1,9 @@
 #!/usr/bin/env python3
-"""Nanoseconds an instruction of the 68000, as `foresee` of m68k_exec carries it out, on one core.
+"""Nanoseconds an instruction of the 68000, as `predict` of m68k_exec carries it out, on one core.
 
     bench/instructions.py [COUNT]
 
-A small program over `m68k_exec` (see programs.py) calls `foresee` COUNT times, 2,000,000 if not given, on one
+A small program over `m68k_exec` (see programs.py) calls `predict` COUNT times, 2,000,000 if not given, on one
 set of registers: on a cartridge that repeats the instructions of a row 500 times and branches back. Work
 RAM is private, so that no instruction waits for an answer, and stays as it was. Each row runs five times,
 of which the fastest counts. The time is the processor's for the program, less that of a run of no calls.
@@ -32,7 +32,7 @@ SOURCE = """//! Carries out instructions of the 68000: `instructions COUNT WORD.
 #![tactic(auto)]
 
 use arrayvec::ArrayVec;
-use m68k_exec::{Foreseen, Progress, Step, foresee};
+use m68k_exec::{Predicted, Progress, Step, predict};
 use md_word::{Regs, Request68};
 use rom_header::Cart;
 use std::{env, io};
@@ -52,9 +52,9 @@ fn run(cart: &Cart, count: u32) -> (u32, u32) {
         sr: 0x2700,
     };
     let mut step = Step::Need(Request68::Ack(0));
-    let mut foreseen = Foreseen::nothing();
+    let mut predicted = Predicted::nothing();
     for _ in 0..count {
-        foresee(&mut regs, cart, &ram, &answers, 0, &mut progress, &mut step, &mut foreseen);
+        predict(&mut regs, cart, &ram, &answers, 0, &mut progress, &mut step, &mut predicted);
         if let Step::Done(_) = &step {
             ended = ended.wrapping_add(1);
         }
