@@ -1,5 +1,0 @@
-//! Tests of the images that a session keeps.
-#![tactic(auto)]
-
-#[cfg(test)]
-mod images;
