@@ -120,7 +120,7 @@ fn script_input<'a>(rom: &'a str, script: &'a str, which: Input) -> Option<&'a s
 /// The name of an output of a command that makes one file, and a list of it if that is asked for. It is None for
 /// another output.
 fn made_output<'a>(target: &'a str, listing: Option<&'a str>, which: Output) -> Option<&'a str>
-    ensures { option_copied result ≡ files.made_output target.now (option_copied listing) which }
+    ensures { option_copied result ≡ files.made_output target.now (option_copied listing.entry) which }
 {
     match which {
         Output::Target => Some(target),
