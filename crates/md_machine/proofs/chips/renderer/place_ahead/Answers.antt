@@ -15,4 +15,4 @@ returns-clause-drawn c =
     λ yes.
     placed_drawn view c.note.result chip c.place_line.new.self c.requires.view (c.if-not-has.ensures.region refl ∙ c.pal-2.ensures)
     (c.note.ensures ∙ ap (λ (y : ℕ). note_on y view) number)
-    (c.place_line.ensures view (sprites_on (line_of chip.next chip.pal) view) (c.row.ensures ∙ ap (λ (y : ℕ). scanline_on y view) number))
+    (c.place_line.ensures view (sprites_on (line_of chip.next chip.pal) view) (c.scanline.ensures ∙ ap (λ (y : ℕ). scanline_on y view) number))
