@@ -29,6 +29,7 @@ pub struct PadPort {
 
 impl Model for PadPort {
     ghost use Rattle.std.specs.Prelude.{◌≤◌};
+    ghost use Rattle.md_word.specs.Clock.{cycle_limit};
     ghost use Rattle.md_pads.specs.Pad.{Port};
 
     ghost Value = { Port };
