@@ -3,7 +3,6 @@
 #![tactic(auto)]
 
 mod accesses;
-mod ahead;
 mod case;
 mod chip;
 mod execution;
@@ -12,6 +11,7 @@ mod known;
 mod numbers;
 mod reading;
 mod resuming;
+mod sample_ahead;
 mod samples;
 mod saved;
 mod saved_fields;
