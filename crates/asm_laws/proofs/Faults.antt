@@ -2,7 +2,7 @@
 use Rattle.std.proofs.Common.{◌≡◌, inl, inr, ℕ, ◌+◌, ◌≤◌, ◌==◌, ◌%◌, Bool, true, false, ◌&&◌, List, [], ◌∷◌, ◌++◌, length, refl, ap, sym, arith, Option, Some, None, if◌then◌else◌}
 use Rattle.md_asm_text.specs.Tokens as tokens
 use Rattle.md_asm_text.specs.Lines.{Line, line_of}
-use Rattle.md_asm_text.specs.Texts.{lines as lines_of}
+use Rattle.text_lines.specs.Lines.{lines_of}
 use Rattle.md_asm.specs.Contents.{Far, Good, Settled, Unfit, Unknown, content, is_unfit, size, sized}
 use Rattle.md_asm.specs.Numbers.{Names, has_name, resolved}
 use Rattle.md_asm.specs.Assembly.{Failed, assembly, assembly_of, number_of, second}

@@ -17,7 +17,7 @@ use Rattle.md_asm.specs.declared.placed.Placed.{Placed}
 use Rattle.md_asm.proofs.Apart.{AllSlots, IsPut, all_slots_by, read_round}
 use Rattle.asm_laws.specs.Lines.{AllRoundTrip, IsRoundTrip, IsWritten, SaysLines}
 use Rattle.asm_laws.proofs.RoundTrips.{stand_bytes, words_are}
-use Rattle.md_asm_text.specs.Texts.{lines as lines_of}
+use Rattle.text_lines.specs.Lines.{lines_of}
 use Rattle.asm_laws.specs.Fitting.{AreFitting, FitsLines}
 use Rattle.asm_laws.specs.Forms.{HasNumber, StandsIn}
 use Rattle.asm_laws.proofs.Low68.{cons_low, none_low}

@@ -7,7 +7,8 @@ use Rattle.md_asm_text.specs.Tokens.{Token, is_name, is_worded, opened, split}
 use Rattle.md_asm_text.proofs.Splits.{mark_split, name_opens, number_4, number_8, word_split}
 use Rattle.md_asm_text.specs.Bodies.{directive_of}
 use Rattle.md_asm_text.specs.Lines.{Line, line_of}
-use Rattle.md_asm_text.specs.Texts.{has, lines}
+use Rattle.md_asm_text.specs.Texts.{has}
+use Rattle.text_lines.specs.Lines.{lines_of}
 use Rattle.md_asm_text.specs.declared.body.Body.{Body}
 use Rattle.md_asm_text.specs.declared.body.Body.TheVariants as bodies
 use Rattle.md_asm.specs.Contents.{Good, settled_line}
@@ -23,18 +24,18 @@ use Rattle.asm_laws.proofs.Coded.{IsCoded}
 
 -- ---- the lines of a source
 
-pub lines_front : (text rest : List ℕ) → has 10 text ≡ false → lines (text ++ 10 ∷ rest) ≡ text ∷ lines rest
-unfolding lines has
+pub lines_front : (text rest : List ℕ) → has 10 text ≡ false → lines_of (text ++ 10 ∷ rest) ≡ text ∷ lines_of rest
+unfolding lines_of has
 lines_front [] rest h = refl
 lines_front (c ∷ cs) rest h = cases (c == 10) (has 10 cs) refl refl (λ e. lines_front cs rest e)
   where
-    cases : (b n : Bool) → (c == 10) ≡ b → has 10 cs ≡ n → (has 10 cs ≡ false → lines (cs ++ 10 ∷ rest) ≡ cs ∷ lines rest) → lines (c ∷ (cs ++ 10 ∷ rest)) ≡ (c ∷ cs) ∷ lines rest
+    cases : (b n : Bool) → (c == 10) ≡ b → has 10 cs ≡ n → (has 10 cs ≡ false → lines_of (cs ++ 10 ∷ rest) ≡ cs ∷ lines_of rest) → lines_of (c ∷ (cs ++ 10 ∷ rest)) ≡ (c ∷ cs) ∷ lines_of rest
     cases true n is e more = let no : true ≡ false = rw is at h in cc
     cases false true is e more = let no : has 10 cs ≡ false = rw is at h in cc
     cases false false is e more = rw (is, more e) refl
 
-pub two_lines : (first text : List ℕ) → IsText first → IsText text → lines (first ++ 10 ∷ (text ++ 10 ∷ [])) ≡ first ∷ text ∷ []
-unfolding lines
+pub two_lines : (first text : List ℕ) → IsText first → IsText text → lines_of (first ++ 10 ∷ (text ++ 10 ∷ [])) ≡ first ∷ text ∷ []
+unfolding lines_of
 two_lines first text f t =
     lines_front first (text ++ 10 ∷ []) (has_none 10 first f.clean refl) ∙ ap (λ (l : List (List ℕ)). first ∷ l) (lines_front text [] (has_none 10 text t.clean refl))
 

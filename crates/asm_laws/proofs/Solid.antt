@@ -5,7 +5,8 @@ use Rattle.std.proofs.lemmas.Bool.Decides.{nat_tests}
 use Rattle.std.proofs.lemmas.List.{reverse-append, reverse-reverse}
 use Rattle.std.specs.Fmt.{digit_glyph}
 use Rattle.md_disasm.specs.Digits.{one_digit, two_digits, four_digits, eight_digits}
-use Rattle.md_asm_text.specs.Tokens.{every, is_hexadecimal}
+use Rattle.text_lines.specs.Digits.{is_hexadecimal}
+use Rattle.md_asm_text.specs.Tokens.{every}
 use Rattle.md_asm_text.proofs.Splits.{every_both, hexadecimal}
 use Rattle.md_asm_text.specs.Texts.{before, cut_back, has, is_blank, unblanked}
 

@@ -10,7 +10,7 @@ use Rattle.asm_m68k.specs.Table.{AreWords, IsInstruction}
 use Rattle.asm_z80.specs.Coded80.{AreBytes}
 use Rattle.asm_z80.specs.Instruction.{is_db}
 use Rattle.md_asm_text.specs.Lines.{Line, line_of}
-use Rattle.md_asm_text.specs.Texts.{lines as lines_of}
+use Rattle.text_lines.specs.Lines.{lines_of}
 use Rattle.md_asm_text.specs.declared.body.Body.{Body}
 use Rattle.md_asm_text.specs.declared.body.Body.TheVariants as bodies
 use Rattle.md_asm.specs.Numbers.{resolved}

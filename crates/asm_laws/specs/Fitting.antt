@@ -1,7 +1,7 @@
 -- The numbers of a source that is assembled.
 use Rattle.std.specs.Prelude.{◌≡◌, ℕ, true, List, [], ◌∷◌}
 use Rattle.md_asm_text.specs.Tokens.{Number, tokens}
-use Rattle.md_asm_text.specs.Texts.{lines as lines_of}
+use Rattle.text_lines.specs.Lines.{lines_of}
 use Rattle.md_asm.specs.Numbers.{Names, resolved}
 use Rattle.md_asm.specs.Assembly.{is_instruction}
 use Rattle.md_asm.specs.Rounds.{Read, Round, Slot, round_one, start}

@@ -9,7 +9,7 @@ use Rattle.md_asm_text.specs.Tokens.{Token, tokens}
 use Rattle.asm_m68k.specs.Table.{AreWords, IsInstruction}
 use Rattle.asm_z80.specs.Coded80.{AreBytes}
 use Rattle.asm_z80.specs.Instruction.{is_db}
-use Rattle.md_asm_text.specs.Texts.{lines as lines_of}
+use Rattle.text_lines.specs.Lines.{lines_of}
 use Rattle.md_asm.specs.Codes.{in_bytes}
 use Rattle.md_asm.specs.Numbers.{Names, resolved}
 use Rattle.asm_laws.specs.Chosen.{AreChosen, AreLeast}

@@ -1,7 +1,8 @@
 -- What a line of a script asks for. This project's profile.
 use Rattle.std.specs.Prelude.{ℕ, ◌%◌, ◌==◌, ◌&&◌, nat_lt, nat_le, Bool, if◌then◌else◌, List, length, codes, bytes_eq, Option, Some, None, option_map, option_and_then, Result, Ok, Err}
 use Rattle.std.specs.List.{list_all, position_or_len, before_first, after_first}
-use Rattle.debug_text.specs.Numbers.{decimal_of, address_of}
+use Rattle.text_lines.specs.Digits.{decimal_of}
+use Rattle.debug_text.specs.Numbers.{address_of}
 use Rattle.md_word.specs.Clock.{last_cycle}
 use Rattle.debug_text.specs.declared.command.Command.{Command}
 use Rattle.debug_text.specs.declared.command.Command.TheVariants.{Step, RunTo, Back, Regs, Mem, Dis, Trace, Report}

@@ -14,7 +14,6 @@ pub use command::{Command, Misread};
 pub use cycle::put_cycle;
 pub use line::{following, is_ascii, read_command, word_in};
 pub use memory::{byte_reply, instruction_reply};
-pub use number::read_decimal;
 pub use registers::register_reply;
 pub use report::report_reply;
 pub use trace::address_reply;

@@ -5,8 +5,9 @@ ghost use Rattle.std.specs.Option.{option_copied};
 ghost use Rattle.debug_text.specs.Commands as meaning;
 
 use crate::command::{Command, CommandWord, Misread};
-use crate::number::{read_address, read_decimal};
+use crate::number::read_address;
 use md_word::clock::LAST_CYCLE;
+use text_lines::read_decimal;
 
 /// The address bus has 24 bits.
 const ADDRESSES: u32 = 0x100_0000;

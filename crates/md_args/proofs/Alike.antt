@@ -7,7 +7,8 @@ use Rattle.std.proofs.lemmas.Slice.Eq.{bytes_eq-Decides}
 use Rattle.clap.specs.Walk.{Text}
 use Rattle.md_args.specs.Given.{Argument, Place, are_single, between, ended, given, has_name, is_marked, value_in, value_of, with_value}
 use Rattle.md_args.specs.Spelled.{apart, joined, words_of}
-use Rattle.md_args.specs.Commands.{Values, are_names, but_workers, is_one_region, names_of, number_of, run_by, run_flags, run_from, run_given, run_of, run_of_arguments, run_options, values_by, workers_of}
+use Rattle.text_lines.specs.Digits.{decimal_of}
+use Rattle.md_args.specs.Commands.{Values, are_names, but_workers, is_one_region, names_of, run_by, run_flags, run_from, run_given, run_of, run_of_arguments, run_options, values_by, workers_of}
 use Rattle.md_args.specs.Words.{Run}
 use Rattle.md_args.proofs.Gives.{given_open, given_option, given_value}
 use Rattle.md_args.proofs.Rows.{stands}
@@ -86,7 +87,7 @@ workers = codes "workers"
 other_workers : (values : Values) (count other : Text) → IsSome (workers_of (Some count)) → IsSome (workers_of (Some other))
     → option_map but_workers (run_given (record values { workers = Some count })) ≡ option_map but_workers (run_given (record values { workers = Some other }))
 other_workers values count other fits other_fits =
-    by_names (are_names (names_of values) && is_one_region values) _ _ (by_values values.rom (option_and_then number_of values.cycles) (workers_of (Some count)) (workers_of (Some other)) fits other_fits)
+    by_names (are_names (names_of values) && is_one_region values) _ _ (by_values values.rom (option_and_then decimal_of values.cycles) (workers_of (Some count)) (workers_of (Some other)) fits other_fits)
   where
     by_names : (b : Bool) (first second : Option Run) → option_map but_workers first ≡ option_map but_workers second
         → option_map but_workers (cond b first None) ≡ option_map but_workers (cond b second None)

@@ -4,7 +4,6 @@ pub mod Assemblings
 pub mod Commands
 pub mod Debuggings
 pub mod Demos
-pub mod Digits
 pub mod Gives
 pub mod Lookups
 pub mod Looks

@@ -1,11 +1,10 @@
 -- The command that the words of the command line give. This project's profile.
-use Rattle.std.specs.Prelude.{ℕ, ◌^◌, ◌==◌, nat_lt, nat_le, Bool, true, false, ◌&&◌, not, if◌then◌else◌, List, [], ◌∷◌, length, codes, Option, Some, None, option_and_then}
-use Rattle.std.specs.Char.{is_ascii_digit}
+use Rattle.std.specs.Prelude.{ℕ, ◌==◌, nat_le, Bool, true, false, ◌&&◌, not, if◌then◌else◌, List, [], ◌∷◌, codes, Option, Some, None, option_and_then}
 use Rattle.std.specs.List.{list_all}
 use Rattle.std.specs.Option.{is_some, option_map}
 use Rattle.std.specs.Str.{bytes_eq}
-use Rattle.std.specs.Str.Parse.{digits_value}
 use Rattle.clap.specs.Walk.{Text}
+use Rattle.text_lines.specs.Digits.{decimal_of}
 use Rattle.md_args.specs.Given.{Argument, between, given, meant_by}
 use Rattle.md_args.specs.declared.convert_words.Product.{Product}
 use Rattle.md_args.specs.declared.convert_words.Product.TheVariants.{Vgm, Sound}
@@ -16,14 +15,6 @@ abbrev pub is_name : List ℕ → Bool
 is_name [] = false
 is_name (first ∷ rest) = not (first == 45)
 
--- 1 to 20 decimal digits
-abbrev pub is_digits : List ℕ → Bool
-is_digits word = nat_le 1 (length word) && nat_le (length word) 20 && list_all is_ascii_digit word
-
--- a number of the command line: its value is below 2^64
-abbrev pub number_of : List ℕ → Option ℕ
-number_of word = if is_digits word && nat_lt (digits_value 10 word) (2 ^ 64) then Some (digits_value 10 word) else None
-
 -- a number of workers: 1 to 5
 abbrev pub some_workers : ℕ → Option ℕ
 some_workers n = if nat_le 1 n && nat_le n 5 then Some n else None
@@ -31,7 +22,7 @@ some_workers n = if nat_le 1 n && nat_le n 5 then Some n else None
 -- the number of workers of a run, 1 where it is not given
 abbrev pub workers_of : Option (List ℕ) → Option ℕ
 workers_of None = Some 1
-workers_of (Some count) = option_and_then some_workers (number_of count)
+workers_of (Some count) = option_and_then some_workers (decimal_of count)
 
 -- the value of an option can be a name
 abbrev pub is_optional_name : Option (List ℕ) → Bool
@@ -120,7 +111,7 @@ run_from values rom end workers = None
 -- `--sound W`, `--journal J`, `--workers K` and `--pal` if wanted
 abbrev pub run_given : Values → Option Run
 run_given values =
-    if are_names (names_of values) && is_one_region values then run_from values values.rom (option_and_then number_of values.cycles) (workers_of values.workers) else None
+    if are_names (names_of values) && is_one_region values then run_from values values.rom (option_and_then decimal_of values.cycles) (workers_of values.workers) else None
 
 -- the run, by the names of the arguments
 abbrev pub run_by : (Text → Option Text) → Option Run
@@ -188,7 +179,7 @@ debugging_of words = option_and_then (meant_by debugging_by) (given (codes "rom"
 
 -- the value of a number that has to be there
 abbrev pub wanted_number : Option Text → Option ℕ
-wanted_number word = option_and_then number_of word
+wanted_number word = option_and_then decimal_of word
 
 -- a number of workers that has to be there
 abbrev pub wanted_workers : Option Text → Option ℕ

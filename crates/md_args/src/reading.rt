@@ -2,6 +2,7 @@ ghost use Rattle.std.specs.Prelude.{◌≡◌, IfOk, map, option_and_then, strin
 ghost use Rattle.std.specs.Option.{option_copied, option_map};
 ghost use Rattle.clap.specs.Matches.{found_of};
 ghost use Rattle.clap.specs.Walk.{rows_of};
+ghost use Rattle.text_lines.specs.Digits.{decimal_of};
 ghost use Rattle.md_args.specs.Parse.{asked_by, chosen_by, found_by};
 ghost use Rattle.md_args.specs.Shown.{shown_command, shown_values};
 ghost use Rattle.md_args.specs.Commands as meaning;
@@ -15,7 +16,7 @@ use crate::convert_words::Product;
 use crate::debug_reading::debug_chosen;
 use crate::demo_reading::demo_chosen;
 use crate::names::{have_names, is_name};
-use crate::numbers::{read_number, read_workers};
+use crate::numbers::read_workers;
 use crate::parse::parse;
 use crate::rollback_reading::rollback_chosen;
 use crate::run_values::RunValues;
@@ -23,6 +24,7 @@ use crate::run_words::RunWords;
 use crate::verb::Verb;
 use clap::ArgMatches;
 use std::alloc::{AllocError, Global};
+use text_lines::read_decimal;
 
 /// Reads the words of the command line, those after the program's name. It is None where they ask for nothing that
 /// there is, and fails only where memory runs out.
@@ -164,10 +166,10 @@ fn is_one_region(values: &RunValues<'_>) -> bool
 
 /// A number that has to be there.
 pub(crate) fn count(word: Option<&str>) -> Option<u64>
-    ensures { result ≡ option_and_then meaning.number_of (option_copied word.entry) }
+    ensures { result ≡ option_and_then decimal_of (option_copied word.entry) }
 {
     match word {
-        Some(word) => read_number(word),
+        Some(word) => read_decimal(word),
         None => None,
     }
 }

@@ -4,7 +4,7 @@ use Rattle.std.specs.Prelude.{◌==◌, ◌%◌}
 use Rattle.std.proofs.lemmas.Bool.Decides.{nat_tests}
 use Rattle.md_asm_text.specs.Tokens.{tokens}
 use Rattle.md_asm_text.specs.Lines.{Line}
-use Rattle.md_asm_text.specs.Texts.{lines}
+use Rattle.text_lines.specs.Lines.{lines_of}
 use Rattle.md_asm.specs.Contents.{is_unfit}
 use Rattle.md_asm.specs.Places.{any_written, image_limit, is_sub, is_too_large}
 use Rattle.md_asm.specs.Rounds.{Read, Round, fault_of, has_bytes, is_twice, round_one, wants_even}
@@ -33,7 +33,7 @@ within round line long none is =
     (has_bytes line.body && is_too_large round.place long) kinds.BadNumber kinds.Twice kinds.Odd kinds.Overlap kinds.TooLarge none) is
 
 -- no line is left
-pub all_read : (round : Round) (number : ℕ) (rest : List ℕ) → length rest ≡ 0 → round_one round number (lines rest) ≡ Read round
-unfolding round_one lines
+pub all_read : (round : Round) (number : ℕ) (rest : List ℕ) → length rest ≡ 0 → round_one round number (lines_of rest) ≡ Read round
+unfolding round_one lines_of
 all_read round number [] none = refl
 all_read round number (c ∷ cs) none = absurd (omega arith)

@@ -1,7 +1,7 @@
 -- The image of a source holds the bytes of each line.
 use Rattle.std.proofs.Common.{◌≡◌, ℕ, ◌+◌, ◌≤◌, List, [], ◌∷◌, length, take, refl, arith}
 use Rattle.md_asm_text.specs.Tokens.{tokens}
-use Rattle.md_asm_text.specs.Texts.{lines as lines_of}
+use Rattle.text_lines.specs.Lines.{lines_of}
 use Rattle.md_asm.specs.Numbers.{Names, resolved}
 use Rattle.md_asm.specs.Assembly.{Done, assembly, assembly_of, places_of, second}
 use Rattle.md_asm.specs.Held.{AreHeld, HoldsLines, IsHeld}

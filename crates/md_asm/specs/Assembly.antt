@@ -1,6 +1,6 @@
 -- What a source is assembled to.
 use Rattle.std.specs.Prelude.{ℕ, Bool, true, false, if◌then◌else◌, List, [], ◌∷◌, take}
-use Rattle.md_asm_text.specs.Texts.{lines}
+use Rattle.text_lines.specs.Lines.{lines_of}
 use Rattle.md_asm_text.specs.declared.body.Body.{Body}
 use Rattle.md_asm_text.specs.declared.body.Body.TheVariants as bodies
 use Rattle.md_asm.specs.Places.{blank}
@@ -60,4 +60,4 @@ second (Refused line kind) = Failed line (number_of kind)
 -- A source's lines are read in their order, each with its place, its address and its length; then each that has
 -- bytes is written at its place, with all names known. The image ends after the last byte that is written.
 unfoldable pub assembly : List ℕ → AssemblyOutcome
-assembly source = second (round_one start 1 (lines source))
+assembly source = second (round_one start 1 (lines_of source))

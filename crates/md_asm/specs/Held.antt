@@ -1,6 +1,6 @@
 -- What an image holds of the lines of its source.
 use Rattle.std.specs.Prelude.{ℕ, ◌≡◌, ◌+◌, ◌<◌, Bool, true, false, List, [], ◌∷◌, length, slice_index}
-use Rattle.md_asm_text.specs.Texts.{lines as lines_of}
+use Rattle.text_lines.specs.Lines.{lines_of}
 use Rattle.md_asm.specs.Contents.{Good}
 use Rattle.md_asm.specs.Numbers.{Names}
 use Rattle.md_asm.specs.Assembly.{places_of}

@@ -1,5 +1,5 @@
 ghost use Rattle.std.specs.Prelude.{◌≡◌, ◌≤◌, IfErr, IfOk, OnOk, length, map, vec_len};
-ghost use Rattle.md_asm_text.specs.Texts.{lines as lines_of};
+ghost use Rattle.text_lines.specs.Lines.{lines_of};
 ghost use Rattle.md_asm.specs.SeenCodes.{names_seen};
 ghost use Rattle.md_asm.specs.Assembly as meaning;
 ghost use Rattle.md_asm.specs.Kept.{AreKept, IsPass};
@@ -17,9 +17,10 @@ use crate::pass::Pass;
 use crate::patching::patch;
 use crate::placed::Placed;
 use crate::processor::Processor;
-use md_asm_text::{Body, next_line};
+use md_asm_text::Body;
 use md_word::NoMemory;
 use std::alloc::Global;
+use text_lines::first_line;
 
 /// A pass that has read no line. It fails where memory runs out.
 fn start<'a>(alloc: Global) -> Result<Pass<'a>, NoMemory>
@@ -49,7 +50,7 @@ fn read_lines<'a>(alloc: Global, pass: &mut Pass<'a>, source: &'a [u8]) -> Resul
     let mut line = 1;
     let mut rest = source;
     while !rest.is_empty() {
-        let (text, following) = next_line(rest);
+        let (text, following) = first_line(rest);
         if let Some(kind) = pass.read(alloc, line, text)? {
             return Err(AsmFault::Line {
                 line,

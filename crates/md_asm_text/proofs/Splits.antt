@@ -4,7 +4,8 @@ use Rattle.std.specs.Fmt.{digit_glyph}
 use Rattle.std.proofs.lemmas.Bool.Decides.{nat_tests}
 use Rattle.std.proofs.lemmas.Bool.{not-true, and_parts}
 use Rattle.md_disasm.specs.Digits.{one_digit, two_digits, four_digits, eight_digits}
-use Rattle.md_asm_text.specs.Tokens.{Token, Word, Number, Mark, are_digits, closed, digit_value, every, is_hexadecimal, is_name, is_worded, opened, split, token_of, value_after}
+use Rattle.text_lines.specs.Digits.{is_hexadecimal}
+use Rattle.md_asm_text.specs.Tokens.{Token, Word, Number, Mark, are_digits, closed, digit_value, every, is_name, is_worded, opened, split, token_of, value_after}
 
 -- a text that does not go on with a word
 abbrev pub is_end : List ℕ → Bool

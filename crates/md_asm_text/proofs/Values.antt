@@ -4,7 +4,8 @@ use Rattle.std.proofs.lemmas.Grind.{common_steps}
 use Rattle.std.proofs.lemmas.Bool.Decides.{nat_tests}
 use Rattle.std.proofs.lemmas.Bool.{and_parts}
 use Rattle.md_asm_text.specs.Bounds.{limit}
-use Rattle.md_asm_text.specs.Tokens.{digit_value, every, is_hexadecimal, value_after}
+use Rattle.text_lines.specs.Digits.{is_hexadecimal}
+use Rattle.md_asm_text.specs.Tokens.{digit_value, every, value_after}
 
 -- one digit more
 pub limit_step : (k v d : ℕ) → v < limit (suc k) → d < 16 → v * 16 + d < limit k

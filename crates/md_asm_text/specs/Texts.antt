@@ -1,5 +1,4 @@
--- Parts of a text: its lines, what is before a character and after it, and what is left
--- without blanks at either end.
+-- Parts of a text: what is before a character and after it, and what is left without blanks at either end.
 use Rattle.std.specs.Prelude.{ℕ, Bool, false, ◌||◌, ◌==◌, if◌then◌else◌, List, [], ◌∷◌, reverse}
 
 -- the text before the first such character
@@ -16,16 +15,6 @@ following mark (c ∷ cs) = if c == mark then cs else following mark cs
 unfoldable pub has : ℕ → List ℕ → Bool
 has mark [] = false
 has mark (c ∷ cs) = c == mark || has mark cs
-
--- a character more before the first line
-abbrev pub with_character : ℕ → List (List ℕ) → List (List ℕ)
-with_character c [] = (c ∷ []) ∷ []
-with_character c (line ∷ more) = (c ∷ line) ∷ more
-
--- the lines of a text: each ends by a line feed or the text's end
-unfoldable pub lines : List ℕ → List (List ℕ)
-lines [] = []
-lines (c ∷ cs) = if c == 10 then [] ∷ lines cs else with_character c (lines cs)
 
 -- a space or a tab
 abbrev pub is_blank : ℕ → Bool

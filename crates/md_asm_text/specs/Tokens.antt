@@ -1,6 +1,7 @@
 -- The tokens of an instruction's text: words, numbers, names and single characters.
 use Rattle.std.specs.Prelude.{ℕ, ◌+◌, ◌-◌, ◌*◌, Bool, true, false, ◌&&◌, ◌||◌, ◌==◌, not, nat_le, nat_lt, if◌then◌else◌, List, [], ◌∷◌, ◌++◌, length, codes}
 use Rattle.std.specs.Str.{bytes_eq}
+use Rattle.text_lines.specs.Digits.{is_hexadecimal}
 
 -- a word is the longest run of letters, digits, underscores and dollar signs. A word that is a number
 -- or a name is that token; every other one is itself
@@ -24,11 +25,7 @@ is_named c = is_letter c || is_digit c || c == 95
 unfoldable pub is_worded : ℕ → Bool
 is_worded c = is_named c || c == 36
 
--- a hexadecimal digit, of either case
-abbrev pub is_hexadecimal : ℕ → Bool
-is_hexadecimal c = is_digit c || (nat_le 97 c && nat_le c 102) || (nat_le 65 c && nat_le c 70)
-
--- its value
+-- the value of a hexadecimal digit
 abbrev pub digit_value : ℕ → ℕ
 digit_value c = if nat_lt c 58 then c - 48 else (if nat_lt c 71 then c - 55 else c - 87)
 

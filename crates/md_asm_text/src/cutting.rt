@@ -1,4 +1,4 @@
-ghost use Rattle.std.specs.Prelude.{◌≡◌, ◌<◌, ◌≤◌, ◌+◌, ◌∷◌, length, take, drop, nat_lt};
+ghost use Rattle.std.specs.Prelude.{◌≡◌, ◌≤◌, ◌+◌, length, take, drop, nat_lt};
 ghost use Rattle.md_asm_text.specs.Texts as meaning;
 
 /// The count of characters before the first one like this; of all of them without one.
@@ -42,15 +42,4 @@ pub(crate) fn following(text: &[u8], mark: u8) -> &[u8]
     } else {
         &text[count..]
     }
-}
-
-/// The first line of a text that has bytes, without its line feed, and the text after it.
-pub fn next_line(text: &[u8]) -> (&[u8], &[u8])
-    requires { 0 < length text.now }
-    ensures lines { meaning.lines text.now ≡ result.0.now ∷ meaning.lines result.1.now }
-    ensures shorter { length result.1.now < length text.now }
-{
-    let line = before(text, 10);
-    let rest = following(text, 10);
-    (line, rest)
 }

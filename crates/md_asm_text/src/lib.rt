@@ -16,7 +16,6 @@ mod words;
 
 pub use body::Body;
 pub use comparing::same;
-pub use cutting::next_line;
 pub use line::{Line, read_line};
 pub use operands::{first_operand, second_operand};
 pub use splitter::split;

@@ -1,21 +1,16 @@
 ghost use Rattle.std.specs.Prelude.{◌≡◌, ◌<◌, ◌≤◌, ◌^◌, ◌+◌, ◌*◌, [], length, true, if◌then◌else◌};
+ghost use Rattle.text_lines.specs.Digits.{is_hexadecimal};
 ghost use Rattle.md_asm_text.specs.Bounds.{limit};
 ghost use Rattle.md_asm_text.specs.Tokens as meaning;
 ghost use Rattle.md_asm_text.specs.Shown.{shown};
 
-use crate::characters::{is_digit, is_letter, is_named};
+use crate::characters::{is_letter, is_named};
 use crate::token::Token;
-
-/// Whether a character is a hexadecimal digit, of either case.
-fn is_hexadecimal(c: u8) -> bool
-    ensures { result ≡ meaning.is_hexadecimal c }
-{
-    is_digit(c) || (c >= 97 && c <= 102) || (c >= 65 && c <= 70)
-}
+use text_lines::is_hexadecimal;
 
 /// Whether all characters are hexadecimal digits.
 fn are_hexadecimal(text: &[u8]) -> bool
-    ensures { result ≡ meaning.every meaning.is_hexadecimal text.now }
+    ensures { result ≡ meaning.every is_hexadecimal text.now }
 {
     let mut rest = text;
     while let [c, after @ ..] = rest {
@@ -57,7 +52,7 @@ fn digit_value(c: u8) -> u8
 /// The value of digits after those that have a value already.
 fn value_after(before: u32, text: &[u8]) -> u32
     requires few { length text.now ≤ 8 }
-    requires digits { meaning.every meaning.is_hexadecimal text.now ≡ true }
+    requires digits { meaning.every is_hexadecimal text.now ≡ true }
     requires room { before < limit (length text.now) }
     ensures { result ≡ meaning.value_after before text.now }
 {
@@ -74,7 +69,7 @@ fn value_after(before: u32, text: &[u8]) -> u32
 #[tactic(auto, using(crate::proofs::Values::limit_eight))]
 fn value(text: &[u8]) -> u32
     requires few { length text.now ≤ 8 }
-    requires digits { meaning.every meaning.is_hexadecimal text.now ≡ true }
+    requires digits { meaning.every is_hexadecimal text.now ≡ true }
     ensures { result ≡ meaning.value_after 0 text.now }
 {
     value_after(0, text)

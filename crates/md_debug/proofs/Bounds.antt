@@ -3,7 +3,8 @@ use Rattle.std.proofs.Common.{◌≡◌, ℕ, ◌%◌, ◌^◌, ◌<◌, ◌≤�
 use Rattle.std.specs.List.{list_all}
 use Rattle.std.proofs.lemmas.Bool.Decides.{nat_tests}
 use Rattle.debug_text.specs.Commands.{bare, following, command_of, even_place, is_seven_bit, number_in, numbered, place_in, read_by, within, word_in, word_of}
-use Rattle.debug_text.specs.Numbers.{address_of, decimal_of}
+use Rattle.text_lines.specs.Digits.{decimal_of}
+use Rattle.debug_text.specs.Numbers.{address_of}
 use Rattle.debug_text.specs.declared.command.Command.{Command}
 use Rattle.debug_text.specs.declared.command.Command.TheVariants.{Step, RunTo, Back, Regs, Mem, Dis, Trace, Report}
 use Rattle.debug_text.specs.declared.command.Misread.TheVariants.{UnknownWord}

@@ -1,26 +1,16 @@
 -- What a line of a session's script asks for. This project's profile.
-use Rattle.std.specs.Prelude.{ℕ, ◌^◌, nat_le, nat_lt, ◌&&◌, ◌||◌, Bool, if◌then◌else◌, List, length, codes, bytes_eq, Option, Some, None, option_map, option_and_then}
-use Rattle.std.specs.Char.{is_ascii_digit}
+use Rattle.std.specs.Prelude.{ℕ, if◌then◌else◌, List, codes, bytes_eq, Option, Some, None, option_map, option_and_then}
 use Rattle.std.specs.List.{list_all}
-use Rattle.std.specs.Str.Parse.{digits_value}
+use Rattle.text_lines.specs.Digits.{decimal_of, hexadecimal_of, is_hexadecimal}
 use Rattle.debug_text.specs.Commands.{following, is_seven_bit, word_in}
-use Rattle.debug_text.specs.Numbers.{decimal_of}
 use Rattle.md_rollback.specs.declared.line.Line.{Line}
 use Rattle.md_rollback.specs.declared.line.Line.TheVariants.{Press, Advance}
 use Rattle.md_rollback.specs.declared.line.Player.{Player}
 use Rattle.md_rollback.specs.declared.line.Player.TheVariants.{Local, Remote}
 
--- one of 0 to 9, a to f and A to F
-abbrev pub is_hexadecimal : ℕ → Bool
-is_hexadecimal c = is_ascii_digit c || (nat_le 97 c && nat_le c 102) || (nat_le 65 c && nat_le c 70)
-
--- 1 to 4 hexadecimal digits
-abbrev pub are_hexadecimal : List ℕ → Bool
-are_hexadecimal word = nat_le 1 (length word) && nat_le (length word) 4 && list_all is_hexadecimal word
-
--- .. with a value of 16 bits
+-- 1 to 4 hexadecimal digits of either case, with a value of 16 bits
 abbrev pub buttons_of : List ℕ → Option ℕ
-buttons_of word = if are_hexadecimal word && nat_lt (digits_value 16 word) (2 ^ 16) then Some (digits_value 16 word) else None
+buttons_of word = hexadecimal_of is_hexadecimal 4 16 word
 
 -- a frame, and after a blank the buttons that a player has in it
 abbrev pub press_of : Player → List ℕ → Option Line

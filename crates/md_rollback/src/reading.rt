@@ -1,13 +1,14 @@
 ghost use Rattle.std.specs.Prelude.{◌≡◌, option_map, option_and_then};
 ghost use Rattle.std.specs.Option.{option_copied};
 ghost use Rattle.debug_text.specs.Commands.{following, word_in};
-ghost use Rattle.debug_text.specs.Numbers.{decimal_of};
+ghost use Rattle.text_lines.specs.Digits.{decimal_of};
 ghost use Rattle.md_rollback.specs.Lines as meaning;
 
 use crate::line::{Line, Player};
 use crate::number::read_buttons;
-use debug_text::{following, is_ascii, read_decimal, word_in};
+use debug_text::{following, is_ascii, word_in};
 use std::str::from_utf8;
+use text_lines::read_decimal;
 
 /// Reads a line of a script, without its line feed; `None` where it asks for nothing that there is.
 pub fn read_line(line: &[u8]) -> Option<Line>

@@ -1,5 +1,6 @@
 use Rattle.std.proofs.Common.{◌≡◌, length}
-use Rattle.md_asm_text.specs.Tokens.{every, is_hexadecimal}
+use Rattle.text_lines.specs.Digits.{is_hexadecimal}
+use Rattle.md_asm_text.specs.Tokens.{every}
 use Rattle.md_asm_text.proofs.words.are_hexadecimal.Given as goal
 
 abbrev pub invariant-loop-rest : goal.invariant-loop-rest

@@ -1,6 +1,0 @@
-use Rattle.std.proofs.Common.{◌∙◌, sym}
-use Rattle.debug_text.proofs.Numerals.{decimal_is}
-use Rattle.debug_text.proofs.number.read_decimal.Goals as goal
-
-pub returns-then-is_decimal : goal.returns-then-is_decimal
-returns-then-is_decimal c = c.ok.ensures.value ∙ decimal_is c.args.word.now c.parse.result (sym c.is_decimal.ensures ∙ c.if-is_decimal.true) c.parse.ensures.value.0
