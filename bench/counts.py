@@ -5,13 +5,13 @@
 
 For each cartridge callgrind counts the instructions of a run of 10 frames and of one of 30, with frames, sound and
 journal written; a twentieth of the difference is what one of frames 10 to 30 takes. The table has millions, to
-the hundredth. A count hangs on the program and on the cartridge alone, and not on how busy the machine is: two
+the hundredth. A count depends on the program and on the cartridge alone, and not on how busy the machine is: two
 programs of one cartridge compare to a hundredth. Without names it counts show, busy, demo7, transfer, idle, data,
-mix, scale and chord: `demo7` is the demonstration cartridge of 7, the others are those of frames.py, which tells what
+mix, scale, chord and game: `demo7` is the demonstration cartridge of 7, the others are those of frames.py, which tells what
 they do. A name that is a file's is counted as a cartridge of the user's.
 
 callgrind counts each byte of `rep stosb` and `rep movsb`, which a processor does sixteen and more at a time: clearing
-a picture and copying it out take 0.445 of each row so. Needs valgrind. All nine take a few minutes.
+a picture and copying it out take 0.445 of each row so. Needs valgrind. All ten take a few minutes.
 """
 import argparse
 import os
@@ -25,7 +25,7 @@ from concurrent.futures import ThreadPoolExecutor
 import frames
 import hostile
 
-NAMES = ("show", "busy", "demo7", "transfer", "idle", "data", "mix", "scale", "chord")
+NAMES = ("show", "busy", "demo7", "transfer", "idle", "data", "mix", "scale", "chord", "game")
 FIRST, LAST = 10, 30
 # cycles of a frame: 262 lines, and 313
 NTSC, PAL = 896_040, 1_070_460

@@ -4,14 +4,15 @@ built.
 
     bench/frames.py [FRAMES [IMAGE]]
 
-It runs the cartridge IMAGE, or eight if none is named, for FRAMES frames of 896,040 cycles, 600 if not
+It runs the cartridge IMAGE, or nine if none is named, for FRAMES frames of 896,040 cycles, 600 if not
 given, with one worker and with sound and journal: `idle` is a branch to itself, `mix` a loop of thirteen
 instructions that each frame has some 9,400 of, `scale`, `chord` and `show` are those of examples,
 `transfer` moves 7,500 bytes into the VDP's memory in the vertical blanking of each frame, `data` writes a
 word to the VDP's data port 5,818 times a frame, and in `busy` the Z80 writes the FM chip's converter 1,810
-times a frame, while the 68000 sleeps and writes 275 words in each vertical interrupt. Frames are
-drawn in each, and written in none. Then it runs `mix`, `chord` and `show` with 2, 3 and 5 workers
-(workers.py compares several workers with one).
+times a frame, while the 68000 sleeps and writes 275 words in each vertical interrupt. `game`, of game.asm,
+has chords of the FM chip, a melody, two planes, 40 sprites and a transfer a frame, and writes to the VDP
+in the vertical interrupt alone. Frames are drawn in each, and written in none. Then it runs `mix`,
+`chord`, `show` and `game` with 2, 3 and 5 workers (workers.py compares several workers with one).
 The times are those of the clock on the wall, the program's start and the writing of its files included;
 the switches are those of all its threads, those that wait and those that are made to. Of `idle` and `mix`
 the moves are known, and a second line has the nanoseconds of one: the 68000's, one an instruction, the
@@ -170,7 +171,7 @@ def measure(name, image, frames, folder, workers=1):
 
 
 def images(folder):
-    """The eight cartridges, made in a folder, by their names."""
+    """The nine cartridges, made in a folder, by their names."""
     texts = {"idle": IDLE, "mix": MIX, "transfer": TRANSFER, "data": DATA, "busy": BUSY}
     made = {}
     for name in ("idle", "mix", "scale", "chord", "transfer", "data", "busy", "show"):
@@ -179,6 +180,8 @@ def images(folder):
             source = folder / f"{name}.asm"
             source.write_text(texts[name])
         build(source, made[name])
+    made["game"] = folder / "game.bin"
+    build(TOP / "bench" / "game.asm", made["game"])
     return made
 
 
@@ -195,7 +198,7 @@ def main():
         made = images(folder)
         for cartridge, image in made.items():
             measure(cartridge, image, frames, folder)
-        for cartridge in ("mix", "chord", "show"):
+        for cartridge in ("mix", "chord", "show", "game"):
             for workers in (2, 3, 5):
                 measure(cartridge, made[cartridge], frames, folder, workers)
 

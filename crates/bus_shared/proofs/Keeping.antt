@@ -1,6 +1,7 @@
 -- A board whose parts may be kept is kept by its bytes.
 use Rattle.std.proofs.Common.{◌≡◌, ℕ, ◌^◌, ◌<◌, ◌≤◌, Bool, true, List, arith, refl, inl, inr}
 use Rattle.std.proofs.lemmas.Bool.{cases_eq, eq-eqb, eqb-true, le-leb, leb-true, lt-ltb, ltb-true, ne_eqb}
+use Rattle.md_word.specs.Clock.{cycle_limit}
 use Rattle.md_fields.specs.Fields.{AllHold, AreWithin}
 use Rattle.md_fields.specs.Items.{IsRight}
 use Rattle.md_fields.proofs.Items.{rules_hold, none_invalid}
@@ -30,7 +31,7 @@ fall_from at port holds =
       | inr some ↦ record { none = λ none. absurd (some none); some = λ _. ltb-true port.fall at (rw (ne_eqb port.count 0 some) at holds) }
     ]
 
-fall_small : (at : ℕ) (port : Port) → at ≤ 2 ^ 50 → IsCounted at port → port.fall < 2 ^ 64
+fall_small : (at : ℕ) (port : Port) → at ≤ cycle_limit → IsCounted at port → port.fall < 2 ^ 64
 fall_small at port small is =
     elim (cases_eq port.count 0) [
       | inl none ↦ omega (arith, is.none none)
@@ -48,7 +49,7 @@ right_to at board ok is =
       ),
     )
 
-within : (at : ℕ) (board : Board) → at ≤ 2 ^ 50 → IsBoard board → IsReady at board → AreWithin (lines_fields at (lines_of board))
+within : (at : ℕ) (board : Board) → at ≤ cycle_limit → IsBoard board → IsReady at board → AreWithin (lines_fields at (lines_of board))
 unfolding AreWithin
 within at board small ok is = (
   flag_byte board.request,
@@ -61,7 +62,7 @@ within at board small ok is = (
   ),
 )
 
-pub board_spelled : (at : ℕ) (board : Board) → at ≤ 2 ^ 50 → IsBoard board → IsReady at board
+pub board_spelled : (at : ℕ) (board : Board) → at ≤ cycle_limit → IsBoard board → IsReady at board
     → vdp_spelling.Spells at board.vdp.pal (vdp_spelling.vdp_bytes (settled_board at board).vdp) (settled_board at board).vdp
     → fm_spelling.SpellsPort at (fm_spelling.port_bytes (settled_board at board).fm) (settled_board at board).fm
     → psg_spelling.SpellsPort at (psg_spelling.port_bytes board.psg) board.psg

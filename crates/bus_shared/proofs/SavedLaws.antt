@@ -1,6 +1,7 @@
 -- Laws of the lines and the pads as they are kept.
-use Rattle.std.proofs.Common.{◌≡◌, ℕ, ◌^◌, ◌≤◌, true, inl, inr, arith, List, ◌++◌, length, refl, sym, ap, ◌∙◌, append_assoc}
+use Rattle.std.proofs.Common.{◌≡◌, ℕ, ◌≤◌, true, inl, inr, arith, List, ◌++◌, length, refl, sym, ap, ◌∙◌, append_assoc}
 use Rattle.std.proofs.lemmas.Bool.{cases_eq, eqb-true, leb-true, ltb-true, ne_eqb}
+use Rattle.md_word.specs.Clock.{cycle_limit}
 use Rattle.md_fields.specs.Fields.{AllHold, sizes, spelling}
 use Rattle.md_fields.specs.Items.{IsRight, Keeps}
 use Rattle.md_fields.specs.Places.{Stand}
@@ -66,7 +67,7 @@ flags_of at n right =
     let h1 = h0.1 in
     record { bus_request = leb-true n.bus_request 1 h0.0; reset = leb-true n.reset 1 h1.0 }
 
-fall-few : (at count fall : ℕ) → at ≤ 2 ^ 50 → is_fall at count fall ≡ true → fall ≤ 2 ^ 50
+fall-few : (at count fall : ℕ) → at ≤ cycle_limit → is_fall at count fall ≡ true → fall ≤ cycle_limit
 fall-few at count fall small holds =
     elim (cases_eq count 0) [
       | inl none ↦ let last = eqb-true fall 0 (rw none at holds) in omega arith
@@ -74,7 +75,7 @@ fall-few at count fall small holds =
     ]
 
 -- the falls of right numbers
-pub falls_of : (at : ℕ) (n : SavedLines) → at ≤ 2 ^ 50 → IsRight (lines_fields at) n → AreFalls n
+pub falls_of : (at : ℕ) (n : SavedLines) → at ≤ cycle_limit → IsRight (lines_fields at) n → AreFalls n
 unfolding AllHold
 falls_of at n small right =
     let h0 = rules_hold 0 (lines_fields at n) right in

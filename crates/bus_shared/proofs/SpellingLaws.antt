@@ -22,6 +22,7 @@ use Rattle.psg_sound.proofs.PortBytes as psg_laws
 use Rattle.vdp_ports.specs.Numbers.{numbers_of, vdp_of}
 use Rattle.vdp_ports.specs.Saved.{vdp_fields}
 use Rattle.vdp_ports.specs.Spelling as vdp_spelling
+use Rattle.vdp_ports.specs.Spelling.{vdp_size}
 use Rattle.vdp_ports.specs.Vdp.{Vdp}
 use Rattle.vdp_ports.proofs.SavedLaws as vdp_laws
 use Rattle.z80_parcel.specs.Parcels.{IsStore, Store}
@@ -55,11 +56,11 @@ unfolding sizes AreSized
 store_long None ok = long_as_sized (store_fields true None) tt
 store_long (Some store) ok = long_as_sized (store_fields true (Some store)) (ok.ram, (tt, tt))
 
-pub board_long : (has : Bool) → board_size has ≡ store_size has + 88407
+pub board_long : (has : Bool) → board_size has ≡ store_size has + board_size false
 board_long true = refl
 board_long false = refl
 
-vdp_long : (at : ℕ) (pal : Bool) (bytes : List ℕ) (s : Vdp) → vdp_spelling.Spells at pal bytes s → length bytes ≡ 65813
+vdp_long : (at : ℕ) (pal : Bool) (bytes : List ℕ) (s : Vdp) → vdp_spelling.Spells at pal bytes s → length bytes ≡ vdp_size
 vdp_long at pal bytes s p = ap length p.keeps.all ∙ long_as (vdp_fields at pal (numbers_of s)) p.keeps.within ∙ vdp_laws.fields_size at pal (numbers_of s)
 
 fm_long : (at : ℕ) (bytes : List ℕ) (p : fm_ports.Port) → fm_spelling.SpellsPort at bytes p → length bytes ≡ 12316
@@ -75,7 +76,7 @@ lines_long at bytes n keeps = ap length keeps.all ∙ long_as (lines_fields at n
 
 -- ---- bytes are cut into the parts that they are made of
 
-cut_of : (a b c d e : List ℕ) → length b ≡ 65813 → length c ≡ 12316 → length d ≡ 10242 → length e ≡ 36
+cut_of : (a b c d e : List ℕ) → length b ≡ vdp_size → length c ≡ 12316 → length d ≡ 10242 → length e ≡ 36
     → cut (a ++ (b ++ (c ++ (d ++ e)))) ≡ record { store = a; vdp = b; fm = c; psg = d; lines = e }
 cut_of a b c d e lb lc ld le =
     let rest = b ++ (c ++ (d ++ e)) in
@@ -83,11 +84,11 @@ cut_of a b c d e lb lc ld le =
     let n : length a ≡ store_length bytes =
     omega (arith, length-append a rest, length-append b (c ++ (d ++ e)), length-append c (d ++ e), length-append d e, lb, lc, ld, le) in
     let following : drop (store_length bytes) bytes ≡ rest = drop_at a rest (store_length bytes) n in
-    let past_vdp : drop 65813 (drop (store_length bytes) bytes) ≡ c ++ (d ++ e) = ap (drop 65813) following ∙ drop_at b (c ++ (d ++ e)) 65813 lb in
-    let past_fm : drop 12316 (drop 65813 (drop (store_length bytes) bytes)) ≡ d ++ e = ap (drop 12316) past_vdp ∙ drop_at c (d ++ e) 12316 lc in
+    let past_vdp : drop vdp_size (drop (store_length bytes) bytes) ≡ c ++ (d ++ e) = ap (drop vdp_size) following ∙ drop_at b (c ++ (d ++ e)) vdp_size lb in
+    let past_fm : drop 12316 (drop vdp_size (drop (store_length bytes) bytes)) ≡ d ++ e = ap (drop 12316) past_vdp ∙ drop_at c (d ++ e) 12316 lc in
     λ i. record {
       store = take_at a rest (store_length bytes) n i;
-      vdp = (ap (take 65813) following ∙ take_at b (c ++ (d ++ e)) 65813 lb) i;
+      vdp = (ap (take vdp_size) following ∙ take_at b (c ++ (d ++ e)) vdp_size lb) i;
       fm = (ap (take 12316) past_vdp ∙ take_at c (d ++ e) 12316 lc) i;
       psg = (ap (take 10242) past_fm ∙ take_at d e 10242 ld) i;
       lines = (ap (drop 10242) past_fm ∙ drop_at d e 10242 ld) i;
@@ -113,14 +114,14 @@ pub joined_again : (bytes : List ℕ) → (cut bytes).store ++ ((cut bytes).vdp 
 joined_again bytes =
     let n = store_length bytes in
     let following = drop n bytes in
-    let past_vdp = drop 65813 following in
+    let past_vdp = drop vdp_size following in
     let past_fm = drop 12316 past_vdp in
-    ap (λ (l : List ℕ). take n bytes ++ (take 65813 following ++ (take 12316 past_vdp ++ l))) (take-append-drop 10242 past_fm)
-    ∙ ap (λ (l : List ℕ). take n bytes ++ (take 65813 following ++ l)) (take-append-drop 12316 past_vdp)
-    ∙ ap (λ (l : List ℕ). take n bytes ++ l) (take-append-drop 65813 following)
+    ap (λ (l : List ℕ). take n bytes ++ (take vdp_size following ++ (take 12316 past_vdp ++ l))) (take-append-drop 10242 past_fm)
+    ∙ ap (λ (l : List ℕ). take n bytes ++ (take vdp_size following ++ l)) (take-append-drop 12316 past_vdp)
+    ∙ ap (λ (l : List ℕ). take n bytes ++ l) (take-append-drop vdp_size following)
     ∙ take-append-drop n bytes
 
-length_by : (store : Option Store) (n : ℕ) → n ≡ store_size (is_some store) + 88407 → (n ≡ 88407) ⊎ (n ≡ 96601)
+length_by : (store : Option Store) (n : ℕ) → n ≡ store_size (is_some store) + board_size false → (n ≡ board_size false) ⊎ (n ≡ board_size true)
 length_by None n e = inl e
 length_by (Some store) n e = inr e
 
@@ -188,9 +189,9 @@ parts_once : (at : ℕ) (pal : Bool) (start : ℕ) (parts : Parts) (p q : ℕ) �
 parts_once at pal start parts =
     from_once 0 _ _ (store_once parts.store)
     (from_once start _ _ (vdp_laws.only_place at pal parts.vdp)
-    (from_once (start + 65813) _ _ (fm_laws.invalid_once at parts.fm)
-    (from_once (start + 65813 + 12316) _ _ (psg_laws.invalid_once at parts.psg)
-    (from_once (start + 65813 + 22558) _ _ (lines_laws.lines_once at parts.lines) (λ p q a b. absurd a)))))
+    (from_once (start + vdp_size) _ _ (fm_laws.invalid_once at parts.fm)
+    (from_once (start + vdp_size + 12316) _ _ (psg_laws.invalid_once at parts.psg)
+    (from_once (start + vdp_size + 22558) _ _ (lines_laws.lines_once at parts.lines) (λ p q a b. absurd a)))))
 
 pub invalid_once : (at : ℕ) (pal : Bool) (bytes : List ℕ) (p q : ℕ) → InvalidAt at pal bytes p → InvalidAt at pal bytes q → p ≡ q
 invalid_once at pal bytes p q (inl a) (inl b) = a.1 ∙ sym b.1
@@ -256,8 +257,8 @@ spelled_once at pal bytes s t p q recording =
 
 -- ---- offsets are near
 
-pub vdp_near : (at : ℕ) (pal : Bool) (bytes : List ℕ) (place : ℕ) → vdp_spelling.InvalidAt at pal bytes place → place ≤ 65813
-vdp_near at pal bytes place invalid = refused_within (vdp_fields at pal) bytes 65813 (vdp_laws.fields_size at pal) place invalid
+pub vdp_near : (at : ℕ) (pal : Bool) (bytes : List ℕ) (place : ℕ) → vdp_spelling.InvalidAt at pal bytes place → place ≤ vdp_size
+vdp_near at pal bytes place invalid = refused_within (vdp_fields at pal) bytes vdp_size (vdp_laws.fields_size at pal) place invalid
 
 pub psg_near : (at : ℕ) (bytes : List ℕ) (place : ℕ) → psg_spelling.PortInvalidAt at bytes place → place ≤ 10242
 psg_near at bytes place invalid = refused_within (psg_spelling.port_fields at) bytes 10242 (psg_laws.port_size at) place invalid
@@ -382,11 +383,11 @@ pub vdp_exit : (at : ℕ) (pal : Bool) (bytes : List ℕ) (p place : ℕ) → Is
 vdp_exit at pal bytes p place long none invalid e = inr (long, inr (none, inl (p, invalid, e)))
 
 pub ports_exit : (at : ℕ) (pal : Bool) (bytes : List ℕ) (p place : ℕ) → IsLength bytes → ((q : ℕ) → StoreInvalidAt (cut bytes).store q → ⊥)
-    → ((q : ℕ) → vdp_spelling.InvalidAt at pal (cut bytes).vdp q → ⊥) → PortsIn at (drop 65813 (drop (store_length bytes) bytes)) p
-    → place ≡ store_length bytes + 65813 + p → InvalidAt at pal bytes place
+    → ((q : ℕ) → vdp_spelling.InvalidAt at pal (cut bytes).vdp q → ⊥) → PortsIn at (drop vdp_size (drop (store_length bytes) bytes)) p
+    → place ≡ store_length bytes + vdp_size + p → InvalidAt at pal bytes place
 ports_exit at pal bytes p place long none no_vdp invalid e =
     subst (InvalidAt at pal bytes) (sym e)
-    (inr (long, inr (none, inr (no_vdp, ports_after at (store_length bytes + 65813) (cut bytes).fm (cut bytes).psg (cut bytes).lines p invalid))))
+    (inr (long, inr (none, inr (no_vdp, ports_after at (store_length bytes + vdp_size) (cut bytes).fm (cut bytes).psg (cut bytes).lines p invalid))))
 
 pub ports_near : (at : ℕ) (fm psg lines : List ℕ) (place : ℕ) → PortsInvalidAt at 0 fm psg lines place → place ≤ 22594
 ports_near at fm psg lines place (inl w) = omega (arith, w.2, refused_within (fm_spelling.port_fields at) fm 12316 (fm_laws.port_size at) w.0 w.1)

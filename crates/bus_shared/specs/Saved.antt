@@ -1,6 +1,7 @@
 -- What a saved state keeps of the lines between the chips and of the pads: its numbers, whatever they
 -- are, with their order, their sizes and their rules. This project's profile.
-use Rattle.std.specs.Prelude.{ℕ, ◌^◌, ◌≤◌, Bool, if◌then◌else◌, ◌==◌, nat_le, nat_lt, true, List, [], ◌∷◌, Option}
+use Rattle.std.specs.Prelude.{ℕ, ◌≤◌, Bool, if◌then◌else◌, ◌==◌, nat_le, nat_lt, true, List, [], ◌∷◌, Option}
+use Rattle.md_word.specs.Clock.{cycle_limit}
 use Rattle.md_fields.specs.Fields.{Field, byte, word, quad}
 use Rattle.md_word.specs.Coding.{flag_number}
 use Rattle.fm_port.specs.Port.{Port}
@@ -71,6 +72,6 @@ lines_fields at n =
 -- so many falls were counted, and at such cycles
 pub record AreFalls (n : SavedLines) : Type 0 where
   pub count1 : n.count1 ≤ 4
-  pub fall1 : n.fall1 ≤ 2 ^ 50
+  pub fall1 : n.fall1 ≤ cycle_limit
   pub count2 : n.count2 ≤ 4
-  pub fall2 : n.fall2 ≤ 2 ^ 50
+  pub fall2 : n.fall2 ≤ cycle_limit

@@ -17,6 +17,7 @@ use Rattle.sound_writes.specs.Keys.{are_kept}
 use Rattle.vdp_dma.specs.Settling.{settled}
 use Rattle.vdp_ports.specs.Rules.{HasRules}
 use Rattle.vdp_ports.specs.Spelling as vdp_spelling
+use Rattle.vdp_ports.specs.Spelling.{vdp_size}
 use Rattle.z80_parcel.specs.Parcels.{IsStore, Store}
 use Rattle.z80_parcel.specs.Spelling.{store_fields}
 use Rattle.bus_shared.specs.Board.{Board}
@@ -93,7 +94,7 @@ pub record Parts : Type 0 where
 
 -- how many bytes are too much for the other parts
 abbrev pub store_length : List ℕ → ℕ
-store_length bytes = length bytes - 88407
+store_length bytes = length bytes - board_size false
 
 -- bytes as the parts in their order
 abbrev pub cut : List ℕ → Parts
@@ -101,10 +102,10 @@ cut bytes =
     let following = drop (store_length bytes) bytes in
     record {
       store = take (store_length bytes) bytes;
-      vdp = take 65813 following;
-      fm = take 12316 (drop 65813 following);
-      psg = take 10242 (drop 12316 (drop 65813 following));
-      lines = drop 10242 (drop 12316 (drop 65813 following));
+      vdp = take vdp_size following;
+      fm = take 12316 (drop vdp_size following);
+      psg = take 10242 (drop 12316 (drop vdp_size following));
+      lines = drop 10242 (drop 12316 (drop vdp_size following));
     }
 
 -- the offset of a refusal in what follows a start
@@ -137,15 +138,15 @@ abbrev pub PartsInvalidAt : ℕ → Bool → ℕ → Parts → ℕ → Type 0
 PartsInvalidAt at pal start parts =
     InvalidFrom 0 (StoreInvalidAt parts.store)
     (InvalidFrom start (vdp_spelling.InvalidAt at pal parts.vdp)
-    (PortsInvalidAt at (start + 65813) parts.fm parts.psg parts.lines))
+    (PortsInvalidAt at (start + vdp_size) parts.fm parts.psg parts.lines))
 
 -- as many bytes as there can be
 abbrev pub IsLength : List ℕ → Type 0
-IsLength bytes = (length bytes ≡ 88407) ⊎ (length bytes ≡ 96601)
+IsLength bytes = (length bytes ≡ board_size false) ⊎ (length bytes ≡ board_size true)
 
 -- bytes of a state at a cycle and of a region that keep no board are invalid at this offset: by their
 -- length, at the lesser one, or by the first part that is invalid
 abbrev pub InvalidAt : ℕ → Bool → List ℕ → ℕ → Type 0
 InvalidAt at pal bytes place =
-    ((IsLength bytes → ⊥) × (place ≡ min (length bytes) 96601))
+    ((IsLength bytes → ⊥) × (place ≡ min (length bytes) (board_size true)))
     ⊎ (IsLength bytes × PartsInvalidAt at pal (store_length bytes) (cut bytes) place)

@@ -1,5 +1,6 @@
 //! Each access: its answer, its entry in the journal, and what it changes on the board.
-ghost use Rattle.std.specs.Prelude.{◌≡◌, ◌^◌, ◌<◌, ◌≤◌, None};
+ghost use Rattle.std.specs.Prelude.{◌≡◌, ◌<◌, ◌≤◌, None};
+ghost use Rattle.md_word.specs.Clock.{cycle_limit};
 ghost use Rattle.fm_port.specs.Port as fm_ports;
 ghost use Rattle.psg_sound.specs.Port.{taken_below};
 ghost use Rattle.bus_shared.specs.Accesses.{carried, chip_of, answer_value_of};
@@ -25,7 +26,7 @@ impl Shared {
     #[tactic(auto, unfolding(crate::specs::Accesses::main_answer, crate::specs::Accesses::main_value, crate::specs::Accesses::main_transfer, crate::specs::Accesses::main_cost, crate::specs::Accesses::main_board))]
     fn main_answer(&mut self, key: Key, request: Request68) -> Answer68
         requires chip { key.chip ≡ 0 }
-        requires soon { key.cycle ≤ 2 ^ 50 }
+        requires soon { key.cycle ≤ cycle_limit }
         ensures answer { result ≡ accesses.main_answer self.old key request }
         ensures board { self.new ≡ accesses.main_board self.old key request }
     {
@@ -47,7 +48,7 @@ impl Shared {
     #[tactic(auto, unfolding(crate::specs::Accesses::main_answer, crate::specs::Accesses::main_reported))]
     pub fn carry_out_main(&mut self, key: Key, request: Request68) -> (Answer68, Entry)
         requires chip { key.chip ≡ 0 }
-        requires soon { key.cycle ≤ 2 ^ 50 }
+        requires soon { key.cycle ≤ cycle_limit }
         ensures answer { result.0 ≡ accesses.main_answer self.old key request }
         ensures entry { result.1 ≡ accesses.main_reported self.old key request }
         ensures board { self.new ≡ accesses.main_board self.old key request }
@@ -62,7 +63,7 @@ impl Shared {
     #[tactic(auto, unfolding(crate::specs::Accesses::sub_access))]
     pub fn carry_out_sub(&mut self, key: Key, request: Request80) -> (Answer80, Entry)
         requires chip { key.chip < 2 }
-        requires soon { key.cycle ≤ 2 ^ 50 }
+        requires soon { key.cycle ≤ cycle_limit }
         ensures answer { answer_value80_of result.0 ≡ (accesses.sub_access self.old key (request_value80_of request)).answer }
         ensures entry { result.1 ≡ (accesses.sub_access self.old key (request_value80_of request)).entry }
         ensures board { self.new ≡ (accesses.sub_access self.old key (request_value80_of request)).board }
@@ -84,7 +85,7 @@ impl Shared {
     /// Carries out the start of a line.
     #[tactic(auto, unfolding(crate::specs::Accesses::line_board))]
     fn line(&mut self, cycle: u64, note: SpriteNote)
-        requires { cycle ≤ 2 ^ 50 }
+        requires { cycle ≤ cycle_limit }
         ensures { self.new ≡ accesses.line_board self.old cycle note }
     {
         let first = line_of(cycle, self.vdp.pal) == 0;
@@ -150,7 +151,7 @@ fn costing(cost: u16) -> Answer68
 #[tactic(auto, unfolding(crate::specs::Accesses::carried))]
 pub fn carry_out(shared: &mut Shared, key: Key, request: Request) -> (Answer, Entry)
     requires chip { key.chip ≡ chip_of request }
-    requires soon { key.cycle ≤ 2 ^ 50 }
+    requires soon { key.cycle ≤ cycle_limit }
     ensures answer { answer_value_of result.0 ≡ (carried shared.old key request).answer }
     ensures entry { result.1 ≡ (carried shared.old key request).entry }
     ensures board { shared.new ≡ (carried shared.old key request).board }
@@ -186,7 +187,7 @@ pub fn carry_out(shared: &mut Shared, key: Key, request: Request) -> (Answer, En
 /// most 2^50: its entry in the journal. The line may then be drawn from the board's `scene`, which is
 /// what the view of a request would show.
 pub fn start_line(shared: &mut Shared, key: Key, note: SpriteNote) -> Entry
-    requires { key.cycle ≤ 2 ^ 50 }
+    requires { key.cycle ≤ cycle_limit }
     ensures board { shared.new ≡ accesses.line_board shared.old key.cycle note }
     ensures entry { result ≡ entries.line_entry shared.new.vdp.pal key (accesses.level_of shared.new) }
 {

@@ -1,5 +1,6 @@
 //! The areas of the 68000's address map that the chips share.
-ghost use Rattle.std.specs.Prelude.{◌≡◌, ◌^◌, ◌≤◌};
+ghost use Rattle.std.specs.Prelude.{◌≡◌, ◌≤◌};
+ghost use Rattle.md_word.specs.Clock.{cycle_limit};
 ghost use Rattle.md_word.specs.Map.{area_of};
 ghost use Rattle.bus_shared.specs.Areas as areas;
 ghost use Rattle.bus_shared.specs.Video as video;
@@ -13,7 +14,7 @@ use md_word::{Area, Key, Transfer};
 impl Shared {
     #[tactic(auto, unfolding(crate::specs::Areas::byte_in, crate::specs::Areas::read_in))]
     pub(crate) fn read_byte(&mut self, key: Key, address: u32) -> u8
-        requires { key.cycle ≤ 2 ^ 50 }
+        requires { key.cycle ≤ cycle_limit }
         ensures value { result ≡ areas.byte_at (area_of address) self.old key address }
         ensures board { self.new ≡ areas.read_at (area_of address) self.old key address }
     {
@@ -29,7 +30,7 @@ impl Shared {
 
     #[tactic(auto, unfolding(crate::specs::Areas::word_in, crate::specs::Areas::read_in))]
     pub(crate) fn read_word(&mut self, key: Key, address: u32) -> u16
-        requires { key.cycle ≤ 2 ^ 50 }
+        requires { key.cycle ≤ cycle_limit }
         ensures value { result ≡ areas.word_at (area_of address) self.old key address }
         ensures board { self.new ≡ areas.read_at (area_of address) self.old key address }
     {
@@ -50,7 +51,7 @@ impl Shared {
     #[tactic(auto, unfolding(crate::specs::Areas::byte_written_in, crate::specs::Areas::transfer_in))]
     pub(crate) fn write_byte(&mut self, key: Key, address: u32, value: u8) -> Option<Transfer>
         requires chip { key.chip ≡ 0 }
-        requires soon { key.cycle ≤ 2 ^ 50 }
+        requires soon { key.cycle ≤ cycle_limit }
         ensures board { self.new ≡ areas.byte_written_at (area_of address) self.old key address value }
         ensures transfer { result ≡ areas.transfer_at (area_of address) self.old key address (video.both_halves value) }
     {
@@ -68,7 +69,7 @@ impl Shared {
     #[tactic(auto, unfolding(crate::specs::Areas::word_written_in, crate::specs::Areas::transfer_in))]
     pub(crate) fn write_word(&mut self, key: Key, address: u32, value: u16) -> Option<Transfer>
         requires chip { key.chip ≡ 0 }
-        requires soon { key.cycle ≤ 2 ^ 50 }
+        requires soon { key.cycle ≤ cycle_limit }
         ensures board { self.new ≡ areas.word_written_at (area_of address) self.old key address value }
         ensures transfer { result ≡ areas.transfer_at (area_of address) self.old key address value }
     {

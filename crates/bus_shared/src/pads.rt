@@ -1,6 +1,7 @@
 //! The pads on the board: the registers by which the 68000 reaches them, and the words of a recording.
 //! Source: Genesis Technical Overview, the I/O area.
-ghost use Rattle.std.specs.Prelude.{◌≡◌, ◌^◌, ◌≤◌};
+ghost use Rattle.std.specs.Prelude.{◌≡◌, ◌≤◌};
+ghost use Rattle.md_word.specs.Clock.{cycle_limit};
 ghost use Rattle.bus_shared.specs.Accesses as accesses;
 ghost use Rattle.bus_shared.specs.Registers as registers;
 
@@ -34,7 +35,7 @@ impl Shared {
 
     #[tactic(auto, unfolding(crate::specs::Registers::register_written))]
     pub(crate) fn write_register(&mut self, cycle: u64, register: Register, value: u8)
-        requires { cycle ≤ 2 ^ 50 }
+        requires { cycle ≤ cycle_limit }
         ensures { self.new ≡ registers.register_written self.old cycle register value }
     {
         match register {

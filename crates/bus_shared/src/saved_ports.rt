@@ -1,5 +1,6 @@
 //! The ports of the sound chips, and the lines and the pads, read from a saved state.
 ghost use Rattle.std.specs.Prelude.{◌≡◌, ◌^◌, ◌≤◌, ℕ, length, drop, take, IfOk, IsErrOf};
+ghost use Rattle.md_word.specs.Clock.{cycle_limit};
 ghost use Rattle.fm_port.specs.PortSpelling as fm_spelling;
 ghost use Rattle.md_fields.specs.Items.{IsRight, Keeps};
 ghost use Rattle.psg_sound.specs.PortSpelling as psg_spelling;
@@ -44,7 +45,7 @@ pub(crate) fn following(start: u64, fault: Unspell) -> Unspell
 /// The FM chip's port that bytes keep, made in its place. `Rule` has the offset of the first invalid field;
 /// the only other error is out of memory.
 fn fm_in(alloc: Global, bytes: &[u8], at: u64) -> Result<Box<FmPort>, Unspell>
-    requires { at ≤ 2 ^ 50 }
+    requires { at ≤ cycle_limit }
     ensures found { IfOk result (λ port. fm_spelling.SpellsPort at bytes.now port.value) }
     ensures few { IfOk result (λ port. IsFewFm port.value.writes) }
     ensures right { IfOk result (λ port. (place : ℕ) → fm_spelling.PortInvalidAt at bytes.now place → ⊥) }
@@ -58,7 +59,7 @@ fn fm_in(alloc: Global, bytes: &[u8], at: u64) -> Result<Box<FmPort>, Unspell>
 
 /// A port that is made the one that bytes keep, with the errors of `fm_in`.
 fn restored_fm(port: Box<FmPort>, bytes: &[u8], at: u64) -> Result<Box<FmPort>, Unspell>
-    requires { at ≤ 2 ^ 50 }
+    requires { at ≤ cycle_limit }
     ensures found { IfOk result (λ port. fm_spelling.SpellsPort at bytes.now port.value) }
     ensures few { IfOk result (λ port. IsFewFm port.value.writes) }
     ensures right { IfOk result (λ port. (place : ℕ) → fm_spelling.PortInvalidAt at bytes.now place → ⊥) }
@@ -102,7 +103,7 @@ fn restored(port: Box<PsgPort>, bytes: &[u8], at: u64) -> Result<Box<PsgPort>, U
 /// The ports, and the lines and the pads, that 22,594 bytes keep. `Rule` has the offset of the first invalid
 /// field; the only other error is out of memory.
 pub(crate) fn ports_in(alloc: Global, bytes: &[u8], at: u64) -> Result<Ports, Unspell>
-    requires cycle { at ≤ 2 ^ 50 }
+    requires cycle { at ≤ cycle_limit }
     requires length { length bytes.now ≡ 22594 }
     ensures fm { IfOk result (λ ports. fm_spelling.SpellsPort at (take 12316 bytes.now) ports.fm.value) }
     ensures psg { IfOk result (λ ports. psg_spelling.SpellsPort at (take 10242 (drop 12316 bytes.now)) ports.psg.value) }

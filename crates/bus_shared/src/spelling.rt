@@ -1,10 +1,11 @@
-ghost use Rattle.std.specs.Prelude.{◌≡◌, ◌≢◌, ◌⊎◌, ◌^◌, ◌+◌, ◌≤◌, ◌++◌, ℕ, length, is_some, option_map, vec_len, vec_capacity, IfOk, IfSome, IsErrOf, Ok, Err, Some};
+ghost use Rattle.std.specs.Prelude.{◌≡◌, ◌≢◌, ◌⊎◌, ◌+◌, ◌≤◌, ◌++◌, ℕ, length, is_some, option_map, vec_len, vec_capacity, IfOk, IfSome, IsErrOf, Ok, Err, Some};
 ghost use Rattle.md_word.specs.Coding.{flag_number};
 ghost use Rattle.z80_parcel.specs.Parcels.{IsStore, store_of};
 ghost use Rattle.psg_sound.specs.Port.{IsPort};
 ghost use Rattle.bus_shared.specs.Board.{AreBytes, Board, IsFewFm};
 ghost use Rattle.bus_shared.specs.Saved.{AreFalls, board_from, lines_of};
 ghost use Rattle.std.specs.Arc.{arc_value};
+ghost use Rattle.md_word.specs.Clock.{cycle_limit};
 ghost use Rattle.bus_shared.specs.Spelling.{InvalidAt, IsReady, Spells, StoreInvalidAt, board_bytes, board_size, settled_board, store_bytes};
 
 use crate::saved_lines::SavedLines;
@@ -45,7 +46,7 @@ impl Shared {
     /// the Z80's RAM. There is room for them. They are read again where the rules of the parts hold. The
     /// board does not change.
     pub fn spell(&self, at: u64, into: &mut Vec<u8>)
-        requires cycle { at ≤ 2 ^ 50 }
+        requires cycle { at ≤ cycle_limit }
         requires room { vec_len into.old + board_size (is_some self.now.store) ≤ vec_capacity into.old }
         ensures bytes { into.new.items ≡ into.old.items ++ board_bytes (settled_board at self.now) }
         ensures length { vec_len into.new ≡ vec_len into.old + board_size (is_some self.now.store) }
@@ -62,7 +63,7 @@ impl Shared {
     /// States that the bytes of this board, settled to a cycle of at most 2^50, are read again where the rules
     /// of the parts hold.
     pub fn is_read_again(&self, at: u64)
-        requires { at ≤ 2 ^ 50 }
+        requires { at ≤ cycle_limit }
         ensures { IsReady at self.now → Spells at self.now.vdp.pal (board_bytes (settled_board at self.now)) (settled_board at self.now) }
     {
         is_read_again(&self.vdp);
@@ -105,7 +106,7 @@ impl Shared {
         recording: Arc<Recording>,
         pal: bool,
     ) -> Result<Shared, Unspell>
-        requires { at ≤ 2 ^ 50 }
+        requires { at ≤ cycle_limit }
         ensures found { IfOk result (λ shared. Spells at pal bytes.now shared × (shared.recording ≡ arc_value recording)) }
         ensures only { (board : Board) → Spells at pal bytes.now board → board.recording ≡ arc_value recording
             → result ≢ Err Unspell.NoMemory → result ≡ Ok board }
@@ -135,7 +136,7 @@ fn read(
     recording: Arc<Recording>,
     pal: bool,
 ) -> Result<Shared, Unspell>
-    requires { at ≤ 2 ^ 50 }
+    requires { at ≤ cycle_limit }
     ensures found { IfOk result (λ shared. Spells at pal bytes.now shared × (shared.recording ≡ arc_value recording)) }
     ensures rule { (place : ℕ) → IsErrOf result (Unspell.Rule place) → InvalidAt at pal bytes.now place }
 {

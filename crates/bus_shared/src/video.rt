@@ -1,4 +1,5 @@
-ghost use Rattle.std.specs.Prelude.{◌≡◌, ◌%◌, ◌^◌, ◌≤◌, IfOk};
+ghost use Rattle.std.specs.Prelude.{◌≡◌, ◌%◌, ◌≤◌, IfOk};
+ghost use Rattle.md_word.specs.Clock.{cycle_limit};
 ghost use Rattle.vdp_dma.specs.Settling.{settled};
 ghost use Rattle.vdp_ports.specs.Control.{acknowledged, controlled, started_by, status_read};
 ghost use Rattle.vdp_ports.specs.Data.{accessed, read, transferred, written};
@@ -61,7 +62,7 @@ fn word_cost(vdp: &VdpState, cycle: u64) -> u16
 
 /// Reads the data port at a cycle, to which fill and copy are settled first.
 fn read_data(vdp: &mut VdpState, cycle: u64) -> u16
-    requires { cycle ≤ 2 ^ 50 }
+    requires { cycle ≤ cycle_limit }
     ensures value { result ≡ read (settled cycle vdp.old) % 0x1_0000 }
     ensures after { vdp.new ≡ accessed (settled cycle vdp.old) }
 {
@@ -71,7 +72,7 @@ fn read_data(vdp: &mut VdpState, cycle: u64) -> u16
 
 /// Reads the status at a cycle, to which fill and copy are settled first.
 fn read_status(vdp: &mut VdpState, cycle: u64) -> u16
-    requires { cycle ≤ 2 ^ 50 }
+    requires { cycle ≤ cycle_limit }
     ensures value { result ≡ video.status_at cycle (settled cycle vdp.old) }
     ensures after { vdp.new ≡ status_read (settled cycle vdp.old) }
 {
@@ -84,7 +85,7 @@ fn read_status(vdp: &mut VdpState, cycle: u64) -> u16
 /// Reads a port at a cycle.
 #[tactic(auto, using(crate::proofs::Ports::data_read_bytes, crate::proofs::Ports::status_read_bytes), unfolding(crate::specs::Video::port_word, crate::specs::Video::port_read))]
 pub(crate) fn read_port(port: VideoPort, vdp: &mut VdpState, cycle: u64) -> u16
-    requires { cycle ≤ 2 ^ 50 }
+    requires { cycle ≤ cycle_limit }
     ensures value { result ≡ video.port_word port cycle vdp.old }
     ensures after { vdp.new ≡ video.port_read port cycle vdp.old }
     ensures bytes { AreBytes vdp.old.registers → AreBytes vdp.new.registers }
@@ -99,7 +100,7 @@ pub(crate) fn read_port(port: VideoPort, vdp: &mut VdpState, cycle: u64) -> u16
 
 /// Writes a word to the data port at a cycle, to which fill and copy are settled first.
 fn write_data(vdp: &mut VdpState, cycle: u64, word: u16)
-    requires { cycle ≤ 2 ^ 50 }
+    requires { cycle ≤ cycle_limit }
     ensures { vdp.new ≡ written cycle word (settled cycle vdp.old) }
 {
     settle(vdp, cycle);
@@ -109,7 +110,7 @@ fn write_data(vdp: &mut VdpState, cycle: u64, word: u16)
 /// Writes a word to the control port at a cycle, to which fill and copy are settled first: the
 /// transfer that it starts, `None` where it starts none.
 fn write_control(vdp: &mut VdpState, cycle: u64, word: u16) -> Option<Transfer>
-    requires { cycle ≤ 2 ^ 50 }
+    requires { cycle ≤ cycle_limit }
     ensures after { vdp.new ≡ controlled cycle word (settled cycle vdp.old) }
     ensures transfer { result ≡ video.with_cost (video.word_cost cycle vdp.old) (started_by word (settled cycle vdp.old)) }
 {
@@ -133,7 +134,7 @@ pub(crate) fn write_port(
     cycle: u64,
     word: u16,
 ) -> Option<Transfer>
-    requires { cycle ≤ 2 ^ 50 }
+    requires { cycle ≤ cycle_limit }
     ensures after { vdp.new ≡ video.port_written port cycle word vdp.old }
     ensures transfer { result ≡ video.port_transfer port cycle word vdp.old }
     ensures bytes { AreBytes vdp.old.registers → AreBytes vdp.new.registers }
@@ -152,7 +153,7 @@ pub(crate) fn write_port(
 /// to the next word.
 #[tactic(auto, using(crate::proofs::Ports::taken_bytes))]
 pub(crate) fn take_word(vdp: &mut VdpState, cycle: u64, word: u16) -> u16
-    requires { cycle ≤ 2 ^ 50 }
+    requires { cycle ≤ cycle_limit }
     ensures cost { result ≡ video.word_cost cycle vdp.old }
     ensures after { vdp.new ≡ transferred word (settled cycle vdp.old) }
     ensures bytes { AreBytes vdp.old.registers → AreBytes vdp.new.registers }
@@ -183,7 +184,7 @@ fn join(vdp: &mut VdpState, note: SpriteNote)
 /// The VDP's part of the start of a line, to which fill and copy are settled first.
 #[tactic(auto, using(crate::proofs::Ports::line_begun_bytes), unfolding(crate::specs::Video::line_begun))]
 pub(crate) fn begin_line(vdp: &mut VdpState, cycle: u64, note: SpriteNote)
-    requires { cycle ≤ 2 ^ 50 }
+    requires { cycle ≤ cycle_limit }
     ensures after { vdp.new ≡ video.line_begun cycle note vdp.old }
     ensures bytes { AreBytes vdp.old.registers → AreBytes vdp.new.registers }
 {

@@ -1,5 +1,6 @@
 //! The ports of the VDP on the board, with the PSG beside them.
-ghost use Rattle.std.specs.Prelude.{◌≡◌, ◌^◌, ◌<◌, ◌≤◌};
+ghost use Rattle.std.specs.Prelude.{◌≡◌, ◌<◌, ◌≤◌};
+ghost use Rattle.md_word.specs.Clock.{cycle_limit};
 ghost use Rattle.bus_shared.specs.Video as video;
 
 use crate::port::VideoPort;
@@ -11,7 +12,7 @@ use md_word::{Key, Transfer};
 impl Shared {
     /// Reads a port of the VDP.
     pub(crate) fn read_video(&mut self, key: Key, address: u32) -> u16
-        requires { key.cycle ≤ 2 ^ 50 }
+        requires { key.cycle ≤ cycle_limit }
         ensures value { result ≡ video.port_word (video.port_at address) key.cycle self.old.vdp }
         ensures board { self.new ≡ video.video_read self.old key address }
     {
@@ -21,7 +22,7 @@ impl Shared {
 
     /// Writes a word to a port of the VDP: the transfer that it starts, `None` where it starts none.
     fn write_video(&mut self, key: Key, port: VideoPort, word: u16) -> Option<Transfer>
-        requires { key.cycle ≤ 2 ^ 50 }
+        requires { key.cycle ≤ cycle_limit }
         ensures board { self.new ≡ record self.old { vdp = video.port_written port key.cycle word self.old.vdp } }
         ensures transfer { result ≡ video.port_transfer port key.cycle word self.old.vdp }
     {
@@ -34,7 +35,7 @@ impl Shared {
     #[tactic(auto, unfolding(crate::specs::Video::video_byte_written, crate::specs::Video::port_transfer))]
     pub(crate) fn write_video_byte(&mut self, key: Key, address: u32, value: u8) -> Option<Transfer>
         requires chip { key.chip < 2 }
-        requires soon { key.cycle ≤ 2 ^ 50 }
+        requires soon { key.cycle ≤ cycle_limit }
         ensures board { self.new ≡ video.video_byte_written (video.port_at address) self.old key address value }
         ensures transfer { result ≡ video.port_transfer (video.port_at address) key.cycle (video.both_halves value) self.old.vdp }
     {
@@ -59,7 +60,7 @@ impl Shared {
         value: u16,
     ) -> Option<Transfer>
         requires chip { key.chip < 2 }
-        requires soon { key.cycle ≤ 2 ^ 50 }
+        requires soon { key.cycle ≤ cycle_limit }
         ensures board { self.new ≡ video.video_word_written (video.port_at address) self.old key value }
         ensures transfer { result ≡ video.port_transfer (video.port_at address) key.cycle value self.old.vdp }
     {
@@ -81,7 +82,7 @@ impl Shared {
 
     /// Hands the VDP a word of a transfer: the master cycles to the next.
     pub(crate) fn take_word(&mut self, key: Key, word: u16) -> u16
-        requires { key.cycle ≤ 2 ^ 50 }
+        requires { key.cycle ≤ cycle_limit }
         ensures cost { result ≡ video.word_cost key.cycle self.old.vdp }
         ensures board { self.new ≡ video.word_taken self.old key word }
     {

@@ -1,6 +1,7 @@
 //! The Z80's space, as the 68000 reaches it while the bus is granted, and the sound chips in it. Source:
 //! Genesis Technical Overview, the Z80's area.
-ghost use Rattle.std.specs.Prelude.{◌≡◌, ◌^◌, ◌<◌, ◌≤◌};
+ghost use Rattle.std.specs.Prelude.{◌≡◌, ◌<◌, ◌≤◌};
+ghost use Rattle.md_word.specs.Clock.{cycle_limit};
 ghost use Rattle.bus_shared.specs.Accesses as accesses;
 ghost use Rattle.bus_shared.specs.Fm as fm;
 ghost use Rattle.bus_shared.specs.Z80Space as space;
@@ -19,7 +20,7 @@ pub(crate) const OPEN_BYTE: u8 = 0xff;
 impl Shared {
     /// What the 68000 reads in the Z80's space.
     pub(crate) fn read_space(&mut self, cycle: u64, at: u16) -> u8
-        requires { cycle ≤ 2 ^ 50 }
+        requires { cycle ≤ cycle_limit }
         ensures value { result ≡ space.space_byte (space.granted self.old.request self.old.store) self.old cycle at }
         ensures board { self.new ≡ space.space_read (space.granted self.old.request self.old.store) self.old cycle at }
     {
@@ -37,7 +38,7 @@ impl Shared {
 
     /// What a read beside the Z80's RAM gives: the FM chip's status, or all ones.
     pub(crate) fn read_chip(&mut self, cycle: u64, at: u16) -> u8
-        requires { cycle ≤ 2 ^ 50 }
+        requires { cycle ≤ cycle_limit }
         ensures value { result ≡ fm.chip_byte self.old cycle at }
         ensures board { self.new ≡ fm.chip_read self.old cycle at }
     {
@@ -57,7 +58,7 @@ impl Shared {
 
     pub(crate) fn write_fm(&mut self, key: Key, at: u16, value: u8)
         requires chip { key.chip < 2 }
-        requires soon { key.cycle ≤ 2 ^ 50 }
+        requires soon { key.cycle ≤ cycle_limit }
         ensures { self.new ≡ fm.with_fm self.old key at value }
     {
         self.fm.write(key, (at % 4) as u8, value);
@@ -66,7 +67,7 @@ impl Shared {
     /// Writes a byte in the Z80's space.
     pub(crate) fn write_space(&mut self, key: Key, at: u16, value: u8)
         requires chip { key.chip < 2 }
-        requires soon { key.cycle ≤ 2 ^ 50 }
+        requires soon { key.cycle ≤ cycle_limit }
         ensures { self.new ≡ space.space_written (space.granted self.old.request self.old.store) self.old key at value }
     {
         match &mut self.parcel {
@@ -86,7 +87,7 @@ impl Shared {
     /// Carries out a byte that the Z80 writes: the PSG and the FM chip take their own.
     pub(crate) fn sub_write(&mut self, key: Key, at: u16, value: u8)
         requires chip { key.chip < 2 }
-        requires soon { key.cycle ≤ 2 ^ 50 }
+        requires soon { key.cycle ≤ cycle_limit }
         ensures { self.new ≡ accesses.sub_written self.old key at value }
     {
         if at == PSG80 {

@@ -1,6 +1,6 @@
 ghost use Rattle.std.specs.Prelude.{◌≡◌, ◌<◌, length};
+ghost use Rattle.md_word.specs.Region.{scanline_length};
 ghost use Rattle.vdp_sprites.specs.Lines.{note_on};
-ghost use Rattle.vdp_chip.specs.Picture.{scanline_length};
 ghost use Rattle.vdp_ahead.specs.Lines.{scanline_on};
 
 use vdp_chip::{clear_dots, fill_scanline};

@@ -6,9 +6,9 @@ use Rattle.std.proofs.lemmas.Bool.{eq-eqb, le-ltb, lt-ltb}
 use Rattle.std.proofs.lemmas.List.{append-nil, append_assoc, drop-replicate, length-append, take_at}
 use Rattle.md_word.specs.Clock.{line}
 use Rattle.vdp_time.specs.Lines.{line_of}
-use Rattle.md_word.specs.Region.{picture_length, rows}
+use Rattle.md_word.specs.Region.{picture_length, rows, scanline_length}
 use Rattle.md_word.proofs.Regions.{picture-rows}
-use Rattle.vdp_chip.specs.Picture.{cleared, drawn, finished, frame_of, memory_length, scanline_length, scanline_of, with_scanline}
+use Rattle.vdp_chip.specs.Picture.{cleared, drawn, finished, frame_of, memory_length, scanline_of, with_scanline}
 use Rattle.vdp_chip.specs.RendererState.{RendererState, IsRendererState, line_drawn, picture_after}
 use Rattle.vdp_chip.specs.Frames.{IsItsScanlines, Line, after, scanlines_from}
 use Rattle.vdp_chip.proofs.Scanlines.{length-scanline_of}
@@ -23,7 +23,7 @@ record HasScanlines (lines : List Line) (d : RendererState) : Type 0 where
   at_line : d.next % line ≡ 0
   picture : cleared (length lines) d.picture ≡ picture_of lines
 
-length-scanlines_from : (y : ℕ) (lines : List Line) → length (scanlines_from y lines) ≡ 960 * length lines
+length-scanlines_from : (y : ℕ) (lines : List Line) → length (scanlines_from y lines) ≡ scanline_length * length lines
 unfolding scanlines_from
 length-scanlines_from y [] = refl
 length-scanlines_from y (first ∷ rest) =
@@ -53,12 +53,12 @@ scanline_more lines l =
     let rest = replicate (memory_length - scanline_length * n) 0 in
     let long = length-scanlines_from 0 lines in
     let count = length-append lines (l ∷ []) in
-    let left : memory_length - scanline_length * n - 960 ≡ memory_length - scanline_length * length (lines ++ (l ∷ [])) = omega (arith, count) in
+    let left : memory_length - scanline_length * n - scanline_length ≡ memory_length - scanline_length * length (lines ++ (l ∷ [])) = omega (arith, count) in
     let number : 0 + n ≡ n = omega arith in
-    let front : take (960 * n) (before ++ rest) ≡ before = take_at before rest (960 * n) long in
-    let following : drop (960 * n + 960) (before ++ rest) ≡ replicate (memory_length - scanline_length * length (lines ++ (l ∷ []))) 0 =
-    ap (λ (k : ℕ). drop (k + 960) (before ++ rest)) (sym long) ∙ drop-append-add before rest 960
-    ∙ drop-replicate 960 (memory_length - scanline_length * n) 0 ∙ ap (λ (k : ℕ). replicate k 0) left in
+    let front : take (scanline_length * n) (before ++ rest) ≡ before = take_at before rest (scanline_length * n) long in
+    let following : drop (scanline_length * n + scanline_length) (before ++ rest) ≡ replicate (memory_length - scanline_length * length (lines ++ (l ∷ []))) 0 =
+    ap (λ (k : ℕ). drop (k + scanline_length) (before ++ rest)) (sym long) ∙ drop-append-add before rest scanline_length
+    ∙ drop-replicate scanline_length (memory_length - scanline_length * n) 0 ∙ ap (λ (k : ℕ). replicate k 0) left in
     let made : before ++ scanline ≡ scanlines_from 0 (lines ++ (l ∷ [])) =
     ap (λ (k : ℕ). before ++ scanline_of l.view l.sprites k) (sym number) ∙ sym (scanlines_from-append 0 lines l) in
     rw (front, following, made) refl

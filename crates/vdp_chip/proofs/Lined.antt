@@ -11,9 +11,9 @@ use Rattle.vdp_planes.specs.declared.view.LineView.{LineView}
 use Rattle.vdp_planes.specs.declared.view.SpriteNote.{SpriteNote}
 use Rattle.vdp_chip.specs.declared.kept.Kept.{Kept}
 use Rattle.vdp_chip.specs.declared.kept.Kept.TheVariants as kinds
-use Rattle.md_word.specs.Region.{lines, picture_length, rows}
+use Rattle.md_word.specs.Region.{lines, picture_length, rows, scanline_length}
 use Rattle.md_word.proofs.Regions.{picture-rows}
-use Rattle.vdp_chip.specs.Picture.{blank, cleared, drawn, finished, frame_of, memory_length, scanline_length, scanline_of}
+use Rattle.vdp_chip.specs.Picture.{blank, cleared, drawn, finished, frame_of, memory_length, scanline_of}
 use Rattle.vdp_chip.specs.RendererState.{RendererState, IsRendererState, at_power_on, line_drawn, picture_after, undrawn_from}
 use Rattle.vdp_chip.specs.Kept.{IsKept}
 use Rattle.vdp_chip.proofs.Scanlines.{length-scanline_of, length-with_scanline, with_scanline-following}
@@ -140,7 +140,7 @@ after-undrawn view s d h n low high =
           (let less : number < rows d.pal = ltb-true number (rows d.pal) test in
           let more : min (number + 1) (rows d.pal) ≡ number + 1 = min-eq_left (omega (arith, less)) in
           let here : min number (rows d.pal) ≡ number = min-eq_left (omega (arith, less)) in
-          let following : 960 * number + 960 ≤ n = omega (arith, next, more, low) in
+          let following : scanline_length * number + scanline_length ≤ n = omega (arith, next, more, low) in
           rw test (
           with_scanline-following number n (scanline_of view s number) picture (omega (arith, less, few-scanlines d.pal)) (length-scanline_of view s number) (cleared-length number d.picture h.picture) following
           ∙ cleared-undrawn d h n (omega (arith, following, here)) high))

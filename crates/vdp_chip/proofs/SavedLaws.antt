@@ -12,8 +12,8 @@ use Rattle.md_fields.proofs.Flags.{flag_again, flag_back, flag_byte, flag_small}
 use Rattle.md_fields.proofs.Items.{rules_hold, none_invalid, not_both, one_place, same}
 use Rattle.md_word.specs.Clock.{line}
 use Rattle.vdp_chip.specs.RendererState.{RendererState, IsRendererState, undrawn_from}
-use Rattle.md_word.specs.Region.{lines, rows}
-use Rattle.vdp_chip.specs.Picture.{memory_length, scanline_length}
+use Rattle.md_word.specs.Region.{lines, rows, scanline_length}
+use Rattle.vdp_chip.specs.Picture.{memory_length}
 use Rattle.vdp_chip.specs.Saved.{RendererStateNumbers, renderer_state_fields, renderer_state_of, fields_by, is_picture, numbers_of}
 use Rattle.vdp_chip.specs.Spelling.{InvalidAt, IsDrained, IsReady, Spells, drained, renderer_state_bytes, renderer_state_size}
 use Rattle.vdp_chip.proofs.Lined.{scanline_above}

@@ -2,16 +2,12 @@
 -- bytes of a picture are this project's profile.
 use Rattle.std.specs.Prelude.{ℕ, ◌+◌, ◌*◌, ◌/◌, ◌%◌, ◌==◌, nat_lt, Bool, true, false, if◌then◌else◌, List, map, replicate, slice_set, take, Option, Some}
 use Rattle.std.specs.List.{range_with_len, replace_range}
-use Rattle.md_word.specs.Region.{picture_length, rows}
+use Rattle.md_word.specs.Region.{picture_length, picture_width, rows, scanline_length}
 use Rattle.vdp_planes.specs.Dots.{Dot}
 use Rattle.vdp_planes.specs.declared.view.LineView.{LineView}
 use Rattle.vdp_planes.specs.Planes.{plane_dot}
 use Rattle.vdp_planes.specs.Mixing.{line_byte}
 use Rattle.vdp_planes.specs.View.{display_height, register}
-
--- the bytes of a row: red, green and blue of 320 dots
-abbrev pub scanline_length : ℕ
-scanline_length = 960
 
 -- the bytes that a picture takes, row by row: as many as one for PAL has
 abbrev pub memory_length : ℕ
@@ -23,7 +19,7 @@ blank = replicate memory_length 0
 
 -- the dots of a line of plane A with the window, or of plane B
 unfoldable pub plane_dots : LineView → Bool → ℕ → List Dot
-plane_dots view second y = map (plane_dot view second y) (range_with_len 0 320)
+plane_dots view second y = map (plane_dot view second y) (range_with_len 0 picture_width)
 
 -- a byte with bit 6 cleared
 abbrev pub without_bit_6 : ℕ → ℕ

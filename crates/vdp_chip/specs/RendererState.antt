@@ -2,13 +2,13 @@
 -- Technical Overview, the display; the places of the events are this project's profile.
 use Rattle.std.specs.Prelude.{◌≡◌, ℕ, ◌+◌, ◌-◌, ◌*◌, ◌%◌, ◌<◌, ◌≤◌, ◌==◌, Bool, true, false, if◌then◌else◌, min, List, length, slice_index, Option, None, IfSome}
 use Rattle.md_word.specs.Clock.{line}
-use Rattle.md_word.specs.Region.{picture_length, rows}
+use Rattle.md_word.specs.Region.{picture_length, rows, scanline_length}
 use Rattle.md_word.specs.declared.event.Next.{Next}
 use Rattle.vdp_time.specs.Lines.{line_of}
 use Rattle.vdp_planes.specs.Dots.{Dot}
 use Rattle.vdp_planes.specs.declared.view.LineView.{LineView}
 use Rattle.vdp_planes.specs.declared.view.SpriteNote.{SpriteNote}
-use Rattle.vdp_chip.specs.Picture.{blank, cleared, drawn, finished, memory_length, scanline_length, scanline_of}
+use Rattle.vdp_chip.specs.Picture.{blank, cleared, drawn, finished, memory_length, scanline_of}
 
 -- the next event, the picture that grows row by row, and the frame that is finished
 pub record RendererState : Type 0 where

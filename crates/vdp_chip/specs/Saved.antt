@@ -2,12 +2,13 @@
 -- order, their sizes and their rules. What is finished is handed out before a state is kept, the view
 -- is filled again with each line, and the region is elsewhere in the state. This project's profile.
 use Rattle.std.specs.Prelude.{ℕ, ◌-◌, ◌*◌, ◌%◌, ◌==◌, ◌&&◌, Bool, true, nat_le, nat_lt, List, [], ◌∷◌, drop, None}
+use Rattle.md_word.specs.Region.{scanline_length}
 use Rattle.md_fields.specs.Fields.{Field, byte, quad, block}
 use Rattle.md_fields.specs.Padding.{are_zeros}
 use Rattle.md_word.specs.Clock.{line}
 use Rattle.md_word.specs.Coding.{flag_number}
 use Rattle.vdp_chip.specs.RendererState.{RendererState, undrawn_from}
-use Rattle.vdp_chip.specs.Picture.{memory_length, scanline_length}
+use Rattle.vdp_chip.specs.Picture.{memory_length}
 
 -- what is kept: the next event, what the sprites have set, and the picture
 pub record RendererStateNumbers : Type 0 where

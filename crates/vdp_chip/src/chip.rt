@@ -1,4 +1,5 @@
-ghost use Rattle.std.specs.Prelude.{◌≡◌, ◌^◌, ◌<◌, List, IfOk, None, true, false, option_copied};
+ghost use Rattle.std.specs.Prelude.{◌≡◌, ◌<◌, List, IfOk, None, true, false, option_copied};
+ghost use Rattle.md_word.specs.Clock.{cycle_limit};
 ghost use Rattle.vdp_planes.specs.View.{AllColours, seen};
 ghost use Rattle.vdp_planes.specs.Dots.{Dot};
 ghost use Rattle.vdp_planes.specs.declared.view.LineView.{LineView};
@@ -120,7 +121,7 @@ impl ChipVdp {
     pub fn answer_with(&mut self, view: Box<LineView>, sprites: &[Dot; 320], note: SpriteNote)
         requires view { self.old.has_view ≡ false }
         requires colours { AllColours sprites.now }
-        requires cycle { self.old.next < 2 ^ 50 }
+        requires cycle { self.old.next < cycle_limit }
         ensures { self.new ≡ answered view.value sprites.now note self.old }
     {
         self.draw_line(&view.scene(), sprites, note);
@@ -131,7 +132,7 @@ impl ChipVdp {
     #[tactic(auto, unfolding(crate::specs::RendererState::line_drawn, crate::specs::RendererState::picture_after))]
     pub fn draw_line(&mut self, scene: &Scene, sprites: &[Dot; 320], note: SpriteNote)
         requires colours { AllColours sprites.now }
-        requires cycle { self.old.next < 2 ^ 50 }
+        requires cycle { self.old.next < cycle_limit }
         ensures { self.new ≡ line_drawn (seen scene.now) sprites.now note self.old }
     {
         let line = line_of(self.next, self.pal);
@@ -152,7 +153,7 @@ impl ChipVdp {
     #[tactic(auto, unfolding(crate::specs::RendererState::line_drawn, crate::specs::RendererState::picture_after))]
     pub fn place_line(&mut self, scanline: &[u8], note: SpriteNote)
         requires scanline { (view : LineView) × (sprites : List Dot) × (scanline.now ≡ scanline_of view sprites (line_of self.old.next self.old.pal)) }
-        requires cycle { self.old.next < 2 ^ 50 }
+        requires cycle { self.old.next < cycle_limit }
         ensures { (view : LineView) (sprites : List Dot) → scanline.now ≡ scanline_of view sprites (line_of self.old.next self.old.pal)
             → self.new ≡ line_drawn view sprites note self.old }
     {

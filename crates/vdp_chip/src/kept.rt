@@ -1,7 +1,8 @@
 ghost use Rattle.std.specs.Prelude.{◌≡◌, ℕ, ◌<◌, ◌≤◌, List, length};
+ghost use Rattle.md_word.specs.Region.{scanline_length};
 ghost use Rattle.md_word.specs.Region as region;
 ghost use Rattle.vdp_planes.specs.View.{AllColours, seen};
-ghost use Rattle.vdp_chip.specs.Picture.{cleared, drawn, finished, memory_length, scanline_length, scanline_of};
+ghost use Rattle.vdp_chip.specs.Picture.{cleared, drawn, finished, memory_length, scanline_of};
 ghost use Rattle.vdp_chip.specs.Kept.{kept_frame};
 ghost use Rattle.vdp_chip.specs.declared.kept.Kept.TheVariants as kinds;
 

@@ -1,7 +1,8 @@
 ghost use Rattle.std.specs.Prelude.{◌≡◌, ℕ, ◌<◌, true, false, length, slice_index, slice_set};
+ghost use Rattle.md_word.specs.Region.{picture_width, scanline_length};
 ghost use Rattle.vdp_planes.specs.Planes.{plane_dot};
 ghost use Rattle.vdp_planes.specs.View.{AllColours, clear, dot_at, has_bit, register, seen};
-ghost use Rattle.vdp_chip.specs.Picture.{blank, line_scanline, memory_length, scanline_length, scanline_of, with_scanline, without_bit_6};
+ghost use Rattle.vdp_chip.specs.Picture.{blank, line_scanline, memory_length, scanline_of, with_scanline, without_bit_6};
 
 use vdp_planes::register::MODE_2;
 use vdp_planes::{Dot, Scene, draw_plane, mix_dots};
@@ -27,9 +28,9 @@ fn draw_planes(scene: &Scene, line: u32, a: &mut [Dot; 320], b: &mut [Dot; 320])
     requires colours { AllColours a.old }
     requires others { AllColours b.old }
     ensures first { has_bit (register (seen scene.now) 1) 64 ≡ true
-        → (x : ℕ) → x < 320 → dot_at a.new x ≡ plane_dot (seen scene.now) false line x }
+        → (x : ℕ) → x < picture_width → dot_at a.new x ≡ plane_dot (seen scene.now) false line x }
     ensures second { has_bit (register (seen scene.now) 1) 64 ≡ true
-        → (x : ℕ) → x < 320 → dot_at b.new x ≡ plane_dot (seen scene.now) true line x }
+        → (x : ℕ) → x < picture_width → dot_at b.new x ≡ plane_dot (seen scene.now) true line x }
     ensures colours { AllColours a.new }
     ensures others { AllColours b.new }
 {
@@ -41,7 +42,7 @@ fn draw_planes(scene: &Scene, line: u32, a: &mut [Dot; 320], b: &mut [Dot; 320])
 
 /// The dots of a line on which nothing is drawn yet.
 pub fn clear_dots() -> [Dot; 320]
-    ensures dots { (x : ℕ) → x < 320 → dot_at result x ≡ clear }
+    ensures dots { (x : ℕ) → x < picture_width → dot_at result x ≡ clear }
     ensures colours { AllColours result }
 {
     [Dot::new(0, false); 320]

@@ -2,6 +2,7 @@
 use Rattle.std.proofs.Common.{◌≡◌, ◌∙◌, ℕ, zero, suc, ◌+◌, ◌%◌, ◌^◌, ◌<◌, ◌≤◌, Bool, true, false, nat_lt, if◌then◌else◌, List, length, inl, inr, subst, arith}
 use Rattle.std.proofs.lemmas.Bool.{cases_lt}
 use Rattle.std.proofs.lemmas.List.{length-set}
+use Rattle.md_word.specs.Clock.{cycle_limit}
 use Rattle.vdp_ports.specs.Vdp.{Vdp}
 use Rattle.vdp_ports.specs.Rules.{HasRules}
 use Rattle.vdp_ports.specs.Spelling.{Spells, vdp_bytes}
@@ -29,7 +30,7 @@ kinds (suc zero) few P a b c = b
 kinds (suc (suc zero)) few P a b c = c
 kinds (suc (suc (suc n))) few P a b c = absurd (omega (arith, few))
 
-next-small : (at : ℕ) (s : Vdp) → at ≤ 2 ^ 50 → HasRules at s → s.next_stamp < 2 ^ 64
+next-small : (at : ℕ) (s : Vdp) → at ≤ cycle_limit → HasRules at s → s.next_stamp < 2 ^ 64
 next-small at s far h =
     kinds s.dma_kind h.going.known (λ k. s.dma_kind ≡ k → s.next_stamp < 2 ^ 64)
     (λ k. omega (arith, (h.going.none k).4))
@@ -37,7 +38,7 @@ next-small at s far h =
     (λ k. omega (arith, far, (h.going.copy k).3))
     (λ i. s.dma_kind)
 
-moved-range : (at n : ℕ) (v : List ℕ) (s : Vdp) → length v ≡ length s.vram → at ≤ 2 ^ 50 → IsInRange s → HasRules at (moved n v s) → IsInRange (moved n v s)
+moved-range : (at n : ℕ) (v : List ℕ) (s : Vdp) → length v ≡ length s.vram → at ≤ cycle_limit → IsInRange s → HasRules at (moved n v s) → IsInRange (moved n v s)
 unfolding moved running
 moved-range at n v s long far r h = record {
   sizes = record { of_registers = r.sizes.of_registers; of_vram = long ∙ r.sizes.of_vram; of_cram = r.sizes.of_cram; of_vsram = r.sizes.of_vsram };
@@ -75,14 +76,14 @@ finished-range v s long r = record {
   int_to = r.int_to;
 }
 
-advanced-range : (at n : ℕ) (v : List ℕ) (s : Vdp) → length v ≡ length s.vram → at ≤ 2 ^ 50 → IsInRange s → HasRules at (advanced n v s) → IsInRange (advanced n v s)
+advanced-range : (at n : ℕ) (v : List ℕ) (s : Vdp) → length v ≡ length s.vram → at ≤ cycle_limit → IsInRange s → HasRules at (advanced n v s) → IsInRange (advanced n v s)
 unfolding advanced
 advanced-range at n v s long far r = by (nat_lt n s.left) where
   by : (b : Bool) → HasRules at (if b then moved n v s else finished v s) → IsInRange (if b then moved n v s else finished v s)
   by true h = moved-range at n v s long far r h
   by false h = finished-range v s long r
 
-pub settled_range : (earlier at : ℕ) (s : Vdp) → earlier ≤ at → at ≤ 2 ^ 50 → IsInRange s → HasRules earlier s → IsInRange (settled at s)
+pub settled_range : (earlier at : ℕ) (s : Vdp) → earlier ≤ at → at ≤ cycle_limit → IsInRange s → HasRules earlier s → IsInRange (settled at s)
 settled_range earlier at s following far r h = elim (cases_lt 0 (count at s)) [
   | inl some ↦ (let e : settled at s ≡ advanced (count at s) (vram_after s (count at s)) s = by-some at s (count at s) (omega arith) some in
       let rules : HasRules at (advanced (count at s) (vram_after s (count at s)) s) = rw (← e) (settled_kept earlier at s following h) in
@@ -91,7 +92,7 @@ settled_range earlier at s following far r h = elim (cases_lt 0 (count at s)) [
 ]
 
 -- the bytes of a VDP whose rules hold at a cycle, settled to a later one, are read again
-pub settled_spelled : (earlier at : ℕ) (s : Vdp) → earlier ≤ at → at ≤ 2 ^ 50 → IsInRange s → HasRules earlier s → Spells at s.pal (vdp_bytes (settled at s)) (settled at s)
+pub settled_spelled : (earlier at : ℕ) (s : Vdp) → earlier ≤ at → at ≤ cycle_limit → IsInRange s → HasRules earlier s → Spells at s.pal (vdp_bytes (settled at s)) (settled at s)
 settled_spelled earlier at s following far r h =
     subst (λ (pal : Bool). Spells at pal (vdp_bytes (settled at s)) (settled at s)) (settled_region at s)
     (spelled_back at (settled at s) (settled_range earlier at s following far r h) (settled_is earlier at s following h))

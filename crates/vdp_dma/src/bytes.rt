@@ -1,4 +1,5 @@
-ghost use Rattle.std.specs.Prelude.{◌≡◌, ◌+◌, ◌*◌, ◌^◌, ◌<◌, ◌≤◌, ◌++◌, ℕ, List, length, vec_capacity, vec_len};
+ghost use Rattle.std.specs.Prelude.{◌≡◌, ◌+◌, ◌*◌, ◌<◌, ◌≤◌, ◌++◌, ℕ, List, length, vec_capacity, vec_len};
+ghost use Rattle.md_word.specs.Clock.{cycle_limit};
 ghost use Rattle.vdp_ports.specs.Dma.{with_rest};
 ghost use Rattle.vdp_ports.specs.Spelling.{Spells, vdp_bytes, vdp_size};
 ghost use Rattle.vdp_ports.specs.Vdp.{Vdp};
@@ -98,7 +99,7 @@ fn put_bytes(state: &mut VdpState, count: u32)
 #[tactic(auto, unfolding(crate::specs::Settling::moved))]
 fn go_on(state: &mut VdpState, count: u32)
     requires left { count < state.old.left }
-    requires stamp { state.old.next_stamp ≤ 2 ^ 50 }
+    requires stamp { state.old.next_stamp ≤ cycle_limit }
     ensures { state.new ≡ meaning.moved count state.old.vram state.old }
 {
     let address = running(state, count);
@@ -127,7 +128,7 @@ fn finish(state: &mut VdpState)
 /// Writes the bytes that are due. `settle` promises more of it.
 #[tactic(auto, using(crate::proofs::Settled::settled_none, crate::proofs::Settled::settled_some, crate::proofs::Settled::settled_all))]
 fn make_due(state: &mut VdpState, cycle: u64)
-    requires { cycle ≤ 2 ^ 50 }
+    requires { cycle ≤ cycle_limit }
     ensures { state.new ≡ meaning.settled cycle state.old }
 {
     let count = due(state, cycle);
@@ -148,7 +149,7 @@ fn make_due(state: &mut VdpState, cycle: u64)
 /// It takes the time of the bytes that it writes, and of one test where there is none.
 #[inline]
 pub fn settle(state: &mut VdpState, cycle: u64)
-    requires { cycle ≤ 2 ^ 50 }
+    requires { cycle ≤ cycle_limit }
     ensures value { state.new ≡ meaning.settled cycle state.old }
     ensures again { (earlier : ℕ) (before : Vdp) → earlier ≤ cycle → state.old ≡ meaning.settled earlier before → state.new ≡ meaning.settled cycle before }
     ensures next { 0 < state.new.left → cycle ≤ state.new.next_stamp }
@@ -185,7 +186,7 @@ fn put_into(state: &VdpState, count: u32, vram: &mut [u8])
 /// What is left once the next bytes were written.
 #[tactic(auto, unfolding(crate::specs::Settling::advanced, crate::specs::Settling::moved, crate::specs::Settling::finished))]
 fn rest_after(state: &VdpState, count: u32) -> Rest
-    requires { state.now.next_stamp ≤ 2 ^ 50 }
+    requires { state.now.next_stamp ≤ cycle_limit }
     ensures { (vram : List ℕ) → with_rest state.now vram result ≡ meaning.advanced count vram state.now }
 {
     if count >= state.left {
@@ -216,7 +217,7 @@ fn rest_after(state: &VdpState, count: u32) -> Rest
 /// copy is settled to the cycle. There is room for them. They are read again where the rules hold at an
 /// earlier cycle. The VDP does not change.
 pub fn spell(state: &VdpState, at: u64, into: &mut Vec<u8>)
-    requires cycle { at ≤ 2 ^ 50 }
+    requires cycle { at ≤ cycle_limit }
     requires room { vec_len into.old + vdp_size ≤ vec_capacity into.old }
     ensures bytes { into.new.items ≡ into.old.items ++ vdp_bytes (meaning.settled at state.now) }
     ensures length { vec_len into.new ≡ vec_len into.old + vdp_size }
@@ -238,7 +239,7 @@ pub fn spell(state: &VdpState, at: u64, into: &mut Vec<u8>)
 /// States that the bytes of this VDP, settled to a cycle, are read again where the rules hold at an earlier
 /// cycle.
 pub fn is_read_again(state: &VdpState)
-    ensures { (earlier at : ℕ) → earlier ≤ at → at ≤ 2 ^ 50 → HasRules earlier state.now
+    ensures { (earlier at : ℕ) → earlier ≤ at → at ≤ cycle_limit → HasRules earlier state.now
         → Spells at state.now.pal (vdp_bytes (meaning.settled at state.now)) (meaning.settled at state.now) }
 {
     state.known();

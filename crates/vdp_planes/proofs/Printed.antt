@@ -2,16 +2,17 @@
 use Rattle.std.proofs.Common.{◌≡◌, ◌∙◌, ap, ℕ, ◌+◌, ◌-◌, ◌*◌, ◌/◌, ◌%◌, ◌<◌, List, [], inl, inr, length, arith}
 use Rattle.std.specs.Prelude.{slice_index, slice_index_or}
 use Rattle.std.proofs.lemmas.Bool.{cases_lt}
+use Rattle.md_word.specs.Region.{scanline_length}
 use Rattle.vdp_planes.specs.Mixing.{printed_byte}
 
 -- the bytes of the line's dots below x are printed
 pub record IsPrinted (table : List (List ℕ)) (line : List ℕ) (x : ℕ) (rgb : List ℕ) : Type 0 where
-  pub whole : length rgb ≡ 960
+  pub whole : length rgb ≡ scanline_length
   pub bytes : (n : ℕ) → n < 3 * x → slice_index rgb n ≡ printed_byte table line n
 
 -- a dot more
 pub dot_printed : (table : List (List ℕ)) (line dot old new : List ℕ) (x y at : ℕ) → IsPrinted table line x old → y ≡ x + 1 → at ≡ 3 * x
-    → dot ≡ slice_index_or table (slice_index line x) [] → length new ≡ 960
+    → dot ≡ slice_index_or table (slice_index line x) [] → length new ≡ scanline_length
     → ((n : ℕ) → n < at → slice_index new n ≡ slice_index old n)
     → ((n : ℕ) → n < 3 → slice_index new (at + n) ≡ slice_index dot n)
     → IsPrinted table line y new

@@ -2,6 +2,7 @@
 use Rattle.std.proofs.Common.{◌≡◌, ◌∙◌, refl, subst, ap, add-zero, ℕ, suc, zero, List, length, ◌≤◌, ◌+◌, ◌-◌, ◌*◌, ◌/◌, ◌%◌, ◌^◌, ◌<◌, ◌==◌, arith}
 use Rattle.std.specs.Prelude.{bit_and, slice_set}
 use Rattle.std.proofs.lemmas.Nat.{and_block}
+use Rattle.md_word.specs.Region.{picture_width}
 use Rattle.vdp_planes.specs.Dots.{dot_of}
 use Rattle.vdp_planes.specs.View.{IsFilled, has_bit}
 use Rattle.vdp_planes.specs.Planes.{pixel_dot, pixel_of}
@@ -73,7 +74,7 @@ step : {A : Type 0} (d : A) (from i k : ℕ) (old new : List A) (f : ℕ → A) 
 step d from i k old new f h = let place : i + k + 1 ≡ i + (k + 1) = omega arith in subst (λ n. IsFilled d from n old new f) place h
 
 -- four places filled
-pub four_filled : {A : Type 0} (d : A) (i : ℕ) (old : List A) (f : ℕ → A) (v0 v1 v2 v3 : A) → length old ≡ 320 → i + 4 ≤ 320
+pub four_filled : {A : Type 0} (d : A) (i : ℕ) (old : List A) (f : ℕ → A) (v0 v1 v2 v3 : A) → length old ≡ picture_width → i + 4 ≤ picture_width
     → v0 ≡ f (i + 0) → v1 ≡ f (i + 1) → v2 ≡ f (i + 2) → v3 ≡ f (i + 3)
     → IsFilled d i (i + 4) old (slice_set (slice_set (slice_set (slice_set old i v0) (i + 1) v1) (i + 2) v2) (i + 3) v3) f
 four_filled d i old f v0 v1 v2 v3 whole within e0 e1 e2 e3 =

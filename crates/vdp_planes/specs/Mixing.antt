@@ -1,6 +1,7 @@
 -- What a dot of the picture shows, and the bytes that it prints. Genesis Technical Overview, priority,
 -- shadow and highlight; the bytes of a level are this project's profile.
 use Rattle.std.specs.Prelude.{◌≡◌, ℕ, ◌+◌, ◌-◌, ◌*◌, ◌/◌, ◌%◌, ◌<◌, ◌≤◌, Bool, false, ◌==◌, ◌||◌, ◌&&◌, not, nat_lt, nat_le, if◌then◌else◌, List, [], ◌∷◌, slice_index, slice_index_or}
+use Rattle.md_word.specs.Region.{picture_width}
 use Rattle.vdp_planes.specs.Dots.{Dot}
 use Rattle.vdp_planes.specs.declared.view.LineView.{LineView}
 use Rattle.vdp_planes.specs.declared.colours.Rgb.{Rgb}
@@ -145,9 +146,9 @@ index_at view a b s x = index_of (shown_at view a b s x)
 -- where the picture is on the screen's line
 pub record IsSpan (view : LineView) (from to : ℕ) : Type 0 where
   pub order : from ≤ to
-  pub within : to ≤ 320
+  pub within : to ≤ picture_width
   pub border : from < to → from ≡ border_of view
-  pub covers : (x : ℕ) → x < 320 → in_picture view x ≡ (nat_le from x && nat_lt x to)
+  pub covers : (x : ℕ) → x < picture_width → in_picture view x ≡ (nat_le from x && nat_lt x to)
 
 -- the number that a place of the backdrop shows
 abbrev pub back_at : ℕ → ℕ → ℕ

@@ -1,6 +1,6 @@
 -- What a line is drawn from, and its dots.
 use Rattle.std.specs.Prelude.{◌≡◌, ℕ, ◌+◌, ◌*◌, ◌/◌, ◌%◌, ◌<◌, ◌≤◌, Bool, false, ◌==◌, ◌&&◌, List, length, slice_index, slice_index_or}
-use Rattle.md_word.specs.Region.{height}
+use Rattle.md_word.specs.Region.{height, picture_width}
 use Rattle.vdp_planes.specs.Dots.{Dot}
 use Rattle.vdp_planes.specs.declared.view.LineView.{LineView}
 use Rattle.vdp_planes.specs.declared.view.Scene.{Scene}
@@ -40,12 +40,12 @@ dot_at dots x = slice_index_or dots x clear
 
 -- there are 64 colours
 abbrev pub AllColours : List Dot → Type 0
-AllColours dots = (x : ℕ) → x < 320 → (dot_at dots x).colour < 64
+AllColours dots = (x : ℕ) → x < picture_width → (dot_at dots x).colour < 64
 
 -- a list of 320 items in which those from one place to another were filled: each with the function
 -- of its place
 pub record IsFilled {A : Type 0} (d : A) (from to : ℕ) (old new : List A) (f : ℕ → A) : Type 0 where
-  pub whole : length new ≡ 320
+  pub whole : length new ≡ picture_width
   pub inside : (x : ℕ) → from ≤ x → x < to → slice_index_or new x d ≡ f x
   pub below : (x : ℕ) → x < from → slice_index_or new x d ≡ slice_index_or old x d
   pub above : (x : ℕ) → to ≤ x → slice_index_or new x d ≡ slice_index_or old x d

@@ -1,4 +1,5 @@
 ghost use Rattle.std.specs.Prelude.{◌≡◌, ℕ, ◌/◌, ◌%◌, ◌*◌, ◌+◌, ◌-◌, ◌<◌, ◌≤◌, ◌^◌, length, slice_index};
+ghost use Rattle.md_word.specs.Region.{picture_width};
 ghost use Rattle.vdp_planes.specs.View.{IsFilled, clear, has_bit, seen};
 ghost use Rattle.vdp_planes.specs.Planes.{pattern_index, pixel_dot, pixel_of, run_dot, turned};
 
@@ -101,7 +102,7 @@ fn base(name: u32) -> u16
 fn pixel_run(name: u32, pixels: u32, column: u32, from: u32, to: u32, out: &mut [Dot; 320])
     requires name { name < 2 ^ 16 }
     requires order { from ≤ to }
-    requires within { to ≤ 320 }
+    requires within { to ≤ picture_width }
     requires cell { column + to ≤ from + 8 }
     ensures { IsFilled clear from to out.old out.new (pixel_dot name pixels column from) }
 {
@@ -127,8 +128,8 @@ fn four_words(digits: u32, base: u16) -> u64
 #[inline(always)]
 fn put_four(name: u32, pixels: u32, words: u64, column: u32, from: u32, out: &mut [Dot; 320])
     requires column { column ≤ 4 }
-    requires within { from + 8 ≤ 320 }
-    requires whole { length out.old ≡ 320 }
+    requires within { from + 8 ≤ picture_width }
+    requires whole { length out.old ≡ picture_width }
     requires words { (c : ℕ) → c < 4 → words / 2 ^ (16 * c) % 65536 ≡ name / 32768 % 2 * 256 + name / 8192 % 4 * 16 + pixel_of pixels (column + c) }
     ensures { IsFilled clear (from + column) (from + column + 4) out.old out.new (pixel_dot name pixels 0 from) }
 {
@@ -144,8 +145,8 @@ fn put_four(name: u32, pixels: u32, words: u64, column: u32, from: u32, out: &mu
 #[inline(always)]
 fn whole_run(name: u32, pixels: u32, from: u32, out: &mut [Dot; 320])
     requires name { name < 2 ^ 16 }
-    requires within { from + 8 ≤ 320 }
-    requires whole { length out.old ≡ 320 }
+    requires within { from + 8 ≤ picture_width }
+    requires whole { length out.old ≡ picture_width }
     ensures { IsFilled clear from (from + 8) out.old out.new (pixel_dot name pixels 0 from) }
 {
     let base = base(name);
@@ -160,8 +161,8 @@ fn whole_run(name: u32, pixels: u32, from: u32, out: &mut [Dot; 320])
 pub fn cell_row(scene: &Scene, name: u32, row: u32, from: u32, out: &mut [Dot; 320])
     requires name { name < 2 ^ 16 }
     requires row { row < 8 }
-    requires within { from + 8 ≤ 320 }
-    requires whole { length out.old ≡ 320 }
+    requires within { from + 8 ≤ picture_width }
+    requires whole { length out.old ≡ picture_width }
     ensures { IsFilled clear from (from + 8) out.old out.new (run_dot (seen scene.now) name 0 row from) }
 {
     let line = turned(name / 4096 % 2 == 1, row);
@@ -183,7 +184,7 @@ pub fn cell_run(
     requires name { name < 2 ^ 16 }
     requires row { row < 8 }
     requires order { from ≤ to }
-    requires within { to ≤ 320 }
+    requires within { to ≤ picture_width }
     requires cell { column + to ≤ from + 8 }
     ensures { IsFilled clear from to out.old out.new (run_dot (seen scene.now) name column row from) }
 {

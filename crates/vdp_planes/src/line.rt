@@ -1,4 +1,5 @@
 ghost use Rattle.std.specs.Prelude.{◌≡◌, ℕ, ◌<◌, ◌≤◌, Bool, true, false, length};
+ghost use Rattle.md_word.specs.Region.{picture_width};
 ghost use Rattle.vdp_planes.specs.View.{AllColours, IsFilled, clear, dot_at, seen};
 ghost use Rattle.vdp_planes.specs.Planes.{plane_dot, scrolled_dot, width_of, window_dot};
 ghost use Rattle.vdp_planes.specs.Scrolls.{IsScroll};
@@ -12,7 +13,7 @@ use crate::window::{draw_window, split_of, width_of};
 /// the dots from 256 on are clear. Source: Genesis Technical Overview, scrolling and the window.
 pub fn plane_line(view: &LineView, y: u32, second: bool, out: &mut [Dot; 320])
     requires { y < 240 }
-    ensures dots { (x : ℕ) → x < 320 → dot_at out.new x ≡ plane_dot view.now second y x }
+    ensures dots { (x : ℕ) → x < picture_width → dot_at out.new x ≡ plane_dot view.now second y x }
     ensures below { AllColours out.new }
 {
     draw_plane(&view.scene(), y, second, out);
@@ -21,7 +22,7 @@ pub fn plane_line(view: &LineView, y: u32, second: bool, out: &mut [Dot; 320])
 /// `plane_line` from borrowed registers and memories.
 pub fn draw_plane(scene: &Scene, y: u32, second: bool, out: &mut [Dot; 320])
     requires { y < 240 }
-    ensures dots { (x : ℕ) → x < 320 → dot_at out.new x ≡ plane_dot (seen scene.now) second y x }
+    ensures dots { (x : ℕ) → x < picture_width → dot_at out.new x ≡ plane_dot (seen scene.now) second y x }
     ensures below { AllColours out.new }
 {
     let width = width_of(scene);
@@ -34,8 +35,8 @@ pub fn draw_plane(scene: &Scene, y: u32, second: bool, out: &mut [Dot; 320])
 fn draw_dots(scene: &Scene, scroll: &Scroll, width: u32, out: &mut [Dot; 320])
     requires scroll { IsScroll (seen scene.now) scroll.now }
     requires width { width ≡ width_of (seen scene.now) }
-    requires within { width ≤ 320 }
-    requires whole { length out.old ≡ 320 }
+    requires within { width ≤ picture_width }
+    requires whole { length out.old ≡ picture_width }
     ensures { IsFilled clear 0 width out.old out.new (plane_dot (seen scene.now) scroll.now.second scroll.now.y) }
 {
     if scroll.second {
@@ -50,8 +51,8 @@ fn draw_first(scene: &Scene, scroll: &Scroll, width: u32, out: &mut [Dot; 320])
     requires scroll { IsScroll (seen scene.now) scroll.now }
     requires plane { scroll.now.second ≡ false }
     requires width { width ≡ width_of (seen scene.now) }
-    requires within { width ≤ 320 }
-    requires whole { length out.old ≡ 320 }
+    requires within { width ≤ picture_width }
+    requires whole { length out.old ≡ picture_width }
     ensures { IsFilled clear 0 width out.old out.new (plane_dot (seen scene.now) false scroll.now.y) }
 {
     let split = split_of(scene, scroll.y);
@@ -67,8 +68,8 @@ fn draw_first(scene: &Scene, scroll: &Scroll, width: u32, out: &mut [Dot; 320])
 /// Clears the dots from a place on.
 #[tactic(auto, using(crate::proofs::Filled::filled_one))]
 fn clear_from(from: u32, out: &mut [Dot; 320])
-    requires within { from ≤ 320 }
-    ensures { IsFilled clear from 320 out.old out.new clear_at }
+    requires within { from ≤ picture_width }
+    ensures { IsFilled clear from picture_width out.old out.new clear_at }
 {
     for x in from..320 {
         out[x as usize] = Dot::new(0, false);

@@ -1,4 +1,5 @@
 ghost use Rattle.std.specs.Prelude.{◌≡◌, ℕ, ◌+◌, ◌-◌, ◌*◌, ◌/◌, ◌%◌, ◌<◌, ◌≤◌, [], length, slice_index, slice_index_or};
+ghost use Rattle.md_word.specs.Region.{picture_width, scanline_length};
 ghost use Rattle.vdp_planes.specs.View.{AllColours, IsFilled, register, seen};
 ghost use Rattle.vdp_planes.specs.Planes.{width_of};
 ghost use Rattle.vdp_planes.specs.Mixing.{IsSpan, back_at, backdrop, backdrop_byte, in_picture, index_at, index_of, line_byte, mixed_at, part, printed_byte, shaded_at, unshaded_at};
@@ -17,8 +18,8 @@ pub fn mix_line(view: &LineView, a: &[Dot; 320], b: &[Dot; 320], s: &[Dot; 320],
     requires a { AllColours a.now }
     requires b { AllColours b.now }
     requires s { AllColours s.now }
-    requires room { length rgb.old ≡ 960 }
-    ensures { (n : ℕ) → n < 960 → slice_index rgb.new n ≡ line_byte view.now a.now b.now s.now n }
+    requires room { length rgb.old ≡ scanline_length }
+    ensures { (n : ℕ) → n < scanline_length → slice_index rgb.new n ≡ line_byte view.now a.now b.now s.now n }
 {
     mix_dots(&view.scene(), a, b, s, rgb);
 }
@@ -28,8 +29,8 @@ pub fn mix_dots(scene: &Scene, a: &[Dot; 320], b: &[Dot; 320], s: &[Dot; 320], r
     requires a { AllColours a.now }
     requires b { AllColours b.now }
     requires s { AllColours s.now }
-    requires room { length rgb.old ≡ 960 }
-    ensures { (n : ℕ) → n < 960 → slice_index rgb.new n ≡ line_byte (seen scene.now) a.now b.now s.now n }
+    requires room { length rgb.old ≡ scanline_length }
+    ensures { (n : ℕ) → n < scanline_length → slice_index rgb.new n ≡ line_byte (seen scene.now) a.now b.now s.now n }
 {
     if scene.is_shown() {
         mix_shown(scene, a, b, s, rgb);
@@ -41,8 +42,8 @@ pub fn mix_dots(scene: &Scene, a: &[Dot; 320], b: &[Dot; 320], s: &[Dot; 320], r
 /// Writes the backdrop's colour into each dot of the line, sixteen dots at a time.
 #[tactic(auto, unfolding(crate::specs::Mixing::backdrop, crate::specs::Mixing::backdrop_byte))]
 fn fill_row(scene: &Scene, rgb: &mut [u8])
-    requires room { length rgb.old ≡ 960 }
-    ensures { (n : ℕ) → n < 960 → slice_index rgb.new n ≡ backdrop_byte (seen scene.now) n }
+    requires room { length rgb.old ≡ scanline_length }
+    ensures { (n : ℕ) → n < scanline_length → slice_index rgb.new n ≡ backdrop_byte (seen scene.now) n }
 {
     let back = scene.registers[BACKDROP] % 64;
     let colour = rgb_of(scene, usize::from(back), Shade::Normal);
@@ -71,8 +72,8 @@ fn mix_shown(scene: &Scene, a: &[Dot; 320], b: &[Dot; 320], s: &[Dot; 320], rgb:
     requires a { AllColours a.now }
     requires b { AllColours b.now }
     requires s { AllColours s.now }
-    requires room { length rgb.old ≡ 960 }
-    ensures { (n : ℕ) → n < 960 → slice_index rgb.new n ≡ line_byte (seen scene.now) a.now b.now s.now n }
+    requires room { length rgb.old ≡ scanline_length }
+    ensures { (n : ℕ) → n < scanline_length → slice_index rgb.new n ≡ line_byte (seen scene.now) a.now b.now s.now n }
 {
     let mut table = [[0; 4]; 192];
     fill_shown(scene, &mut table);
@@ -101,9 +102,9 @@ fn mix_indexes(scene: &Scene, a: &[Dot; 320], b: &[Dot; 320], s: &[Dot; 320], li
     requires a { AllColours a.now }
     requires b { AllColours b.now }
     requires s { AllColours s.now }
-    ensures whole { length line.new ≡ 320 }
-    ensures value { (x : ℕ) → x < 320 → slice_index line.new x ≡ index_at (seen scene.now) a.now b.now s.now x }
-    ensures below { (x : ℕ) → x < 320 → slice_index line.new x < 192 }
+    ensures whole { length line.new ≡ picture_width }
+    ensures value { (x : ℕ) → x < picture_width → slice_index line.new x ≡ index_at (seen scene.now) a.now b.now s.now x }
+    ensures below { (x : ℕ) → x < picture_width → slice_index line.new x < 192 }
 {
     let back = scene.registers[BACKDROP] % 64;
     let (from, to) = span_of(scene);
@@ -126,8 +127,8 @@ fn fill_mixed(
     requires b { AllColours b.now }
     requires s { AllColours s.now }
     requires order { from ≤ to }
-    requires within { to ≤ 320 }
-    requires whole { length line.old ≡ 320 }
+    requires within { to ≤ picture_width }
+    requires whole { length line.old ≡ picture_width }
     ensures { IsFilled 0 from to line.old line.new (mixed_at (seen scene.now) a.now b.now s.now from) }
 {
     let back = scene.registers[BACKDROP] % 64;
@@ -143,8 +144,8 @@ fn fill_mixed(
 fn fill_back(back: u8, from: usize, to: usize, line: &mut [u8; 320])
     requires back { back < 64 }
     requires order { from ≤ to }
-    requires within { to ≤ 320 }
-    requires whole { length line.old ≡ 320 }
+    requires within { to ≤ picture_width }
+    requires whole { length line.old ≡ picture_width }
     ensures { IsFilled 0 from to line.old line.new (back_at back) }
 {
     let index = index_of(back, Shade::Normal);
@@ -169,8 +170,8 @@ fn fill_shaded(
     requires b { AllColours b.now }
     requires s { AllColours s.now }
     requires order { from ≤ to }
-    requires within { to ≤ 320 }
-    requires whole { length line.old ≡ 320 }
+    requires within { to ≤ picture_width }
+    requires whole { length line.old ≡ picture_width }
     ensures { IsFilled 0 from to line.old line.new (shaded_at back a.now b.now s.now from) }
 {
     for x in from..to {
@@ -195,8 +196,8 @@ fn fill_unshaded(
     requires b { AllColours b.now }
     requires s { AllColours s.now }
     requires order { from ≤ to }
-    requires within { to ≤ 320 }
-    requires whole { length line.old ≡ 320 }
+    requires within { to ≤ picture_width }
+    requires whole { length line.old ≡ picture_width }
     ensures { IsFilled 0 from to line.old line.new (unshaded_at back a.now b.now s.now from) }
 {
     for x in from..to {
@@ -209,10 +210,10 @@ fn fill_unshaded(
 /// written with one byte more, which the next dot's first then replaces.
 #[tactic(auto, using(crate::proofs::Printed::dot_printed))]
 fn print(table: &[[u8; 4]; 192], line: &[u8; 320], rgb: &mut [u8])
-    requires indices { (x : ℕ) → x < 320 → slice_index line.now x < 192 }
-    requires entries { (x : ℕ) → x < 320 → length (slice_index_or table.now (slice_index line.now x) []) ≡ 4 }
-    requires room { length rgb.old ≡ 960 }
-    ensures { (n : ℕ) → n < 960 → slice_index rgb.new n ≡ printed_byte table.now line.now n }
+    requires indices { (x : ℕ) → x < picture_width → slice_index line.now x < 192 }
+    requires entries { (x : ℕ) → x < picture_width → length (slice_index_or table.now (slice_index line.now x) []) ≡ 4 }
+    requires room { length rgb.old ≡ scanline_length }
+    ensures { (n : ℕ) → n < scanline_length → slice_index rgb.new n ≡ printed_byte table.now line.now n }
 {
     for x in 0..79 {
         let at = 12 * x;
@@ -240,8 +241,8 @@ fn print(table: &[[u8; 4]; 192], line: &[u8; 320], rgb: &mut [u8])
 fn print_dot(dot: &[u8; 4], at: usize, rgb: &mut [u8])
     requires within { at < 957 }
     requires dot { length dot.now ≡ 4 }
-    requires whole { length rgb.old ≡ 960 }
-    ensures whole { length rgb.new ≡ 960 }
+    requires whole { length rgb.old ≡ scanline_length }
+    ensures whole { length rgb.new ≡ scanline_length }
     ensures before { (n : ℕ) → n < at → slice_index rgb.new n ≡ slice_index rgb.old n }
     ensures dot { (n : ℕ) → n < 3 → slice_index rgb.new (at + n) ≡ slice_index dot.now n }
 {

@@ -1,4 +1,5 @@
 ghost use Rattle.std.specs.Prelude.{◌≡◌, ℕ, ◌+◌, ◌-◌, ◌/◌, ◌%◌, ◌*◌, ◌<◌, ◌≤◌, ◌^◌, length, true};
+ghost use Rattle.md_word.specs.Region.{picture_width};
 ghost use Rattle.vdp_planes.specs.View.{IsFilled, clear, has_bit, register, seen};
 ghost use Rattle.vdp_planes.specs.Planes.{down, name_place, plane_number, point_y, scroll_place, scrolled_dot};
 ghost use Rattle.vdp_planes.specs.Scrolls.{IsScroll};
@@ -89,7 +90,7 @@ pub fn scroll_of(scene: &Scene, y: u32, second: bool) -> Scroll
 #[tactic(auto, unfolding(crate::specs::Planes::down, crate::specs::Planes::plane_number))]
 fn down(scene: &Scene, scroll: &Scroll, x: u32) -> u32
     requires scroll { IsScroll (seen scene.now) scroll.now }
-    requires within { x < 320 }
+    requires within { x < picture_width }
     ensures value { result ≡ down (seen scene.now) scroll.now.second x }
     ensures below { result < 65536 }
 {
@@ -101,7 +102,7 @@ fn down(scene: &Scene, scroll: &Scroll, x: u32) -> u32
 #[inline(always)]
 fn column_end(scroll: &Scroll, x: u32, to: u32) -> u32
     requires order { x < to }
-    requires within { to ≤ 320 }
+    requires within { to ≤ picture_width }
     ensures column { scroll.now.by_columns ≡ true → result ≤ x + 16 - x % 16 }
     ensures further { x < result }
 {
@@ -126,7 +127,7 @@ fn scrolled_cell(
 ) -> u32
     requires scroll { IsScroll (seen scene.now) scroll.now }
     requires order { x < to }
-    requires within { to ≤ 320 }
+    requires within { to ≤ picture_width }
     requires tall { py < 1024 }
     requires down { (i : ℕ) → x ≤ i → i < to → py ≡ point_y (seen scene.now) scroll.now.second scroll.now.y i }
     ensures drawn { IsFilled clear x result out.old out.new (scrolled_dot (seen scene.now) scroll.now.second scroll.now.y) }
@@ -147,8 +148,8 @@ fn scrolled_cell(
 #[tactic(auto, unfolding(crate::specs::Planes::name_place, crate::specs::Planes::point_x))]
 fn whole_cell(scene: &Scene, scroll: &Scroll, py: u32, x: u32, out: &mut [Dot; 320])
     requires scroll { IsScroll (seen scene.now) scroll.now }
-    requires within { x + 8 ≤ 320 }
-    requires whole { length out.old ≡ 320 }
+    requires within { x + 8 ≤ picture_width }
+    requires whole { length out.old ≡ picture_width }
     requires tall { py < 1024 }
     requires begins { (x + scroll.now.shift) % 8 ≡ 0 }
     requires down { (i : ℕ) → x ≤ i → i < x + 8 → py ≡ point_y (seen scene.now) scroll.now.second scroll.now.y i }
@@ -166,9 +167,9 @@ fn whole_cell(scene: &Scene, scroll: &Scroll, py: u32, x: u32, out: &mut [Dot; 3
 #[tactic(auto, unfolding(crate::specs::Planes::point_y))]
 fn draw_column(scene: &Scene, scroll: &Scroll, from: u32, to: u32, out: &mut [Dot; 320])
     requires scroll { IsScroll (seen scene.now) scroll.now }
-    requires whole { length out.old ≡ 320 }
+    requires whole { length out.old ≡ picture_width }
     requires order { from < to }
-    requires within { to ≤ 320 }
+    requires within { to ≤ picture_width }
     requires column { scroll.now.by_columns ≡ true → to ≤ from + 16 - from % 16 }
     ensures { IsFilled clear from to out.old out.new (scrolled_dot (seen scene.now) scroll.now.second scroll.now.y) }
 {
@@ -186,9 +187,9 @@ fn draw_column(scene: &Scene, scroll: &Scroll, from: u32, to: u32, out: &mut [Do
 /// Draws the dots of the plane from one place to another.
 pub fn draw_scrolled(scene: &Scene, scroll: &Scroll, from: u32, to: u32, out: &mut [Dot; 320])
     requires scroll { IsScroll (seen scene.now) scroll.now }
-    requires whole { length out.old ≡ 320 }
+    requires whole { length out.old ≡ picture_width }
     requires order { from ≤ to }
-    requires within { to ≤ 320 }
+    requires within { to ≤ picture_width }
     ensures { IsFilled clear from to out.old out.new (scrolled_dot (seen scene.now) scroll.now.second scroll.now.y) }
 {
     // copies stay in registers, since no dot is written over them

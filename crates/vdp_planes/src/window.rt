@@ -1,4 +1,5 @@
 ghost use Rattle.std.specs.Prelude.{◌≡◌, ℕ, ◌+◌, ◌-◌, ◌/◌, ◌%◌, ◌*◌, ◌<◌, ◌≤◌, ◌^◌, length, nat_le, nat_lt};
+ghost use Rattle.md_word.specs.Region.{picture_width};
 ghost use Rattle.vdp_planes.specs.View.{IsFilled, clear, has_bit, register, seen};
 ghost use Rattle.vdp_planes.specs.Planes.{in_window, side, width_of, window_dot, window_place};
 ghost use Rattle.vdp_planes.specs.Scrolls.{IsSplit};
@@ -13,7 +14,7 @@ use crate::view::{Dot, Scene};
 #[tactic(auto, unfolding(crate::specs::Planes::width_of))]
 pub fn width_of(scene: &Scene) -> u32
     ensures value { result ≡ width_of (seen scene.now) }
-    ensures most { result ≤ 320 }
+    ensures most { result ≤ picture_width }
 {
     if scene.registers[MODE_4] % 2 == 1 {
         320
@@ -27,7 +28,7 @@ pub fn width_of(scene: &Scene) -> u32
 #[tactic(auto, unfolding(crate::specs::Planes::window_place))]
 fn window_place(scene: &Scene, y: u32, x: u32) -> u32
     requires line { y < 240 }
-    requires within { x < 320 }
+    requires within { x < picture_width }
     ensures value { result ≡ window_place (seen scene.now) y x }
     ensures below { result < 2 ^ 18 }
 {
@@ -44,7 +45,7 @@ fn window_place(scene: &Scene, y: u32, x: u32) -> u32
 fn window_cell(scene: &Scene, y: u32, x: u32, to: u32, out: &mut [Dot; 320]) -> u32
     requires line { y < 240 }
     requires order { x < to }
-    requires within { to ≤ 320 }
+    requires within { to ≤ picture_width }
     ensures drawn { IsFilled clear x result out.old out.new (window_dot (seen scene.now) y) }
     ensures further { x < result }
     ensures most { result ≤ to }
@@ -58,9 +59,9 @@ fn window_cell(scene: &Scene, y: u32, x: u32, to: u32, out: &mut [Dot; 320]) -> 
 /// Draws the dots of the window from one place to another.
 pub fn draw_window(scene: &Scene, y: u32, from: u32, to: u32, out: &mut [Dot; 320])
     requires line { y < 240 }
-    requires whole { length out.old ≡ 320 }
+    requires whole { length out.old ≡ picture_width }
     requires order { from ≤ to }
-    requires within { to ≤ 320 }
+    requires within { to ≤ picture_width }
     ensures { IsFilled clear from to out.old out.new (window_dot (seen scene.now) y) }
 {
     let scene = *scene;

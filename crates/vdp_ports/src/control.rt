@@ -1,4 +1,5 @@
-ghost use Rattle.std.specs.Prelude.{◌≡◌, ◌^◌, ◌<◌, ◌≤◌, ◌==◌, ◌||◌, ℕ, IsTrue};
+ghost use Rattle.std.specs.Prelude.{◌≡◌, ◌<◌, ◌≤◌, ◌==◌, ◌||◌, ℕ, IsTrue};
+ghost use Rattle.md_word.specs.Clock.{cycle_limit};
 ghost use Rattle.vdp_ports.specs.Cases.{IsControlWrite};
 ghost use Rattle.vdp_ports.specs.Pins.{HasSameInterval, HasSamePins};
 ghost use Rattle.vdp_ports.specs.Rules.{HasRules};
@@ -17,7 +18,7 @@ impl VdpState {
     /// words of the transfer that it starts, a byte address and a count of 1 to 65,536; `None` where it
     /// starts none.
     pub fn control_write(&mut self, cycle: u64, word: u16) -> Option<(u32, u32)>
-        requires { cycle ≤ 2 ^ 50 }
+        requires { cycle ≤ cycle_limit }
         ensures after { self.new ≡ meaning.controlled cycle word self.old }
         ensures transfer { result ≡ meaning.started_by word self.old }
         ensures cases { IsControlWrite cycle word self.old self.new result }
@@ -83,7 +84,7 @@ impl VdpState {
 
     #[tactic(auto, unfolding(crate::specs::Control::controlled, crate::specs::Control::started_by))]
     fn write_control(&mut self, cycle: u64, word: u16) -> Option<(u32, u32)>
-        requires { cycle ≤ 2 ^ 50 }
+        requires { cycle ≤ cycle_limit }
         ensures after { self.new ≡ meaning.controlled cycle word self.old }
         ensures transfer { result ≡ meaning.started_by word self.old }
     {
@@ -153,7 +154,7 @@ impl VdpState {
     /// Drops what was in progress, and starts a transfer, arms a fill or starts a copy.
     #[tactic(auto, unfolding(crate::specs::Control::started))]
     fn start(&mut self, cycle: u64)
-        requires { cycle ≤ 2 ^ 50 }
+        requires { cycle ≤ cycle_limit }
         ensures { self.new ≡ meaning.started cycle self.old }
     {
         if self.transfers() {

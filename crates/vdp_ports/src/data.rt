@@ -1,4 +1,5 @@
-ghost use Rattle.std.specs.Prelude.{◌≡◌, ◌^◌, ◌<◌, ◌≤◌, ℕ};
+ghost use Rattle.std.specs.Prelude.{◌≡◌, ◌<◌, ◌≤◌, ℕ};
+ghost use Rattle.md_word.specs.Clock.{cycle_limit};
 ghost use Rattle.vdp_ports.specs.Cases.{IsDataWrite};
 ghost use Rattle.vdp_ports.specs.Pins.{HasSamePins};
 ghost use Rattle.vdp_ports.specs.Rules.{HasRules};
@@ -32,7 +33,7 @@ impl VdpState {
     /// A data write at a cycle, to which fill and copy are settled. It ends the pending state and
     /// starts the fill that is armed.
     pub fn data_write(&mut self, cycle: u64, word: u16)
-        requires { cycle ≤ 2 ^ 50 }
+        requires { cycle ≤ cycle_limit }
         ensures value { self.new ≡ meaning.written cycle word self.old }
         ensures cases { IsDataWrite cycle word self.old self.new }
         ensures rules { (at : ℕ) → cycle < at → HasRules at self.old → HasRules at self.new }
@@ -55,7 +56,7 @@ impl VdpState {
 
     #[tactic(auto, unfolding(crate::specs::Data::written))]
     fn write_data(&mut self, cycle: u64, word: u16)
-        requires { cycle ≤ 2 ^ 50 }
+        requires { cycle ≤ cycle_limit }
         ensures { self.new ≡ meaning.written cycle word self.old }
     {
         let armed = self.armed;

@@ -1,4 +1,5 @@
-ghost use Rattle.std.specs.Prelude.{◌≡◌, ◌^◌, ◌≤◌};
+ghost use Rattle.std.specs.Prelude.{◌≡◌, ◌≤◌};
+ghost use Rattle.md_word.specs.Clock.{cycle_limit};
 ghost use Rattle.vdp_ports.specs.Dma as meaning;
 
 use crate::register::{INCREMENT, LENGTH_HIGH, LENGTH_LOW, SOURCE_LOW, SOURCE_MIDDLE};
@@ -86,7 +87,7 @@ impl VdpState {
     /// Starts the fill whose data write was this word: its upper byte is what the fill writes.
     #[tactic(auto, unfolding(crate::specs::Dma::filling))]
     pub(crate) fn fill(&mut self, cycle: u64, word: u16)
-        requires { cycle ≤ 2 ^ 50 }
+        requires { cycle ≤ cycle_limit }
         ensures { self.new ≡ meaning.filling cycle word self.old }
     {
         let left = self.length();
@@ -104,7 +105,7 @@ impl VdpState {
     /// Starts a copy.
     #[tactic(auto, unfolding(crate::specs::Dma::copying))]
     pub(crate) fn copy(&mut self, cycle: u64)
-        requires { cycle ≤ 2 ^ 50 }
+        requires { cycle ≤ cycle_limit }
         ensures { self.new ≡ meaning.copying cycle self.old }
     {
         let left = self.length();

@@ -1,5 +1,6 @@
 -- A line of sprite dots on its way.
 use Rattle.std.specs.Prelude.{◌≡◌, ℕ, ◌+◌, ◌-◌, ◌*◌, ◌/◌, ◌%◌, ◌<◌, ◌≤◌, Bool, true, false, ◌||◌, ◌&&◌, not, if◌then◌else◌, List, ◌++◌, length}
+use Rattle.md_word.specs.Region.{picture_width}
 use Rattle.vdp_planes.specs.Dots.{Dot}
 use Rattle.vdp_planes.specs.declared.view.LineView.{LineView}
 use Rattle.vdp_planes.specs.View.{IsFilled, clear, dot_at, has_bit}
@@ -50,9 +51,9 @@ pub record IsRun (view : LineView) (y : ℕ) (part : Part) (sprite : Sprite) (pi
 
 -- a line after the parts of a list, and whether two of them met
 pub record IsLine (view : LineView) (y : ℕ) (list : List Part) (line : List Dot) (hit : Bool) : Type 0 where
-  pub whole : length line ≡ 320
+  pub whole : length line ≡ picture_width
   pub inside : (x : ℕ) → x < width_of view → dot_at line x ≡ dot_at (opaque_of view y list x) 0
-  pub outside : (x : ℕ) → x < 320 → width_of view ≤ x → dot_at line x ≡ clear
+  pub outside : (x : ℕ) → x < picture_width → width_of view ≤ x → dot_at line x ≡ clear
   pub meets : hit ≡ collides view y list
 
 -- what is done and what is left make up the whole

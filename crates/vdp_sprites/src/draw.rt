@@ -1,4 +1,5 @@
 ghost use Rattle.std.specs.Prelude.{◌≡◌, ℕ, ◌+◌, ◌-◌, ◌*◌, ◌%◌, ◌<◌, ◌≤◌, ◌||◌, ◌&&◌, Bool, true, false, not, ◌==◌, min, length, slice_set, List, []};
+ghost use Rattle.md_word.specs.Region.{picture_width};
 ghost use Rattle.vdp_planes.specs.Dots.{Dot as DotValue};
 ghost use Rattle.vdp_planes.specs.declared.view.LineView.{LineView as View};
 ghost use Rattle.vdp_planes.specs.View.{AllColours, clear, dot_at, seen};
@@ -45,8 +46,8 @@ fn meeting(hit: bool, below: Dot, dot: Dot) -> bool
 /// The places of a line that the pixels of a part reach.
 #[tactic(auto, unfolding(crate::specs::Sprites::reaches))]
 fn span_of(sprite: Sprite, pixels: u32, width: u32) -> (u32, u32)
-    requires width { width ≤ 320 }
-    requires pixels { pixels ≤ 320 }
+    requires width { width ≤ picture_width }
+    requires pixels { pixels ≤ picture_width }
     ensures { IsReach (part_of sprite pixels) width result.0 result.1 }
 {
     let left = u32::from(sprite.x);
@@ -58,7 +59,7 @@ fn span_of(sprite: Sprite, pixels: u32, width: u32) -> (u32, u32)
 /// The place after the cell of a sprite that has the place x, none after `to`.
 #[inline(always)]
 fn cell_end(sprite: Sprite, x: u32, to: u32) -> u32
-    requires within { to ≤ 320 }
+    requires within { to ≤ picture_width }
     requires order { x < to }
     requires left { sprite.x ≤ x + 128 }
     ensures further { x < result }
@@ -82,7 +83,7 @@ fn draw_run(
     out: &mut [Dot; 320],
 ) -> bool
     requires order { from ≤ to }
-    requires within { to ≤ 320 }
+    requires within { to ≤ picture_width }
     requires cell { column + to ≤ from + 8 }
     ensures { (view : View) (y : ℕ) (part : Part) (old : List DotValue) (before : Bool) → IsRun view y part sprite pixels column from to
         → IsOver view y from part old out.old before hit
@@ -100,7 +101,7 @@ fn draw_run(
 /// Draws the eight dots of a cell's row: their number is known to the compiler.
 #[inline(always)]
 fn draw_whole(sprite: Sprite, pixels: u32, from: u32, mut hit: bool, out: &mut [Dot; 320]) -> bool
-    requires within { from + 8 ≤ 320 }
+    requires within { from + 8 ≤ picture_width }
     ensures { (view : View) (y : ℕ) (part : Part) (old : List DotValue) (before : Bool) → IsRun view y part sprite pixels 0 from (from + 8)
         → IsOver view y from part old out.old before hit
         → IsOver view y (from + 8) part old out.new before result }
@@ -128,7 +129,7 @@ fn draw_cell(
 ) -> bool
     requires line { y < 240 }
     requires order { from < to }
-    requires within { to ≤ 320 }
+    requires within { to ≤ picture_width }
     requires left { sprite.x ≤ from + 128 }
     requires right { from + 128 < sprite.x + 8 * sprite.width }
     requires cell { to ≤ from + 8 - (from + 128 - sprite.x) % 8 }
@@ -158,10 +159,10 @@ fn draw_part(
     out: &mut [Dot; 320],
 ) -> bool
     requires line { y < 240 }
-    requires width { width ≤ 320 }
-    requires pixels { pixels ≤ 320 }
+    requires width { width ≤ picture_width }
+    requires pixels { pixels ≤ picture_width }
     requires part { pixels ≤ 8 * sprite.width }
-    requires whole { length out.old ≡ 320 }
+    requires whole { length out.old ≡ picture_width }
     ensures { IsOver (seen scene.now) y width (part_of sprite pixels) out.old out.new hit result }
 {
     // a copy stays in registers, since no dot is written over it
@@ -196,7 +197,7 @@ fn seen_with(seen: bool, sprite: Sprite) -> bool
 fn draw_parts(scene: &Scene, y: u32, width: u32, found: &Found, out: &mut [Dot; 320]) -> bool
     requires line { y < 240 }
     requires width { width ≡ width_of (seen scene.now) }
-    requires most { width ≤ 320 }
+    requires most { width ≤ picture_width }
     requires none { IsLine (seen scene.now) y [] out.old false }
     ensures { IsLine (seen scene.now) y (parts_from width false found.now.items) out.new result }
 {
@@ -225,8 +226,8 @@ fn either(a: bool, b: bool) -> bool
 
 /// Clears the line.
 fn clear_line(out: &mut [Dot; 320])
-    ensures whole { length out.new ≡ 320 }
-    ensures clear { (x : ℕ) → x < 320 → dot_at out.new x ≡ clear }
+    ensures whole { length out.new ≡ picture_width }
+    ensures clear { (x : ℕ) → x < picture_width → dot_at out.new x ≡ clear }
 {
     for x in 0..320 {
         out[x] = Dot::new(0, false);
@@ -237,7 +238,7 @@ fn clear_line(out: &mut [Dot; 320])
 /// 256 mode the dots from 256 on are clear.
 pub fn sprite_line(view: &LineView, y: u32, out: &mut [Dot; 320]) -> SpriteNote
     requires { y < 240 }
-    ensures dots { (x : ℕ) → x < 320 → dot_at out.new x ≡ sprite_dot view.now y x }
+    ensures dots { (x : ℕ) → x < picture_width → dot_at out.new x ≡ sprite_dot view.now y x }
     ensures below { AllColours out.new }
     ensures overflow { result.overflow ≡ overflow view.now y }
     ensures collision { result.collision ≡ collides view.now y (parts view.now y) }
@@ -248,7 +249,7 @@ pub fn sprite_line(view: &LineView, y: u32, out: &mut [Dot; 320]) -> SpriteNote
 /// `sprite_line` from borrowed registers and memories.
 pub fn draw_sprites(scene: &Scene, y: u32, out: &mut [Dot; 320]) -> SpriteNote
     requires { y < 240 }
-    ensures dots { (x : ℕ) → x < 320 → dot_at out.new x ≡ sprite_dot (seen scene.now) y x }
+    ensures dots { (x : ℕ) → x < picture_width → dot_at out.new x ≡ sprite_dot (seen scene.now) y x }
     ensures below { AllColours out.new }
     ensures overflow { result.overflow ≡ overflow (seen scene.now) y }
     ensures collision { result.collision ≡ collides (seen scene.now) y (parts (seen scene.now) y) }

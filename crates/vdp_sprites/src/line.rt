@@ -1,4 +1,5 @@
 ghost use Rattle.std.specs.Prelude.{◌≡◌, ℕ, ◌<◌};
+ghost use Rattle.md_word.specs.Region.{picture_width};
 ghost use Rattle.vdp_planes.specs.View.{AllColours, display_height, dot_at, seen};
 ghost use Rattle.vdp_sprites.specs.Lines.{note_on};
 ghost use Rattle.vdp_sprites.specs.Sprites.{sprite_dot};
@@ -12,7 +13,7 @@ use vdp_planes::{Dot, Scene, SpriteNote};
 pub fn draw_line_sprites(scene: &Scene, line: u32, dots: &mut [Dot; 320]) -> SpriteNote
     requires { AllColours dots.old }
     ensures note { result ≡ note_on line (seen scene.now) }
-    ensures dots { line < display_height (seen scene.now) → (x : ℕ) → x < 320 → dot_at dots.new x ≡ sprite_dot (seen scene.now) line x }
+    ensures dots { line < display_height (seen scene.now) → (x : ℕ) → x < picture_width → dot_at dots.new x ≡ sprite_dot (seen scene.now) line x }
     ensures colours { AllColours dots.new }
 {
     if line < scene.height() {

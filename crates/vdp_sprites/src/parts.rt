@@ -1,4 +1,5 @@
 ghost use Rattle.std.specs.Prelude.{◌≡◌, ℕ, ◌+◌, ◌-◌, ◌*◌, ◌%◌, ◌^◌, ◌<◌, ◌≤◌, Bool, List, nat_lt, sum_by};
+ghost use Rattle.md_word.specs.Region.{picture_width};
 ghost use Rattle.vdp_planes.specs.View.{seen};
 ghost use Rattle.vdp_sprites.specs.Drawn.{pixel_dot};
 ghost use Rattle.vdp_sprites.specs.Sprites.{own_dot, within};
@@ -29,7 +30,7 @@ fn within(flip: bool, pixels: u32, n: u32) -> u32
 #[inline(always)]
 pub fn cell_pixels(scene: &Scene, y: u32, sprite: Sprite, x: u32) -> u32
     requires line { y < 240 }
-    requires place { x < 320 }
+    requires place { x < picture_width }
     requires left { sprite.x ≤ x + 128 }
     requires right { x + 128 < sprite.x + 8 * sprite.width }
     ensures { (i : ℕ) → x ≤ i → i < x + 8 - (x + 128 - sprite.x) % 8

@@ -1,4 +1,5 @@
-ghost use Rattle.std.specs.Prelude.{◌≡◌, ◌%◌, ◌^◌, ◌<◌, ◌≤◌, ℕ};
+ghost use Rattle.std.specs.Prelude.{◌≡◌, ◌%◌, ◌<◌, ◌≤◌, ℕ};
+ghost use Rattle.md_word.specs.Clock.{cycle_limit};
 ghost use Rattle.md_word.specs.Clock as clock;
 ghost use Rattle.vdp_ports.specs.Rules.{HasRules};
 ghost use Rattle.vdp_time.specs.Lines as meaning;
@@ -15,7 +16,7 @@ use vdp_ports::register::{LINE_INTERVAL, MODE_2};
 /// overflow and collision. Source: Genesis Technical Overview, interrupts.
 #[tactic(auto, unfolding(crate::specs::Lines::line_started))]
 pub fn start_line(state: &mut VdpState, cycle: u64)
-    requires { cycle ≤ 2 ^ 50 }
+    requires { cycle ≤ cycle_limit }
     ensures value { state.new ≡ meaning.line_started cycle state.old }
     ensures rules { (at : ℕ) → cycle < at → cycle % clock.line ≡ 0 → HasRules at state.old → HasRules at state.new }
 {
@@ -60,7 +61,7 @@ fn count_line(state: &mut VdpState, line: u32)
 /// Raises the vertical interrupts after the display.
 #[tactic(auto, unfolding(crate::specs::Lines::raised))]
 fn raise(state: &mut VdpState, cycle: u64, line: u32)
-    requires { cycle ≤ 2 ^ 50 }
+    requires { cycle ≤ cycle_limit }
     ensures { state.new ≡ meaning.raised cycle line state.old }
 {
     if line == height(state.tall) {

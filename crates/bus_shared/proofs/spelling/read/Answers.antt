@@ -8,6 +8,7 @@ use Rattle.md_fields.proofs.Refusals.{no_rule}
 use Rattle.fm_port.specs.PortSpelling as fm_spelling
 use Rattle.psg_sound.specs.PortSpelling as psg_spelling
 use Rattle.vdp_ports.specs.Spelling as vdp_spelling
+use Rattle.vdp_ports.specs.Spelling.{vdp_size}
 use Rattle.z80_parcel.specs.Parcels.{store_of}
 use Rattle.bus_shared.specs.Board.{Board}
 use Rattle.bus_shared.specs.Saved.{lines_fields}
@@ -28,7 +29,7 @@ returns-in-Err-unspell-clause-rule c = λ place e.
       | else-bytes-ne-SHORT-via-else-bytes-ne-SHORT w ↦ inl (w.if-bytes-ne-SHORT.false)
     ] in
     let w = after_rule (length c.split_at.result.0.now) c.in-Err-unspell.fault place (sym c.following.ensures ∙ same_fault c.following.result (Rule place) e) in
-    let front : c.split_at-2.result.0.now ≡ (cut bytes).vdp = c.split_at-2.ensures.front ∙ ap (take 65813) c.split_at.ensures.back in
+    let front : c.split_at-2.result.0.now ≡ (cut bytes).vdp = c.split_at-2.ensures.front ∙ ap (take vdp_size) c.split_at.ensures.back in
     vdp_exit c.args.at c.args.pal bytes w.0 place long
     (λ q invalid. c.in-Ok.ensures.right q (subst (λ (l : List ℕ). StoreInvalidAt l q) (sym c.split_at.ensures.front) invalid))
     (subst (λ (l : List ℕ). vdp_spelling.InvalidAt c.args.at c.args.pal l w.0) front ((c.in-Err-unspell.ensures.rule w.0).0 (ap Err w.1)))
@@ -56,14 +57,14 @@ returns-in-Err-ports_in-clause-rule c = λ place e.
       | else-bytes-ne-SHORT-via-then-bytes-ne-SHORT+else-bytes-ne-LONG w ↦ inr (w.if-bytes-ne-LONG.false)
       | else-bytes-ne-SHORT-via-else-bytes-ne-SHORT w ↦ inl (w.if-bytes-ne-SHORT.false)
     ] in
-    let w = after_rule (length c.split_at.result.0.now + 65813) c.in-Err-ports_in.fault place (sym c.following-in-Err-ports_in.ensures ∙ same_fault c.following-in-Err-ports_in.result (Rule place) e) in
-    let front : c.split_at-2.result.0.now ≡ (cut bytes).vdp = c.split_at-2.ensures.front ∙ ap (take 65813) c.split_at.ensures.back in
-    let back : c.split_at-2.result.1.now ≡ drop 65813 (drop (store_length bytes) bytes) = c.split_at-2.ensures.back ∙ ap (drop 65813) c.split_at.ensures.back in
+    let w = after_rule (length c.split_at.result.0.now + vdp_size) c.in-Err-ports_in.fault place (sym c.following-in-Err-ports_in.ensures ∙ same_fault c.following-in-Err-ports_in.result (Rule place) e) in
+    let front : c.split_at-2.result.0.now ≡ (cut bytes).vdp = c.split_at-2.ensures.front ∙ ap (take vdp_size) c.split_at.ensures.back in
+    let back : c.split_at-2.result.1.now ≡ drop vdp_size (drop (store_length bytes) bytes) = c.split_at-2.ensures.back ∙ ap (drop vdp_size) c.split_at.ensures.back in
     ports_exit c.args.at c.args.pal bytes w.0 place long
     (λ q invalid. c.in-Ok.ensures.right q (subst (λ (l : List ℕ). StoreInvalidAt l q) (sym c.split_at.ensures.front) invalid))
     (λ q invalid. ok_not _ (Rule q) ((c.in-Ok-unspell.ensures.rule q).1 (subst (λ (l : List ℕ). vdp_spelling.InvalidAt c.args.at c.args.pal l q) (sym front) invalid)))
     (subst (λ (l : List ℕ). PortsIn c.args.at l w.0) back (c.in-Err-ports_in.ensures.rule w.0 (ap Err w.1)))
-    (w.2 ∙ ap (λ (n : ℕ). n + 65813 + w.0) c.split_at.ensures.front_len)
+    (w.2 ∙ ap (λ (n : ℕ). n + vdp_size + w.0) c.split_at.ensures.front_len)
 
 pub board_of-requires-clause-falls : goal.board_of-requires-clause-falls
 board_of-requires-clause-falls c = falls_of c.args.at c.in-Ok-ports_in.ports.lines c.requires c.in-Ok-ports_in.ensures.lines.1
@@ -77,8 +78,8 @@ pub returns-clause-found : goal.returns-clause-found
 returns-clause-found c =
     let bytes = c.args.bytes.now in
     let ports = c.in-Ok-ports_in.ports in
-    let front : c.split_at-2.result.0.now ≡ (cut bytes).vdp = c.split_at-2.ensures.front ∙ ap (take 65813) c.split_at.ensures.back in
-    let back : c.split_at-2.result.1.now ≡ drop 65813 (drop (store_length bytes) bytes) = c.split_at-2.ensures.back ∙ ap (drop 65813) c.split_at.ensures.back in
+    let front : c.split_at-2.result.0.now ≡ (cut bytes).vdp = c.split_at-2.ensures.front ∙ ap (take vdp_size) c.split_at.ensures.back in
+    let back : c.split_at-2.result.1.now ≡ drop vdp_size (drop (store_length bytes) bytes) = c.split_at-2.ensures.back ∙ ap (drop vdp_size) c.split_at.ensures.back in
     let made = c.in_ok-board_of.ensures {u = tt} in (
       subst (Spells c.args.at c.args.pal bytes) (sym made)
           (whole c.args.at c.args.pal bytes (arc_value c.args.recording) (option_map store_of c.in-Ok.parcel) c.in-Ok-unspell.vdp ports.fm.value ports.psg.value ports.lines (record {

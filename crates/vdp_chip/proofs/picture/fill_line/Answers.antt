@@ -1,6 +1,6 @@
 use Rattle.std.proofs.Common.{◌≡◌, length, rules}
+use Rattle.md_word.specs.Region.{scanline_length}
 use Rattle.vdp_planes.specs.View.{seen}
-use Rattle.vdp_chip.specs.Picture.{scanline_length}
 use Rattle.vdp_chip.proofs.Scanlines.{scanline_made}
 use Rattle.vdp_chip.proofs.picture.fill_line.Goals as goal
 
