@@ -2,7 +2,7 @@ ghost use Rattle.std.specs.Prelude.{◌≡◌};
 ghost use Rattle.asm_z80.specs.Encoding80.{encoded};
 
 use crate::opcode::opcode_of;
-use crate::operands::{Bytes, put_operands, put_prefixes};
+use crate::operand_bytes::{Bytes, put_operands, put_prefixes};
 use z80_decode::Op80;
 
 /// The bytes of an instruction that some bytes decode to: one to four. Zilog UM0080, "Z80 Instruction Description".

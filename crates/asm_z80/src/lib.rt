@@ -11,7 +11,7 @@ mod form;
 mod form_values;
 mod mnemonic;
 mod opcode;
-mod operands;
+mod operand_bytes;
 mod reader;
 pub mod reading_laws;
 mod stems;
@@ -19,4 +19,4 @@ mod words;
 
 pub use check_round_trip::bytes_of;
 pub use encoder::encode;
-pub use operands::Bytes;
+pub use operand_bytes::Bytes;
