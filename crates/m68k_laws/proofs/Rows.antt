@@ -9,8 +9,6 @@ use Rattle.md_word.specs.declared.size.Size.{Size}
 use Rattle.md_word.specs.declared.size.Size.TheVariants.{Byte, Word, Long}
 use Rattle.md_word.specs.declared.task.Task.{Task}
 use Rattle.md_word.specs.declared.task.Task.TheVariants as tasks
-use Rattle.m68k_decode.specs.declared.condition.Condition.{Condition}
-use Rattle.m68k_decode.specs.declared.displacement.Displacement.{Displacement}
 use Rattle.m68k_decode.specs.declared.op.Op.{Op}
 use Rattle.m68k_decode.specs.declared.op.Op.TheVariants as ops
 use Rattle.m68k_exec.proofs.Stack.{stack_set}
@@ -39,7 +37,7 @@ use Rattle.m68k_laws.proofs.Operands.{after_load, after_pull, change_operand, ch
 use Rattle.m68k_laws.proofs.Single.{read_byte, write_byte}
 use Rattle.m68k_laws.specs.Accesses.{Access, Kind, Read, Write, one}
 use Rattle.m68k_laws.specs.Footprints as footprints
-use Rattle.m68k_laws.specs.Footprints.{MovesWords, above, alternate, changes, footprint, operand, pulls, pushes, reads, writes}
+use Rattle.m68k_laws.specs.Footprints.{MovesWords, above, alternate, changes, footprint, operand, pulls, reads, writes}
 
 -- bits: in memory one of a byte
 sized : (kind : Kind) (mode : Mode) (pc : ℕ) (regs : Regs) → operand kind (bits.bit_size mode) mode pc regs ≡ operand kind Byte mode pc regs
@@ -57,23 +55,6 @@ bit_of_size operation number mode pc regs = same _ _ _ (sized_change mode pc reg
 bit : (operation : Task) (number : ℕ) (mode : Mode) (pc : ℕ) (regs : Regs) → Follows (footprints.bit operation mode pc regs) (bits.bit operation number mode pc regs)
 unfolding bits.bit
 bit operation number mode pc regs = bit_of_size operation _ mode pc regs
-
-bit_by_register : (operation : Task) (n : ℕ) (mode : Mode) (start : ℕ) (regs : Regs) → Follows (footprints.bit operation mode (above start 2) regs) (bits.bit_by_register operation n mode start regs)
-unfolding bits.bit_by_register
-bit_by_register operation n mode start regs = bit operation _ mode _ regs
-
-bit_by_number : (operation : Task) (number : ℕ) (mode : Mode) (start : ℕ) (regs : Regs) → Follows (footprints.bit operation mode (above start 4) regs) (bits.bit_by_number operation number mode start regs)
-unfolding bits.bit_by_number
-bit_by_number operation number mode start regs = bit operation number mode _ regs
-
--- immediates
-immediate : (operation : Task) (size : Size) (number : ℕ) (mode : Mode) (start : ℕ) (regs : Regs) → Follows (changes size mode (immediates.after_number size start) regs) (immediates.immediate operation size number mode start regs)
-unfolding immediates.immediate
-immediate operation size number mode start regs = change_operand operation size number mode _ regs
-
-compare_immediate : (size : Size) (number : ℕ) (mode : Mode) (start : ℕ) (regs : Regs) → Follows (reads size mode (immediates.after_number size start) regs) (immediates.compare_immediate size number mode start regs)
-unfolding immediates.compare_immediate
-compare_immediate size number mode start regs = test_operand tasks.Cmp size number mode _ regs
 
 -- MOVEP
 six_above : (at : ℕ) → above (above at 4) 2 ≡ above at 6
@@ -110,37 +91,7 @@ write_spread Byte at value = write_byte at value
 write_spread Word at value = write_spread_word at value
 write_spread Long at value = write_spread_long at value
 
-movep_to_register : (size : Size) (x y by start : ℕ) (regs : Regs) → Follows (footprint (ops.MovepToRegister size x y by) start regs) (movep.movep_to_register size x y by start regs)
-unfolding movep.movep_to_register
-movep_to_register size x y by start regs = last _ _ _ (read_spread size _) (λ value. give _)
-
-movep_to_memory : (size : Size) (x y by start : ℕ) (regs : Regs) → Follows (footprint (ops.MovepToMemory size x y by) start regs) (movep.movep_to_memory size x y by start regs)
-unfolding movep.movep_to_memory
-movep_to_memory size x y by start regs = last _ _ _ (write_spread size _ _) (λ written. give _)
-
--- MOVE
-move_operand : (size : Size) (source target : Mode) (start : ℕ) (regs : Regs) → Follows (footprint (ops.Move size source target) start regs) (moves.move_operand size source target start regs)
-unfolding moves.move_operand
-move_operand size source target start regs =
-    after_load _ source size _ regs _ (λ value. last _ _ _ (store target size _ _ _) (λ after. give _))
-
-move_address : (size : Size) (n : ℕ) (mode : Mode) (start : ℕ) (regs : Regs) → Follows (reads size mode (above start 2) regs) (moves.move_address size n mode start regs)
-unfolding moves.move_address
-move_address size n mode start regs = last _ _ _ (load mode size _ regs) (λ from. give _)
-
 -- one operand
-unary : (operation : Task) (size : Size) (mode : Mode) (start : ℕ) (regs : Regs) → Follows (changes size mode (above start 2) regs) (single.unary operation size mode start regs)
-unfolding single.unary
-unary operation size mode start regs = change_operand operation size 0 mode _ regs
-
-nbcd : (mode : Mode) (start : ℕ) (regs : Regs) → Follows (changes Byte mode (above start 2) regs) (single.nbcd mode start regs)
-unfolding single.nbcd
-nbcd mode start regs = change_operand tasks.Nbcd Byte 0 mode _ regs
-
-tst : (size : Size) (mode : Mode) (start : ℕ) (regs : Regs) → Follows (reads size mode (above start 2) regs) (single.tst size mode start regs)
-unfolding single.tst
-tst size mode start regs = last _ _ _ (load mode size _ regs) (λ operand. give _)
-
 tas : (mode : Mode) (start : ℕ) (regs : Regs) → Follows (reads Byte mode (above start 2) regs) (single.tas mode start regs)
 tas (modes.Data n) start regs = change_operand tasks.Tas Byte 0 (modes.Data n) _ regs
 tas mode start regs = test_operand tasks.Tas Byte 0 mode _ regs
@@ -150,56 +101,14 @@ supervised : {A : Type 0} (list : List Access) (test : Bool) (one other : Act A)
 supervised list true one other h k = h
 supervised list false one other h k = k
 
-move_from_sr : (mode : Mode) (start : ℕ) (regs : Regs) → Follows (changes Word mode (above start 2) regs) (status.move_from_sr mode start regs)
-unfolding status.move_from_sr
-move_from_sr mode start regs =
-    bind (reads Word mode (above start 2) regs) (writes Word mode (above start 2) regs) _ _ (fetch Word mode _ regs _) (λ old.
-    last _ _ _ (put Word mode _ _ regs _) (λ after. give _))
-
-move_to_ccr : (mode : Mode) (start : ℕ) (regs : Regs) → Follows (reads Word mode (above start 2) regs) (status.move_to_ccr mode start regs)
-unfolding status.move_to_ccr
-move_to_ccr mode start regs = last _ _ _ (load mode Word _ regs) (λ operand. give _)
-
 load_sr : (mode : Mode) (start : ℕ) (regs : Regs) → Follows (reads Word mode (above start 2) regs) (status.load_sr mode start regs)
 unfolding status.load_sr
 load_sr mode start regs = last _ _ _ (load mode Word _ regs) (λ operand. give _)
-
-move_to_sr : (mode : Mode) (start : ℕ) (regs : Regs) → Follows (footprint (ops.MoveToSr mode) start regs) (status.move_to_sr mode start regs)
-unfolding status.move_to_sr
-move_to_sr mode start regs = supervised _ (is_supervisor regs) _ _ (load_sr mode start regs) (give _)
-
--- links, jumps and returns
-pea : (mode : Mode) (start : ℕ) (regs : Regs) → Follows (pushes regs) (links.pea mode start regs)
-unfolding links.pea
-pea mode start regs = last _ _ _ (push Long _ regs) (λ after. give _)
-
-link : (n by : ℕ) (regs : Regs) → Follows (pushes regs) (links.link n by regs)
-unfolding links.link
-link n by regs = last _ _ _ (push Long _ regs) (λ after. give _)
-
-unlk : (n : ℕ) (regs : Regs) → Follows (one Read Long (address_of regs n)) (links.unlk n regs)
-unfolding links.unlk
-unlk n regs =
-    last _ _ _ (same _ _ _ (ap (λ at. one Read Long at) (stack_set regs (address_of regs n))) (pull Long (with_address regs 7 (address_of regs n)))) (λ old. give _)
-
-jsr : (mode : Mode) (start : ℕ) (regs : Regs) → Follows (pushes regs) (control.jsr mode start regs)
-unfolding control.jsr
-jsr mode start regs = last _ _ _ (push Long _ regs) (λ after. give _)
-
-rts : (regs : Regs) → Follows (one Read Long (stack_of regs)) (control.rts regs)
-unfolding control.rts
-rts regs = last _ _ _ (pull Long regs) (λ target. give _)
 
 -- the long that is pulled after a word
 pull_second : (regs : Regs) → Follows (one Read Long (above (stack_of regs) 2)) (operands.pull Long (with_address regs 7 (above (stack_of regs) 2)))
 pull_second regs =
     same _ _ _ (ap (λ at. one Read Long at) (stack_set regs (above (stack_of regs) 2))) (pull Long (with_address regs 7 (above (stack_of regs) 2)))
-
-rtr : (regs : Regs) → Follows (pulls regs) (control.rtr regs)
-unfolding control.rtr
-rtr regs =
-    after_pull (one Read Long (above (stack_of regs) 2)) Word regs _ (λ value.
-    last _ _ _ (pull_second regs) (λ target. give _))
 
 return_from_exception : (regs : Regs) → Follows (pulls regs) (control.return_from_exception regs)
 unfolding control.return_from_exception
@@ -207,133 +116,67 @@ return_from_exception regs =
     after_pull (one Read Long (above (stack_of regs) 2)) Word regs _ (λ value.
     last _ _ _ (pull_second regs) (λ target. give _))
 
-rte : (start : ℕ) (regs : Regs) → Follows (footprint ops.Rte start regs) (control.rte start regs)
-unfolding control.rte
-rte start regs = supervised _ (is_supervisor regs) _ _ (return_from_exception regs) (give _)
-
-chk : (n : ℕ) (mode : Mode) (start : ℕ) (regs : Regs) → Follows (reads Word mode (above start 2) regs) (control.chk n mode start regs)
-unfolding control.chk
-chk n mode start regs = last _ _ _ (load mode Word _ regs) (λ bound. give _)
-
-bsr : (displacement : Displacement) (start : ℕ) (regs : Regs) → Follows (pushes regs) (branches.bsr displacement start regs)
-unfolding branches.bsr
-bsr displacement start regs = last _ _ _ (push Long regs.pc regs) (λ after. give _)
-
 -- operations of two operands
 quick : (operation : Task) (size : Size) (number : ℕ) (mode : Mode) (start : ℕ) (regs : Regs) → Follows (changes size mode (above start 2) regs) (arithmetic.quick operation size number mode start regs)
 quick operation size number (modes.Address n) start regs = give _
 quick operation size number mode start regs = change_operand operation size number mode _ regs
 
-scc : (condition : Condition) (mode : Mode) (start : ℕ) (regs : Regs) → Follows (changes Byte mode (above start 2) regs) (setting.scc condition mode start regs)
-unfolding setting.scc
-scc condition mode start regs =
-    bind (reads Byte mode (above start 2) regs) (writes Byte mode (above start 2) regs) _ _ (fetch Byte mode _ regs _) (λ old.
-    last _ _ _ (put Byte mode _ _ regs _) (λ after. give _))
-
 quotient_by : (signed : Bool) (n : ℕ) (mode : Mode) (start : ℕ) (regs : Regs) → Follows (reads Word mode (above start 2) regs) (quotients.quotient_by signed n mode start regs)
 unfolding quotients.quotient_by
 quotient_by signed n mode start regs = last _ _ _ (load mode Word _ regs) (λ source. give _)
-
-divu : (n : ℕ) (mode : Mode) (start : ℕ) (regs : Regs) → Follows (reads Word mode (above start 2) regs) (quotients.divu n mode start regs)
-unfolding quotients.divu
-divu n mode start regs = quotient_by _ n mode start regs
-
-divs : (n : ℕ) (mode : Mode) (start : ℕ) (regs : Regs) → Follows (reads Word mode (above start 2) regs) (quotients.divs n mode start regs)
-unfolding quotients.divs
-divs n mode start regs = quotient_by _ n mode start regs
-
-mulu : (n : ℕ) (mode : Mode) (start : ℕ) (regs : Regs) → Follows (reads Word mode (above start 2) regs) (products.mulu n mode start regs)
-unfolding products.mulu
-mulu n mode start regs = last _ _ _ (load mode Word _ regs) (λ source. give _)
-
-muls : (n : ℕ) (mode : Mode) (start : ℕ) (regs : Regs) → Follows (reads Word mode (above start 2) regs) (products.muls n mode start regs)
-unfolding products.muls
-muls n mode start regs = last _ _ _ (load mode Word _ regs) (λ source. give _)
 
 extended : (operation : Task) (size : Size) (source target : Mode) (start : ℕ) (regs : Regs) → Follows (footprint (ops.Extended operation size source target) start regs) (multiprecision.extended operation size source target start regs)
 unfolding multiprecision.extended
 extended operation size source target start regs =
     after_load _ source size _ regs _ (λ value. change_operand operation size value target _ _)
 
-decimal : (operation : Task) (source target : Mode) (start : ℕ) (regs : Regs) → Follows (footprint (ops.Decimal operation source target) start regs) (multiprecision.decimal operation source target start regs)
-unfolding multiprecision.decimal
-decimal operation source target start regs = extended operation Byte source target start regs
-
-to_register : (operation : Task) (size : Size) (n : ℕ) (mode : Mode) (start : ℕ) (regs : Regs) → Follows (reads size mode (above start 2) regs) (arithmetic.to_register operation size n mode start regs)
-unfolding arithmetic.to_register
-to_register operation size n mode start regs = change_register operation size n mode _ regs
-
 to_memory : (operation : Task) (size : Size) (n : ℕ) (mode : Mode) (start : ℕ) (regs : Regs) → Follows (changes size mode (above start 2) regs) (arithmetic.to_memory operation size n mode start regs)
 unfolding arithmetic.to_memory
 to_memory operation size n mode start regs = change_operand operation size _ mode _ regs
 
-eor : (size : Size) (n : ℕ) (mode : Mode) (start : ℕ) (regs : Regs) → Follows (changes size mode (above start 2) regs) (arithmetic.eor size n mode start regs)
-unfolding arithmetic.eor
-eor size n mode start regs = to_memory tasks.Eor size n mode start regs
-
-to_address : (operation : Task) (size : Size) (n : ℕ) (mode : Mode) (start : ℕ) (regs : Regs) → Follows (reads size mode (above start 2) regs) (arithmetic.to_address operation size n mode start regs)
-unfolding arithmetic.to_address
-to_address operation size n mode start regs = last _ _ _ (load mode size _ regs) (λ source. give _)
-
-cmp : (size : Size) (n : ℕ) (mode : Mode) (start : ℕ) (regs : Regs) → Follows (reads size mode (above start 2) regs) (comparisons.cmp size n mode start regs)
-unfolding comparisons.cmp
-cmp size n mode start regs = last _ _ _ (load mode size _ regs) (λ source. give _)
-
-cmpa : (size : Size) (n : ℕ) (mode : Mode) (start : ℕ) (regs : Regs) → Follows (reads size mode (above start 2) regs) (comparisons.cmpa size n mode start regs)
-unfolding comparisons.cmpa
-cmpa size n mode start regs = last _ _ _ (load mode size _ regs) (λ source. give _)
-
-cmpm : (size : Size) (x y start : ℕ) (regs : Regs) → Follows (footprint (ops.Cmpm size x y) start regs) (comparisons.cmpm size x y start regs)
-unfolding comparisons.cmpm
-cmpm size x y start regs =
-    after_load _ (modes.PostInc y) size _ regs _ (λ value. last _ _ _ (load (modes.PostInc x) size _ _) (λ target. give _))
-
-shift_memory : (operation : Task) (mode : Mode) (start : ℕ) (regs : Regs) → Follows (changes Word mode (above start 2) regs) (arithmetic.shift_memory operation mode start regs)
-unfolding arithmetic.shift_memory
-shift_memory operation mode start regs = change_operand operation Word 1 mode _ regs
-
 -- every instruction
 pub row : (op : Op) (start : ℕ) (regs : Regs) → MovesWords op → Follows (footprint op start regs) (execution.row op start regs)
-row (ops.Immediate operation size number mode) start regs h = immediate operation size number mode start regs
-row (ops.CompareImmediate size number mode) start regs h = compare_immediate size number mode start regs
-row (ops.BitByRegister operation n mode) start regs h = bit_by_register operation n mode start regs
-row (ops.BitByNumber operation number mode) start regs h = bit_by_number operation number mode start regs
-row (ops.MovepToRegister size x y by) start regs h = movep_to_register size x y by start regs
-row (ops.MovepToMemory size x y by) start regs h = movep_to_memory size x y by start regs
-row (ops.Move size source target) start regs h = move_operand size source target start regs
-row (ops.Movea size n mode) start regs h = move_address size n mode start regs
-row (ops.Unary operation size mode) start regs h = unary operation size mode start regs
-row (ops.MoveFromSr mode) start regs h = move_from_sr mode start regs
-row (ops.MoveToCcr mode) start regs h = move_to_ccr mode start regs
-row (ops.MoveToSr mode) start regs h = move_to_sr mode start regs
-row (ops.Nbcd mode) start regs h = nbcd mode start regs
-row (ops.Pea mode) start regs h = pea mode start regs
+unfolding immediates.immediate immediates.compare_immediate bits.bit_by_register bits.bit_by_number movep.movep_to_register movep.movep_to_memory moves.move_operand moves.move_address single.unary status.move_from_sr status.move_to_ccr status.move_to_sr single.nbcd links.pea single.tst links.link links.unlk control.rte control.rts control.rtr control.jsr control.chk setting.scc branches.bsr quotients.divu quotients.divs multiprecision.decimal arithmetic.to_register arithmetic.to_address comparisons.cmp comparisons.cmpa arithmetic.eor comparisons.cmpm products.mulu products.muls arithmetic.shift_memory
+row (ops.Immediate operation size number mode) start regs h = change_operand operation size number mode _ regs
+row (ops.CompareImmediate size number mode) start regs h = test_operand tasks.Cmp size number mode _ regs
+row (ops.BitByRegister operation n mode) start regs h = bit operation _ mode _ regs
+row (ops.BitByNumber operation number mode) start regs h = bit operation number mode _ regs
+row (ops.MovepToRegister size x y by) start regs h = last _ _ _ (read_spread size _) (λ value. give _)
+row (ops.MovepToMemory size x y by) start regs h = last _ _ _ (write_spread size _ _) (λ written. give _)
+row (ops.Move size source target) start regs h = after_load _ source size _ regs _ (λ value. last _ _ _ (store target size _ _ _) (λ after. give _))
+row (ops.Movea size n mode) start regs h = last _ _ _ (load mode size _ regs) (λ from. give _)
+row (ops.Unary operation size mode) start regs h = change_operand operation size 0 mode _ regs
+row (ops.MoveFromSr mode) start regs h = bind (reads Word mode (above start 2) regs) (writes Word mode (above start 2) regs) _ _ (fetch Word mode _ regs _) (λ old. last _ _ _ (put Word mode _ _ regs _) (λ after. give _))
+row (ops.MoveToCcr mode) start regs h = last _ _ _ (load mode Word _ regs) (λ operand. give _)
+row (ops.MoveToSr mode) start regs h = supervised _ (is_supervisor regs) _ _ (load_sr mode start regs) (give _)
+row (ops.Nbcd mode) start regs h = change_operand tasks.Nbcd Byte 0 mode _ regs
+row (ops.Pea mode) start regs h = last _ _ _ (push Long _ regs) (λ after. give _)
 row (ops.MovemToMemory size list mode) start regs h = movem_to_memory size list mode start regs h.0 h.1
 row (ops.MovemToRegisters size list mode) start regs h = movem_to_registers size list mode start regs h.0 h.1
-row (ops.Tst size mode) start regs h = tst size mode start regs
+row (ops.Tst size mode) start regs h = last _ _ _ (load mode size _ regs) (λ operand. give _)
 row (ops.Tas mode) start regs h = tas mode start regs
-row (ops.Link n by) start regs h = link n by regs
-row (ops.Unlk n) start regs h = unlk n regs
-row ops.Rte start regs h = rte start regs
-row ops.Rts start regs h = rts regs
-row ops.Rtr start regs h = rtr regs
-row (ops.Jsr mode) start regs h = jsr mode start regs
-row (ops.Chk n mode) start regs h = chk n mode start regs
+row (ops.Link n by) start regs h = last _ _ _ (push Long _ regs) (λ after. give _)
+row (ops.Unlk n) start regs h = last _ _ _ (same _ _ _ (ap (λ at. one Read Long at) (stack_set regs (address_of regs n))) (pull Long (with_address regs 7 (address_of regs n)))) (λ old. give _)
+row ops.Rte start regs h = supervised _ (is_supervisor regs) _ _ (return_from_exception regs) (give _)
+row ops.Rts start regs h = last _ _ _ (pull Long regs) (λ target. give _)
+row ops.Rtr start regs h = after_pull (one Read Long (above (stack_of regs) 2)) Word regs _ (λ value. last _ _ _ (pull_second regs) (λ target. give _))
+row (ops.Jsr mode) start regs h = last _ _ _ (push Long _ regs) (λ after. give _)
+row (ops.Chk n mode) start regs h = last _ _ _ (load mode Word _ regs) (λ bound. give _)
 row (ops.Quick operation size number mode) start regs h = quick operation size number mode start regs
-row (ops.Scc condition mode) start regs h = scc condition mode start regs
-row (ops.Bsr displacement) start regs h = bsr displacement start regs
-row (ops.Divu n mode) start regs h = divu n mode start regs
-row (ops.Divs n mode) start regs h = divs n mode start regs
-row (ops.Decimal operation source target) start regs h = decimal operation source target start regs
+row (ops.Scc condition mode) start regs h = bind (reads Byte mode (above start 2) regs) (writes Byte mode (above start 2) regs) _ _ (fetch Byte mode _ regs _) (λ old. last _ _ _ (put Byte mode _ _ regs _) (λ after. give _))
+row (ops.Bsr displacement) start regs h = last _ _ _ (push Long regs.pc regs) (λ after. give _)
+row (ops.Divu n mode) start regs h = quotient_by _ n mode start regs
+row (ops.Divs n mode) start regs h = quotient_by _ n mode start regs
+row (ops.Decimal operation source target) start regs h = extended operation Byte source target start regs
 row (ops.Extended operation size source target) start regs h = extended operation size source target start regs
-row (ops.ToRegister operation size n mode) start regs h = to_register operation size n mode start regs
+row (ops.ToRegister operation size n mode) start regs h = change_register operation size n mode _ regs
 row (ops.ToMemory operation size n mode) start regs h = to_memory operation size n mode start regs
-row (ops.ToAddress operation size n mode) start regs h = to_address operation size n mode start regs
-row (ops.Cmp size n mode) start regs h = cmp size n mode start regs
-row (ops.Cmpa size n mode) start regs h = cmpa size n mode start regs
-row (ops.Eor size n mode) start regs h = eor size n mode start regs
-row (ops.Cmpm size x y) start regs h = cmpm size x y start regs
-row (ops.Mulu n mode) start regs h = mulu n mode start regs
-row (ops.Muls n mode) start regs h = muls n mode start regs
-row (ops.ShiftMemory operation mode) start regs h = shift_memory operation mode start regs
+row (ops.ToAddress operation size n mode) start regs h = last _ _ _ (load mode size _ regs) (λ source. give _)
+row (ops.Cmp size n mode) start regs h = last _ _ _ (load mode size _ regs) (λ source. give _)
+row (ops.Cmpa size n mode) start regs h = last _ _ _ (load mode size _ regs) (λ source. give _)
+row (ops.Eor size n mode) start regs h = to_memory tasks.Eor size n mode start regs
+row (ops.Cmpm size x y) start regs h = after_load _ (modes.PostInc y) size _ regs _ (λ value. last _ _ _ (load (modes.PostInc x) size _ _) (λ target. give _))
+row (ops.Mulu n mode) start regs h = last _ _ _ (load mode Word _ regs) (λ source. give _)
+row (ops.Muls n mode) start regs h = last _ _ _ (load mode Word _ regs) (λ source. give _)
+row (ops.ShiftMemory operation mode) start regs h = change_operand operation Word 1 mode _ regs
 row _ start regs h = give _

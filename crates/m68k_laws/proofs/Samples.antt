@@ -14,7 +14,7 @@ use Rattle.m68k_exec.specs.Access.Outcomes.{Outcome}
 use Rattle.m68k_exec.specs.Sample.Bounds.{Fits}
 use Rattle.m68k_exec.specs.Sample.Execution as execution
 use Rattle.m68k_exec.specs.Sample.Samples as samples
-use Rattle.m68k_exec.specs.Sample.Samples.{Ended, begun_by, named, nothing}
+use Rattle.m68k_exec.specs.Sample.Samples.{Ended, named, nothing}
 use Rattle.m68k_exec.specs.declared.access.stop.Stop.{Stop}
 use Rattle.m68k_exec.specs.declared.access.stop.Stop.TheVariants.{Ask, Odd}
 use Rattle.m68k_exec.specs.declared.sample.exception.Exception.TheVariants.{AddressError, Numbered}
