@@ -1,12 +1,12 @@
 -- What holds of a session between commands.
-use Rattle.std.proofs.Common.{◌≡◌, ℕ, ◌<◌, ◌≤◌, List, [], ◌∷◌, length, vec_capacity, take, drop, sym, ap, subst, ◌∙◌, arith}
+use Rattle.std.proofs.Common.{◌≡◌, ℕ, ◌<◌, ◌≤◌, List, [], ◌∷◌, length, take, drop, sym, ap, subst, ◌∙◌, arith}
 use Rattle.std.proofs.lemmas.List.{length-drop}
 use Rattle.circular_buffer.specs.Buffer.{Buffer}
 use Rattle.md_word.specs.Clock.{last_cycle}
 use Rattle.md_machine.specs.Machines.{MachineValue}
 use Rattle.page_ring.specs.Kept.{IsPushed}
 use Rattle.md_debug.specs.Kept.{KeptValue, all_pages, padded, per_state, state_size}
-use Rattle.md_debug.specs.Debuggees.{IsDebuggee, most_output}
+use Rattle.md_debug.specs.Debuggees.{IsDebuggee}
 use Rattle.md_debug.specs.declared.debuggee.Debuggee.{Debuggee}
 use Rattle.md_debug.specs.Going.{RunsTo, Steps, drained, start_of}
 use Rattle.md_debug.specs.Keeping.{IsSession, KeepsMachines}
@@ -72,9 +72,9 @@ module _ (size : ℕ) (is_own : MachineValue → Type 0) (keeps : List ℕ → M
     some = session.some;
   }
 
-  pub session_back : (old new : Debuggee) (kept after : KeptValue) (n : ℕ) → IsSession size is_own keeps read_back old kept → is_own new.machine → new.begun ≡ old.begun → new.output ≡ old.output
+  pub session_back : (old new : Debuggee) (kept after : KeptValue) (n : ℕ) → IsSession size is_own keeps read_back old kept → is_own new.machine → new.begun ≡ old.begun
       → n < length kept.states → after ≡ record kept { states = drop n kept.states; cycles = drop n kept.cycles } → IsSession size is_own keeps read_back new after
-  session_back old new kept after n session own begun output there is =
+  session_back old new kept after n session own begun there is =
       let ready = session.ready in
       subst (IsSession size is_own keeps read_back new) (sym is)
       (record {
@@ -84,7 +84,6 @@ module _ (size : ℕ) (is_own : MachineValue → Type 0) (keeps : List ℕ → M
           start = session.machines.start new.machine own;
           entries = session.machines.entries new.machine own;
           media = session.machines.media new.machine own;
-          room = subst (λ (v : _). most_output ≤ vec_capacity v) (sym output) ready.room;
           most = ap (λ (b : Buffer ℕ). b.capacity) begun ∙ ready.most;
           few = omega (arith, ready.few, ap (λ (b : Buffer ℕ). length b.items) begun);
         };

@@ -1,21 +1,16 @@
 -- What holds of the debugger's machine between commands.
-use Rattle.std.specs.Prelude.{◌≡◌, ℕ, ◌≤◌, List, [], ◌++◌, length, vec_capacity}
+use Rattle.std.specs.Prelude.{◌≡◌, ℕ, ◌≤◌, List, [], ◌++◌, length}
 use Rattle.md_machine.specs.Media.{no_media}
 use Rattle.md_machine.specs.Starts.{IsStart}
 use Rattle.md_debug.specs.Going.{GoesTo, latest, most_begun, start_of}
 use Rattle.md_debug.specs.declared.debuggee.Debuggee.{Debuggee}
 
--- the bytes of a frame's entries on PAL, which are more than those of its picture or its samples
-abbrev pub most_output : ℕ
-most_output = 1001600
-
--- the machine is where a run may begin and holds no output, and there is room for the output of a frame and
--- for the instructions that are remembered
+-- the machine is where a run may begin and holds no output, and there is room for the instructions that are
+-- remembered
 pub record IsDebuggee (d : Debuggee) : Type 0 where
   pub start : IsStart (start_of d.machine)
   pub entries : d.machine.entries ≡ []
   pub media : d.machine.media ≡ no_media
-  pub room : most_output ≤ vec_capacity d.output
   pub most : d.begun.capacity ≡ most_begun
   pub few : length d.begun.items ≤ most_begun
 

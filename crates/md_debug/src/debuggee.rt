@@ -1,12 +1,11 @@
-ghost use Rattle.std.specs.Prelude.{◌≡◌, ℕ, ◌+◌, ◌<◌, ◌≤◌, [], ◌++◌, List, length, option_to_list, vec_capacity, IfOk};
+ghost use Rattle.std.specs.Prelude.{◌≡◌, ℕ, ◌+◌, ◌<◌, ◌≤◌, [], ◌++◌, List, option_to_list, IfOk};
 ghost use Rattle.md_word.specs.Clock.{frame, last_cycle};
 ghost use Rattle.md_word.specs.declared.event.Entry.{Entry};
-ghost use Rattle.md_machine.specs.Console.{IsRunTo, begins_in};
+ghost use Rattle.md_machine.specs.Console.{IsRunTo};
 ghost use Rattle.md_machine.specs.Media.{Media, no_media};
-ghost use Rattle.md_machine.specs.Regions.{most_entries, most_pairs};
 ghost use Rattle.md_machine.specs.Starts.{IsStart};
-ghost use Rattle.md_debug.specs.Debuggees.{IsDebuggee, WentOn, most_output};
-ghost use Rattle.md_debug.specs.Going.{GoesTo, RunsTo, Steps, StepsOnce, drained, latest, least_of, start_of};
+ghost use Rattle.md_debug.specs.Debuggees.{IsDebuggee, WentOn};
+ghost use Rattle.md_debug.specs.Going.{RunsTo, Steps, StepsOnce, latest, least_of, start_of};
 
 use crate::laws;
 use circular_buffer::HeapCircularBuffer;
@@ -18,17 +17,12 @@ use std::alloc::Global;
 /// How many instructions are remembered.
 const MOST_BEGUN: usize = 256;
 
-/// The most bytes of output, on PAL: those of a frame's entries, which are more than its picture or its samples.
-const MOST_OUTPUT: usize = 1_001_600;
-
 /// A machine that continues step by step, whose output nobody keeps.
 #[derive(Drop)]
 pub(crate) struct Debuggee {
     pub machine: Machine,
     /// The addresses of the last instructions that were begun, oldest first.
     pub begun: HeapCircularBuffer<u32>,
-    /// Where the machine's output goes.
-    pub output: Vec<u8>,
 }
 
 impl Debuggee {
@@ -41,30 +35,7 @@ impl Debuggee {
         ensures ready { IfOk result IsDebuggee }
     {
         let begun = HeapCircularBuffer::with_capacity(alloc, MOST_BEGUN)?;
-        let output = Vec::with_capacity(alloc, MOST_OUTPUT)?;
-        Ok(Debuggee {
-            machine,
-            begun,
-            output,
-        })
-    }
-
-    /// Lets the machine's output go.
-    fn forget_output(&mut self)
-        requires room { most_output ≤ vec_capacity self.old.output }
-        requires entries { length self.old.machine.entries ≤ most_entries self.old.machine.console.pal }
-        requires frames { length self.old.machine.media.frames ≤ 1 }
-        requires samples { length self.old.machine.media.levels ≤ most_pairs self.old.machine.console.pal }
-        ensures machine { self.new.machine ≡ drained (start_of self.old.machine) }
-        ensures begun { self.new.begun ≡ self.old.begun }
-        ensures room { most_output ≤ vec_capacity self.new.output }
-    {
-        self.output.clear();
-        self.machine.drain_entries(&mut self.output);
-        self.output.clear();
-        self.machine.drain_frames(&mut self.output);
-        self.output.clear();
-        self.machine.drain_pairs(&mut self.output);
+        Ok(Debuggee { machine, begun })
     }
 
     /// Brings the machine to a cycle that is at most a frame of NTSC on, which is shorter than one of PAL.
@@ -80,7 +51,7 @@ impl Debuggee {
     {
         console_laws::run_ends_at_start();
         self.machine.alone(to);
-        self.forget_output();
+        self.machine.discard();
     }
 
     /// Does all events of the least cycle.

@@ -9,8 +9,8 @@ invariant_of-self g c =
     let states : length c.self-2.inside.kept.states ≡ length c.args.self.now.states = (λ i. length (before i).states) in
     let there : c.args.newer < length c.self-2.inside.kept.states = omega (arith, c.requires, states) in
     session_back (g.I.Images.size c.self-2.inside.images) (g.I.Images.is_own c.self-2.inside.images) (g.I.Images.keeps c.self-2.inside.images) (g.I.Images.read_back c.self-2.inside.images)
-    c.self-2.inside.debuggee (record { machine = c.in_ok-machine.machine; begun = c.self-2.inside.debuggee.begun; output = c.self-2.inside.debuggee.output }) c.self-2.inside.kept c.drop_newest.new.self c.args.newer
-    c.self-2.invariant (subst (λ (x : _). g.I.Images.is_own x c.in_ok-machine.machine) (λ i. (sym before i).images) c.in_ok-machine.ensures.own) refl refl there c.drop_newest.ensures
+    c.self-2.inside.debuggee (record { machine = c.in_ok-machine.machine; begun = c.self-2.inside.debuggee.begun }) c.self-2.inside.kept c.drop_newest.new.self c.args.newer
+    c.self-2.invariant (subst (λ (x : _). g.I.Images.is_own x c.in_ok-machine.machine) (λ i. (sym before i).images) c.in_ok-machine.ensures.own) refl there c.drop_newest.ensures
 
 pub returns-clause-obeyed : goal.returns-clause-obeyed
 returns-clause-obeyed g c =
