@@ -1,5 +1,5 @@
 -- The words that are expected.
-use Rattle.std.proofs.Common.{◌≡◌, ◌∙◌, refl, sym, ap, ap₂, subst, lit<, ℕ, zero, suc, ◌+◌, ◌<◌, ◌≤◌, ◌^◌, ◌⊎◌, inl, inr, List, [], ◌∷◌, ◌++◌, length, Option, Some, None, get_or, set, replicate, take, drop, is_some, add-one, arith}
+use Rattle.std.proofs.Common.{◌≡◌, ◌∙◌, refl, sym, ap, ap₂, subst, lit<, ℕ, zero, suc, ◌+◌, ◌-◌, ◌<◌, ◌≤◌, ◌^◌, ◌⊎◌, inl, inr, List, [], ◌∷◌, ◌++◌, length, Option, Some, None, get_or, set, replicate, take, drop, is_some, add-one, arith}
 use Rattle.std.specs.Prelude.{All, IsSome, unwrap_or}
 use Rattle.std.specs.List.{range_with_len}
 use Rattle.std.proofs.lemmas.Bool.{cases_lt}
@@ -44,6 +44,18 @@ frame-expected l r n f d less = get_or-map-range_with_len (expected_frame l r) 0
 
 pub pads-at : (l r : Words) (n f : ℕ) → f < n → frame_at (expected_frames l r n) f ≡ expected_frame l r f
 pads-at l r n f less = unwrap_or-slice_get (expected_frames l r n) f (0, 0) ∙ frame-expected l r n f (0, 0) less
+
+-- the words of the last of so many frames are the latest ones
+pub latest-words : (l r : Words) (frames : List Frame) (n : ℕ) → frames ≡ expected_frames l r n → frame_at frames (n - 1) ≡ (latest l n, latest r n)
+unfolding expected_frames
+latest-words l r frames zero all = ap (λ (fs : List Frame). frame_at fs 0) all
+latest-words l r frames (suc m) all =
+    let last : suc m - 1 ≡ m = omega arith in
+    ap (frame_at frames) last ∙ ap (λ (fs : List Frame). frame_at fs m) all ∙ pads-at l r (suc m) m (omega arith)
+
+pub none-expected : (l r : Words) → [] ≡ expected_frames l r 0
+unfolding expected_frames
+none-expected l r = refl
 
 -- a word that was given is expected
 pub given-expected : (w : Words) (f word : ℕ) → given w f ≡ Some word → expected w f ≡ word

@@ -1,8 +1,11 @@
 -- Which frames of a session are fixed, and where it has to go back to.
-use Rattle.std.proofs.Common.{◌≡◌, ◌≢◌, ◌∙◌, sym, ap, ap₂, ℕ, ◌+◌, ◌<◌, ◌≤◌, ◌⊎◌, inl, inr, subst, set, List, length, Some, None, Result, Ok, Err, arith}
+use Rattle.std.proofs.Common.{◌≡◌, ◌≢◌, ◌∙◌, sym, ap, ap₂, ℕ, ◌+◌, ◌<◌, ◌≤◌, ◌⊎◌, inl, inr, subst, set, take, List, length, Some, None, Result, Ok, Err, arith}
 use Rattle.std.specs.Prelude.{OnErr, OnOk}
+use Rattle.std.proofs.lemmas.List.{get_or-take, length-take}
+use Rattle.std.proofs.lemmas.List.FromFn.{fill_by_all}
+use Rattle.std.proofs.lemmas.Option.{unwrap_or-slice_get}
 use Rattle.md_pads.specs.Recording.{Frame}
-use Rattle.md_rollback.specs.Inputs.{AreGiven, InputsValue, IsConfirmed, IsFixed, Words, expected_frames, frame_at, given}
+use Rattle.md_rollback.specs.Inputs.{AreGiven, InputsValue, IsConfirmed, IsFixed, Words, expected_frame, expected_frames, frame_at, given}
 use Rattle.md_rollback.proofs.Expected.{given-expected, more-stays, pads-at, some-word}
 
 -- a confirmed frame has the words that were given
@@ -23,11 +26,22 @@ pub fixed-next : (l r : Words) (n window confirmed : ℕ) → IsConfirmed l r co
 fixed-next l r n window confirmed is order f late = confirmed-frame l r (n + 1) f (omega (arith, late)) (is.below f (omega (arith, order, late)))
 
 -- a fixed frame is expected as it was played
-fixed-same : (l r : Words) (played : List Frame) (n f : ℕ) → f < n → IsFixed l r played f → frame_at played f ≡ frame_at (expected_frames l r n) f
+pub fixed-same : (l r : Words) (played : List Frame) (n f : ℕ) → f < n → IsFixed l r played f → frame_at played f ≡ frame_at (expected_frames l r n) f
 fixed-same l r played n f less is =
     is.played_is
     ∙ ap₂ (λ (a b : ℕ). (a, b)) (sym (given-expected l f is.first is.local_is)) (sym (given-expected r f is.second is.remote_is))
     ∙ sym (pads-at l r n f less)
+
+-- so the first frames, where all are fixed, are what is expected of so many
+pub fixed-frames : (l r : Words) (played : List Frame) (n : ℕ) → n ≤ length played → ((f : ℕ) → f < n → IsFixed l r played f) → take n played ≡ expected_frames l r n
+unfolding expected_frames
+fixed-frames l r played n within fixed =
+    fill_by_all (expected_frame l r) (take n played) n (0, 0) (omega (arith, length-take n played, within))
+    (λ k less.
+    get_or-take n played k (0, 0) less
+    ∙ sym (unwrap_or-slice_get played k (0, 0))
+    ∙ fixed-same l r played n k less (fixed k less)
+    ∙ pads-at l r n k less)
 
 late-or-not : (right window n : ℕ) → (right + window < n) ⊎ (n ≤ right + window)
 late-or-not right window n = grind arith

@@ -1,4 +1,4 @@
-ghost use Rattle.std.specs.Prelude.{◌≡◌, ◌≤◌, ◌<◌, ℕ, ◌^◌, ◌↔◌, Some, None, slice_set, IfOk, OnOk, OnErr, IsErrOf, Err};
+ghost use Rattle.std.specs.Prelude.{◌≡◌, ◌≤◌, ◌<◌, ℕ, ◌^◌, ◌↔◌, Some, None, length, slice_set, IfOk, OnOk, OnErr, IsErrOf, Err};
 ghost use Rattle.md_rollback.specs.Inputs.{given, expected_frames, most_frames, no_words, AreInputs};
 
 use crate::frames::expected_frames;
@@ -98,6 +98,22 @@ impl Inputs {
         requires { count ≤ most_frames }
         ensures { IfOk result (λ frames. frames.items ≡ expected_frames self.now.local self.now.remote count) }
     {
-        expected_frames(alloc, &self.local, &self.remote, count)
+        self.expected_after(alloc, &[], count)
+    }
+
+    /// The recording that is expected of so many frames, from that of the first ones. It fails only when memory runs
+    /// out.
+    pub(crate) fn expected_after(
+        &self,
+        alloc: Global,
+        known: &[(u16, u16)],
+        count: usize,
+    ) -> Result<Vec<(u16, u16)>, NoMemory>
+        requires known { known.now ≡ expected_frames self.now.local self.now.remote (length known.now) }
+        requires fewer { length known.now ≤ count }
+        requires within { count ≤ most_frames }
+        ensures { IfOk result (λ frames. frames.items ≡ expected_frames self.now.local self.now.remote count) }
+    {
+        expected_frames(alloc, &self.local, &self.remote, known, count)
     }
 }

@@ -25,7 +25,6 @@ mod session;
 mod words;
 
 pub use fault::AdvanceFault;
-pub use frames::same_frames;
 pub use input_fault::InputFault;
 pub use inputs::Inputs;
 pub use kept_images::KeptImages;

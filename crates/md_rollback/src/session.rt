@@ -10,7 +10,8 @@ ghost use Rattle.md_rollback.specs.Played.{IsMachineOf, KeepsReached};
 use crate::fault::AdvanceFault;
 use crate::images::Images;
 use crate::play::remake;
-use crate::{InputFault, Inputs, KeptImages, MOST_FRAMES, same_frames};
+use crate::frames::same_frames;
+use crate::{InputFault, Inputs, KeptImages, MOST_FRAMES};
 use machine_laws::saved;
 use md_machine::Machine;
 use md_word::NoMemory;
@@ -127,8 +128,13 @@ impl<R: Replays> Session<R> {
             });
         }
         self.inputs.known();
-        let expected = self.inputs.expected(self.alloc, frames + 1)?;
-        let right = same_frames(self.played.as_slice(), expected.as_slice());
+        // the frames before the last ones of the window were played as they are expected
+        let fixed = frames.saturating_sub(self.window);
+        let known = &self.played[..fixed];
+        let expected = self
+            .inputs
+            .expected_after(self.alloc, known, frames + 1)?;
+        let right = same_frames(self.played.as_slice(), expected.as_slice(), fixed);
         let newer = self.images.newer_than(right);
         remake(
             self.alloc,

@@ -1,17 +1,41 @@
-use Rattle.std.proofs.Common.{◌≡◌, ◌∙◌, ◌+◌, ◌<◌, ◌≤◌, ap, sym, subst, List, ℕ, length, drop, arith}
+use Rattle.std.proofs.Common.{◌≡◌, ◌∙◌, ◌+◌, ◌<◌, ◌≤◌, ap, sym, subst, List, ℕ, length, take, drop, arith}
+use Rattle.std.proofs.lemmas.List.{length-take}
 use Rattle.md_pads.specs.Recording.{Frame, IsRecording, recording_of}
 use Rattle.md_machine.specs.Machines.{MachineValue}
 use Rattle.md_rollback.specs.Images.{AreImagesBelow, Kept, ReachBackTo, image_at}
-use Rattle.md_rollback.specs.Inputs.{expected_frames}
+use Rattle.md_rollback.specs.Inputs.{expected_frames, frame_at}
 use Rattle.md_rollback.proofs.Expected.{frames-long}
+use Rattle.md_rollback.proofs.FixedFrames.{fixed-frames, fixed-same}
 use Rattle.md_rollback.specs.Played.{AreMade, IsImageOf, IsMachineOf, IsPlayed, IsPlayedAlike}
 use Rattle.md_rollback.specs.Sessions.{IsSession, SessionValue}
 use Rattle.md_rollback.proofs.Advances.{back-few, expected-long, found-by, images-here, machine-here, may-be-recorded, session-next}
 use Rattle.md_rollback.proofs.session.Session.advance.Goals as goal
 
-pub same_frames-right-requires : goal.same_frames-right-requires
-same_frames-right-requires g c =
+pub same_frames-right-requires-clause-shorter : goal.same_frames-right-requires-clause-shorter
+same_frames-right-requires-clause-shorter g c =
     omega (arith, ap length c.as_slice.ensures.value, ap length (c.as_slice-2.ensures.value ∙ c.in_ok-expected.ensures), frames-long c.self.inside.inputs.local c.self.inside.inputs.remote (c.len-frames.result + 1), c.len-frames.ensures ∙ c.self.inside.played.ok.0)
+
+pub expected_after-requires-clause-known : goal.expected_after-requires-clause-known
+expected_after-requires-clause-known g c =
+    let l = c.self.inside.inputs.local in
+    let r = c.self.inside.inputs.remote in
+    let played = c.self.inside.played.items in
+    let fixed = c.saturating_sub-fixed.result in
+    let many : c.len-frames.result ≡ length played = c.len-frames.ensures ∙ c.self.inside.played.ok.0 in
+    let within : fixed ≤ length played = omega (arith, c.saturating_sub-fixed.ensures, many) in
+    let known : take fixed played ≡ expected_frames l r fixed =
+    fixed-frames l r played fixed within (λ f less. c.self.invariant.0.fixed f (omega (arith, less, c.saturating_sub-fixed.ensures, many))) in
+    let long : length (take fixed c.deref.result.now) ≡ fixed = omega (arith, length-take fixed c.deref.result.now, ap length c.deref.ensures.value, within) in
+    ap (take fixed) c.deref.ensures.value ∙ known ∙ ap (expected_frames l r) (sym long)
+
+pub same_frames-right-requires-clause-known : goal.same_frames-right-requires-clause-known
+same_frames-right-requires-clause-known g c = λ f less.
+    let played = c.self.inside.played.items in
+    let many : c.len-frames.result ≡ length played = c.len-frames.ensures ∙ c.self.inside.played.ok.0 in
+    let late : f + c.self.inside.window < length played = omega (arith, less, c.saturating_sub-fixed.ensures, many) in
+    ap (λ (x : List Frame). frame_at x f) c.as_slice.ensures.value
+    ∙ fixed-same c.self.inside.inputs.local c.self.inside.inputs.remote played (c.len-frames.result + 1) f (omega (arith, late, many)) (c.self.invariant.0.fixed f late)
+    ∙ ap (λ (x : List Frame). frame_at x f) (sym (c.as_slice-2.ensures.value ∙ c.in_ok-expected.ensures))
 
 pub remake-requires-clause-some : goal.remake-requires-clause-some
 remake-requires-clause-some g c = omega (arith, c.self.invariant.1)
