@@ -1,4 +1,4 @@
--- The run of a demonstration cartridge: what its digests hold, and what its ending says.
+-- The run of a demonstration cartridge: what its digests hold, and what its outcome says.
 use Rattle.std.proofs.Common.{◌≡◌, ◌⊎◌, inl, inr, ℕ, ◌^◌, ◌<◌, ◌≤◌, List, [], ◌++◌, Bool, cond, Some, refl, sym, ap, subst, ◌∙◌, arith}
 use Rattle.std.proofs.lemmas.Bool.{le-ltb, lt-ltb, le-leb, lt-leb}
 use Rattle.sha2.specs.Hashers.{Holds256}
@@ -66,7 +66,7 @@ demo_says observable demo old new (Following from) ends = ends.0
 demo_says observable demo old new (DemoDone summary) ends = tt
 demo_says observable demo old new _ ends = absurd ends
 
--- where the end is too far no other ending comes
+-- where the end is too far no other outcome comes
 pub demo_far : (demo : Demo) (command_outcome : CommandOutcome) → DemoEnds demo command_outcome → last_cycle < demo.cycles → (status_of command_outcome ≡ 11) ⊎ (status_of command_outcome ≡ 10)
 demo_far demo TooFar ends far = inl refl
 demo_far demo Memory ends far = inr refl
@@ -98,7 +98,7 @@ pub right_demo_done : (demo : Demo) (files : Files) (verdict : Verdict) (found :
 right_demo_done demo files verdict found outcome end =
     ap status_of (right_demo_near demo files verdict found outcome end.1 ∙ demo_command_outcome_done demo (omega (arith, end.0)))
 
--- the ending is the right one, or memory runs out
+-- the outcome is the right one, or memory runs out
 pub demo_right : (demo : Demo) (files : Files) (verdict : Verdict) (found : Findings) (outcome : Outcome) (command_outcome : CommandOutcome) → DemoEnds demo command_outcome
     → (status_of command_outcome ≡ status_of (right_completion (Some (RunDemo demo)) files verdict found outcome)) ⊎ (status_of command_outcome ≡ 10)
 demo_right demo files verdict found outcome TooFar ends = inl (sym (ap status_of (right_demo_far demo files verdict found outcome ends)))

@@ -1,4 +1,4 @@
--- Without a fault the ending is the right one, or memory ran out.
+-- Without a fault the outcome is the right one, or memory ran out.
 use Rattle.std.proofs.Common.{◌≡◌, ◌⊎◌, inl, inr, ℕ, ◌≤◌, List, Some, refl, sym, ap, ◌∙◌, arith}
 use Rattle.rom_header.specs.Header.{header_lines}
 use Rattle.md_outer.specs.Outside.{DepotState, Files, Rose}
@@ -16,7 +16,7 @@ use Rattle.md_top.specs.declared.command_outcome.CommandOutcome.TheVariants.{Sho
 use Rattle.md_top.proofs.Right.{cart_right, recording_right, right_accepted}
 use Rattle.md_top.proofs.RunsRight.{IsRunRight, cart_always, load_right_with, recording_always, right_after, right_after_cart, right_done, right_far, right_load, right_near, right_with, right_without, state_validated}
 
--- the ending is the right one, or memory runs out
+-- the outcome is the right one, or memory runs out
 pub info_right : (observable : Type 0) (rom : List ℕ) (old new : DepotState) (verdict : Verdict) (found : Findings) (outcome : Outcome) (command_outcome : CommandOutcome) → InfoEnds observable rom old new command_outcome
     → ¬ Rose old.read_faults new.read_faults → observable → (status_of command_outcome ≡ status_of (right_completion (Some (Info rom)) old.files verdict found outcome)) ⊎ (status_of command_outcome ≡ 10)
 info_right observable rom old new verdict found outcome (Shown lines) cause clean t =

@@ -70,7 +70,7 @@ none_causes observable old out out' status which = record {
   others = λ t. tt;
 }
 
--- what is shown of an ending by the proofs of its command
+-- what is shown of an outcome by the proofs of its command
 record Explained (observable : Type 0) (command : Command) (old new : DepotState) (out out' : SinkState) (command_outcome : CommandOutcome) : Type 0 where
   says : Says observable command old new command_outcome
   reply : command_outcome ≡ ReplyFault → Rose out.faults out'.faults
@@ -97,7 +97,7 @@ module _ (observable : Type 0) (command : Command) (old new : DepotState) (out o
   said : (is : CommandOutcome) → command_outcome ≡ is → Says observable command old new is
   said is same = subst (Says observable command old new) same found.says
 
-  -- without a fault the status is the ending's
+  -- without a fault the status is the outcome's
   clean_status : ¬ Rose out.faults out'.faults → status ≡ status_of command_outcome
   clean_status clean = elim by [
     | inl same ↦ same

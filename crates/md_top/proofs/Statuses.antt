@@ -1,4 +1,4 @@
--- What a status says of the ending.
+-- What a status says of the outcome.
 use Rattle.std.proofs.Common.{◌≡◌, ◌⊎◌, inl, inr, ℕ, zero, suc, ◌<◌, ◌≤◌, List, [], length, Option, Some, None, refl, sym, subst, ◌∙◌, arith}
 use Rattle.std.specs.Prelude.{IsSomeAnd, unwrap_or}
 use Rattle.md_outer.specs.Outside.{DepotState, Files, Rose, SinkState, bytes_of}
@@ -40,7 +40,7 @@ shown_later : (observable sink : Type 0) (command : Option Command) (files : Fil
 shown_later observable sink (Some (Debug words)) files command_outcome out between shown = replies_later observable sink words files command_outcome out between shown
 shown_later observable sink _ files command_outcome out between shown = subst (λ (s : SinkState). out.faults ≤ s.faults) (sym shown) (omega arith)
 
--- the status is the ending's, but where that is 0 and the sink failed
+-- the status is the outcome's, but where that is 0 and the sink failed
 abbrev pub IsOf : ℕ → CommandOutcome → SinkState → SinkState → Type 0
 IsOf status command_outcome out out' = (status ≡ status_of command_outcome) ⊎ ((status_of command_outcome ≡ 0) × (status ≡ 13) × Rose out.faults out'.faults)
 
@@ -72,7 +72,7 @@ reply_failed observable sink words files command_outcome out between out' status
     let same : out' ≡ between = (subst (λ (e : CommandOutcome). Reports sink (Some (Debug words)) e between out' status) is reports).1 in
     subst (λ (s : SinkState). Rose out.faults s.faults) (sym same) rose
 
--- a status other than 13 is the ending's
+-- a status other than 13 is the outcome's
 pub of_command_outcome : (status : ℕ) (command_outcome : CommandOutcome) (out out' : SinkState) (n : ℕ) → IsOf status command_outcome out out' → status ≡ n → (n ≡ 13 → ⊥) → status_of command_outcome ≡ n
 of_command_outcome status command_outcome out out' n (inl same) is other = sym same ∙ is
 of_command_outcome status command_outcome out out' n (inr part) is other = absurd (other (sym is ∙ part.1))
@@ -206,7 +206,7 @@ run_says observable run old new (StateInvalid place) (near, cause) = (place, cau
 run_says observable run old new (OtherCart kept given) (near, cause) = (kept, given, cause)
 run_says observable run old new other cause = cart_says observable (RunCart run) run.rom old new other refl cause.1
 
--- where the end is too far no other ending comes
+-- where the end is too far no other outcome comes
 pub run_far : (observable : Type 0) (run : Run) (old new : DepotState) (command_outcome : CommandOutcome) → RunEnds observable run old new command_outcome → last_cycle < run.cycles
     → (status_of command_outcome ≡ 11) ⊎ (status_of command_outcome ≡ 10)
 run_far observable run old new TooFar cause far = inl refl

@@ -43,7 +43,7 @@ Shows observable sink command files command_outcome old new = new ≡ old
 abbrev pub PutsLine : Type 0 → List ℕ → ℕ → SinkState → SinkState → ℕ → Type 0
 PutsLine observable text of old new status = ((status ≡ of) × PutsAll observable text old new) ⊎ ((status ≡ failed_status of) × PutsPart observable text old new)
 
--- the status, and what was put then; nothing of an ending of which a session's replies are all
+-- the status, and what was put then; nothing of an outcome of which a session's replies are all
 abbrev pub Reports : Type 0 → Option Command → CommandOutcome → SinkState → SinkState → ℕ → Type 0
 Reports observable command Played old new status = (status ≡ 0) × (new ≡ old)
 Reports observable command ReplyFault old new status = (status ≡ 13) × (new ≡ old)
@@ -55,7 +55,7 @@ PutsCommandOutcome observable command Played old new result = (result ≡ Ok tt)
 PutsCommandOutcome observable command ReplyFault old new result = (result ≡ Ok tt) × (new ≡ old)
 PutsCommandOutcome observable command command_outcome old new result = PutsText observable (text_of command command_outcome) old new result
 
--- The answer as a whole: some ending has its cause, has left the files so, and was reported after what was shown
+-- The answer as a whole: some outcome has its cause, has left the files so, and was reported after what was shown
 -- before it.
 pub record Answers (depot_observable sink_observable : Type 0) (command : Option Command) (old new : DepotState) (out out' : SinkState) (status : ℕ) : Type 0 where
   pub command_outcome : CommandOutcome
@@ -92,13 +92,13 @@ AreFindings command files verdict found =
     IsStateValidated (option_and_then run_in command) files verdict found.state × IsScripted (option_and_then debugging_in command) files found.script
     × IsRollFound (option_and_then rolling_in command) files found.completion
 
--- they are found so, or what is found has no part in the ending
+-- they are found so, or what is found has no part in the outcome
 abbrev pub AreFindingsRight : Option Command → Files → Verdict → Outcome → Findings → Type 0
 AreFindingsRight command files verdict outcome found =
     AreFindings command files verdict found
     ⊎ ((other : Findings) → right_completion command files verdict other outcome ≡ right_completion command files verdict found outcome)
 
--- the status is that of the right ending, with such findings
+-- the status is that of the right outcome, with such findings
 abbrev pub IsRight : Option Command → Files → Verdict → Outcome → ℕ → Type 0
 IsRight command files verdict outcome status =
     (found : Findings) × AreFindingsRight command files verdict outcome found × (status ≡ status_of (right_completion command files verdict found outcome))

@@ -1,4 +1,4 @@
--- The ending where no fault comes between and memory suffices: the refusals in their order.
+-- The outcome where no fault comes between and memory suffices: the refusals in their order.
 use Rattle.std.specs.Prelude.{ℕ, nat_le, nat_lt, if◌then◌else◌, List, length, Option, Some, None}
 use Rattle.rom_header.specs.Cartridge.{fault_of}
 use Rattle.rom_header.specs.Header.{header_lines}
@@ -25,12 +25,12 @@ use Rattle.md_top.specs.declared.command_outcome.CommandOutcome.{CommandOutcome}
 use Rattle.md_top.specs.declared.command_outcome.CommandOutcome.TheVariants.{Shown, Done, DemoDone, Usage, ReadFault, RecordingInvalid, StateInvalid, OtherCart, Following, TooFar, TooLong}
 use Rattle.md_top.specs.declared.inputs.Inputs.{Inputs}
 
--- after the file of an input: it could not be read, it is longer than its limit, or its bytes have an ending
+-- after the file of an input: it could not be read, it is longer than its limit, or its bytes have an outcome
 abbrev pub read_command_outcome : Input → ℕ → Option (List ℕ) → (List ℕ → CommandOutcome) → CommandOutcome
 read_command_outcome which limit None command_outcome = ReadFault which
 read_command_outcome which limit (Some bytes) command_outcome = if nat_lt limit (length bytes) then TooLong which else command_outcome bytes
 
--- after the bytes of the cartridge's file; `accepted` is the ending where they are accepted
+-- after the bytes of the cartridge's file; `accepted` is the outcome where they are accepted
 abbrev pub cart_command_outcome : Option CartFault → CommandOutcome → CommandOutcome
 cart_command_outcome (Some fault) accepted = refusal_of fault
 cart_command_outcome None accepted = accepted
@@ -39,7 +39,7 @@ cart_command_outcome None accepted = accepted
 abbrev pub file_command_outcome : Option (List ℕ) → CommandOutcome → CommandOutcome
 file_command_outcome file accepted = read_command_outcome First cart_limit file (λ bytes. cart_command_outcome (fault_of bytes) accepted)
 
--- after the bytes of the recording's file; `ready` is the ending after what they spell
+-- after the bytes of the recording's file; `ready` is the outcome after what they spell
 abbrev pub verdict_command_outcome : Verdict → (Recorded → CommandOutcome) → CommandOutcome
 verdict_command_outcome (InvalidAt place) ready = RecordingInvalid place
 verdict_command_outcome (Spelled recording) ready = ready recording

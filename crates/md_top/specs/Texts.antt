@@ -1,4 +1,4 @@
--- What is put of an ending.
+-- What is put of an outcome.
 use Rattle.std.specs.Prelude.{ℕ, List, [], ◌++◌, codes, decimal, Option, Some, None, unwrap_or}
 use Rattle.hex.specs.Hex.{encode_lower}
 use Rattle.md_args.specs.Files.{input_of, output_of}
