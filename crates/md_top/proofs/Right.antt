@@ -17,7 +17,7 @@ use Rattle.md_machine.specs.Starts.{Start}
 use Rattle.md_args.specs.declared.files.Input.{Input}
 use Rattle.md_args.specs.declared.files.Input.TheVariants.{First, Recording, State}
 use Rattle.md_top.specs.declared.command_outcome.CommandOutcome.{CommandOutcome}
-use Rattle.md_top.specs.declared.command_outcome.CommandOutcome.TheVariants.{Done, ReadFault, Short, NoMark, RecordingInvalid, StateInvalid, OtherCart, Following, Memory, TooLong}
+use Rattle.md_top.specs.declared.command_outcome.CommandOutcome.TheVariants.{Done, ReadFault, Short, NoMark, RecordingInvalid, StateInvalid, OtherCart, Behind, Memory, TooLong}
 use Rattle.md_top.specs.declared.inputs.Inputs.{Inputs}
 use Rattle.md_pads.proofs.Whole.{one_recording}
 use Rattle.state_laws.proofs.Whole.{one_verdict}
@@ -137,7 +137,7 @@ recording_right observable (Some name) old new verdict ready _ cause validated c
 -- AFTER THE SAVED STATE'S FILE
 
 -- a run whose end is not above its start, and one whose end is
-ended_by : (b : Bool) (start : Start) (end : ℕ) → status_of (cond b (Following start.at) (Done start.at (length (media_from start end).frames) (length (entries_from start end)) (halted_from start end))) ≡ cond b 9 0
+ended_by : (b : Bool) (start : Start) (end : ℕ) → status_of (cond b (Behind start.at) (Done start.at (length (media_from start end).frames) (length (entries_from start end)) (halted_from start end))) ≡ cond b 9 0
 ended_by true start end = refl
 ended_by false start end = refl
 

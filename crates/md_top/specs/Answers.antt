@@ -76,14 +76,14 @@ pub record NoFaults (old new : DepotState) (out out' : SinkState) : Type 0 where
   pub puts : ¬ Rose out.faults out'.faults
 
 -- the end of a run is not above the cycle at which it begins
-abbrev pub IsAfter : Type 0 → Command → Files → Type 0
-IsAfter observable (Info rom) files = ⊥
-IsAfter observable (RunDemo demo) files = demo.cycles ≡ 0
-IsAfter observable (Convert conversion) files = ⊥
-IsAfter observable (Assemble words) files = ⊥
-IsAfter observable (Debug words) files = ⊥
-IsAfter observable (Rollback words) files = ⊥
-IsAfter observable (RunCart run) files =
+abbrev pub IsBehind : Type 0 → Command → Files → Type 0
+IsBehind observable (Info rom) files = ⊥
+IsBehind observable (RunDemo demo) files = demo.cycles ≡ 0
+IsBehind observable (Convert conversion) files = ⊥
+IsBehind observable (Assemble words) files = ⊥
+IsBehind observable (Debug words) files = ⊥
+IsBehind observable (Rollback words) files = ⊥
+IsBehind observable (RunCart run) files =
     (from : ℕ) × MayBeginAt run from × (run.cycles ≤ from) × (observable → (start : Start) × Begins run files start × (from ≡ start.at))
 
 -- so the saved state of a run is found, so the script of a session, and so the lines of two players
@@ -113,7 +113,7 @@ pub record Causes (depot_observable : Type 0) (command : Option Command) (old ne
   pub invalid : status ≡ 6 → IsSomeAnd (option_and_then recording_in command) (λ name. depot_observable → ¬ IsSpelled (bytes_of old.files name))
   pub state_invalid : status ≡ 7 → IsSomeAnd (option_and_then run_in command) (λ run. (place : ℕ) × IsLoadFound depot_observable run old.files (StateInvalidAt place))
   pub other_cart : status ≡ 8 → IsSomeAnd (option_and_then run_in command) (λ run. (kept : List ℕ) × (given : List ℕ) × IsLoadFound depot_observable run old.files (OfOther kept given))
-  pub following : status ≡ 9 → IsSomeAnd command (λ asked. IsAfter depot_observable asked old.files)
+  pub behind : status ≡ 9 → IsSomeAnd command (λ asked. IsBehind depot_observable asked old.files)
   pub input_refused : status ≡ 17 → IsSomeAnd (option_and_then conversion_in command) (λ conversion. IsRefusedInput depot_observable conversion old.files)
   pub source_refused : status ≡ 16 → IsSomeAnd (option_and_then assembling_in command) (λ words. IsRefusedSource depot_observable words old.files)
   pub script_refused : status ≡ 15 → IsSomeAnd (option_and_then debugging_in command) (λ words. IsRefusedScript depot_observable words old.files)

@@ -22,7 +22,7 @@ use Rattle.md_top.specs.Loads.{state_limit}
 use Rattle.md_top.specs.Rollings.{completion_outcome, inputs_limit}
 use Rattle.md_top.specs.Runs.{entries_from, halted_from, media_from, powered_on}
 use Rattle.md_top.specs.declared.command_outcome.CommandOutcome.{CommandOutcome}
-use Rattle.md_top.specs.declared.command_outcome.CommandOutcome.TheVariants.{Shown, Done, DemoDone, Usage, ReadFault, RecordingInvalid, StateInvalid, OtherCart, Following, TooFar, TooLong}
+use Rattle.md_top.specs.declared.command_outcome.CommandOutcome.TheVariants.{Shown, Done, DemoDone, Usage, ReadFault, RecordingInvalid, StateInvalid, OtherCart, Behind, TooFar, TooLong}
 use Rattle.md_top.specs.declared.inputs.Inputs.{Inputs}
 
 -- after the file of an input: it could not be read, it is longer than its limit, or its bytes have an outcome
@@ -56,7 +56,7 @@ recorded_command_outcome (Some name) files verdict ready = recording_command_out
 -- where a run begins
 abbrev pub run_command_outcome : Start → ℕ → CommandOutcome
 run_command_outcome start end =
-    if nat_le end start.at then Following start.at else Done start.at (length (media_from start end).frames) (length (entries_from start end)) (halted_from start end)
+    if nat_le end start.at then Behind start.at else Done start.at (length (media_from start end).frames) (length (entries_from start end)) (halted_from start end)
 
 -- after a saved state that the verdict is on
 abbrev pub kept_command_outcome : StateVerdict → ℕ → CommandOutcome
@@ -81,7 +81,7 @@ accepted_command_outcome run files verdict state =
 
 -- where a run of a demonstration cartridge begins
 abbrev pub demo_command_outcome : Demo → CommandOutcome
-demo_command_outcome demo = if nat_le demo.cycles 0 then Following 0 else DemoDone (summary_from (demo_start demo) demo.cycles)
+demo_command_outcome demo = if nat_le demo.cycles 0 then Behind 0 else DemoDone (summary_from (demo_start demo) demo.cycles)
 
 -- what a run results in, with these files and these verdicts on its recording and on its saved state
 abbrev pub asked_command_outcome : Run → Files → Verdict → StateVerdict → CommandOutcome

@@ -85,7 +85,7 @@ fn put_command_outcome<S: Sink>(
         CommandOutcome::RecordingInvalid(place) => put_number(out, "refused: recording at ", place),
         CommandOutcome::StateInvalid(place) => put_number(out, "refused: state at ", place),
         CommandOutcome::OtherCart { kept, given } => put_digests(out, &kept, &given),
-        CommandOutcome::Following(from) => put_numbers(
+        CommandOutcome::Behind(from) => put_numbers(
             out,
             "refused: cycle ",
             command.end(),

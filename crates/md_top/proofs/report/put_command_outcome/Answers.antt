@@ -10,8 +10,8 @@ returns-in-Played g c = elim c.in-Played.is [
   | inr is ↦ rw is (refl, refl)
 ]
 
-pub returns-in-Following : goal.returns-in-Following
-returns-in-Following g c = rw c.in-Following.is (rw c.end-in-Following.ensures at c.put_numbers.ensures)
+pub returns-in-Behind : goal.returns-in-Behind
+returns-in-Behind g c = rw c.in-Behind.is (rw c.end-in-Behind.ensures at c.put_numbers.ensures)
 
 pub returns-in-Usage : goal.returns-in-Usage
 returns-in-Usage g c = rw c.in-Usage.is c.put-in-Usage.ensures
