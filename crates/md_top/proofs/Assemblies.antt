@@ -1,4 +1,4 @@
--- What an ending says of an assembly, and the ending without a fault.
+-- What an outcome says of an assembly, and the outcome without a fault.
 use Rattle.std.proofs.Common.{◌≡◌, ◌≢◌, ◌⊎◌, inl, inr, ℕ, Bool, cond, List, [], length, Option, Some, None, refl, ap, ◌∙◌, arith}
 use Rattle.std.proofs.lemmas.Bool.{le-ltb}
 use Rattle.md_outer.specs.Outside.{DepotState, Files, Rose, with_file}
@@ -23,7 +23,7 @@ module _ (observable : Type 0) (words : Assembling) (old new : DepotState) where
   abbrev Ends : CommandOutcome → Type 0
   Ends command_outcome = AsmEnds observable words old new command_outcome
 
-  -- what its endings say
+  -- what its outcomes say
   pub asm_says : (command_outcome : CommandOutcome) → Ends command_outcome → Says observable (Assemble words) old new command_outcome
   asm_says (Converted size) cause = tt
   asm_says (ReadFault First) cause = missing observable (Assemble words) old.files (λ none. (First, none)) cause
@@ -34,7 +34,7 @@ module _ (observable : Type 0) (words : Assembling) (old new : DepotState) where
   asm_says Memory cause = tt
   asm_says _ cause = absurd cause
 
-  -- without a fault the ending is the right one, or memory runs out
+  -- without a fault the outcome is the right one, or memory runs out
   as_right : (ends : Completion) → (ends ≡ files.right_completion (old.files words.source)) ⊎ (ends ≡ completion.NoMemory)
       → (status_of (as_command_outcome ends) ≡ status_of (asm_command_outcome words old.files)) ⊎ (status_of (as_command_outcome ends) ≡ 10)
   as_right ends (inl is) = inl (ap (λ (c : Completion). status_of (as_command_outcome c)) is)

@@ -1,4 +1,4 @@
--- What an ending says of a conversion, and the ending without a fault.
+-- What an outcome says of a conversion, and the outcome without a fault.
 use Rattle.std.proofs.Common.{◌≡◌, ◌≢◌, ◌⊎◌, inl, inr, ℕ, Bool, cond, List, [], length, Option, Some, None, refl, ap, ◌∙◌, arith}
 use Rattle.std.specs.Prelude.{unwrap_or}
 use Rattle.std.proofs.lemmas.Bool.{le-ltb}
@@ -23,7 +23,7 @@ module _ (observable : Type 0) (conversion : Conversion) (old new : DepotState) 
   abbrev Ends : CommandOutcome → Type 0
   Ends command_outcome = ConvertEnds observable conversion old new command_outcome
 
-  -- what its endings say
+  -- what its outcomes say
   pub convert_says : (command_outcome : CommandOutcome) → Ends command_outcome → Says observable (Convert conversion) old new command_outcome
   convert_says (Converted size) cause = tt
   convert_says (ReadFault First) cause = missing observable (Convert conversion) old.files (λ none. (First, none)) cause
@@ -33,7 +33,7 @@ module _ (observable : Type 0) (conversion : Conversion) (old new : DepotState) 
   convert_says Memory cause = tt
   convert_says _ cause = absurd cause
 
-  -- without a fault the ending is the right one, or memory runs out
+  -- without a fault the outcome is the right one, or memory runs out
   as_right : (outcome : Outcome) (completion : Completion) → (completion ≡ files.right_completion (old.files conversion.input) outcome) ⊎ (completion ≡ converted.NoMemory)
       → (status_of (as_command_outcome completion) ≡ status_of (convert_command_outcome conversion old.files outcome)) ⊎ (status_of (as_command_outcome completion) ≡ 10)
   as_right outcome completion (inl is) = inl (ap (λ (c : Completion). status_of (as_command_outcome c)) is)

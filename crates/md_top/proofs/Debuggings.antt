@@ -1,4 +1,4 @@
--- A session of the debugger: what its ending says.
+-- A session of the debugger: what its outcome says.
 use Rattle.std.proofs.Common.{◌≡◌, ◌≢◌, ◌⊎◌, inl, inr, ℕ, ◌<◌, ◌≤◌, List, [], ◌++◌, length, Err, Option, Some, None, refl, sym, ap, subst, ◌∙◌, arith}
 use Rattle.std.specs.Prelude.{IsSomeAnd, unwrap_or}
 use Rattle.md_debug.specs.Sessions.{reply_to}
@@ -21,7 +21,7 @@ use Rattle.md_top.proofs.Right.{read_long, read_missing, read_within, right_acce
 use Rattle.md_top.proofs.RunsRight.{cart_always, cart_there, file_there, file_within}
 use Rattle.md_top.proofs.Statuses.{Says, cart_says, missing}
 
--- what the endings of a session say
+-- what the outcomes of a session say
 pub debug_says : (observable : Type 0) (words : Debugging) (old new : DepotState) (command_outcome : CommandOutcome) → DebugEnds observable words old new command_outcome → Says observable (Debug words) old new command_outcome
 debug_says observable words old new Played cause = tt
 debug_says observable words old new (ScriptRefused line fault) cause = (cause.0, line, fault, cause.1)

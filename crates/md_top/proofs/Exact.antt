@@ -1,4 +1,4 @@
--- Without a fault the ending is the right one, or memory ran out.
+-- Without a fault the outcome is the right one, or memory ran out.
 use Rattle.std.proofs.Common.{◌≡◌, ◌⊎◌, inl, inr, ℕ, ◌≤◌, List, Some, refl, sym, ap, ◌∙◌, arith}
 use Rattle.rom_header.specs.Header.{header_lines}
 use Rattle.md_outer.specs.Outside.{DepotState, Files, Rose}
@@ -12,11 +12,11 @@ use Rattle.md_vgm.specs.Outcomes.{Outcome}
 use Rattle.md_args.specs.Words.{Info, Run}
 use Rattle.md_args.specs.declared.files.Input.TheVariants.{Recording, State}
 use Rattle.md_top.specs.declared.command_outcome.CommandOutcome.{CommandOutcome}
-use Rattle.md_top.specs.declared.command_outcome.CommandOutcome.TheVariants.{Shown, Done, ReadFault, WriteFault, RecordingInvalid, StateInvalid, OtherCart, Following, Memory, TooFar, TooLong}
+use Rattle.md_top.specs.declared.command_outcome.CommandOutcome.TheVariants.{Shown, Done, ReadFault, WriteFault, RecordingInvalid, StateInvalid, OtherCart, Behind, Memory, TooFar, TooLong}
 use Rattle.md_top.proofs.Right.{cart_right, recording_right, right_accepted}
 use Rattle.md_top.proofs.RunsRight.{IsRunRight, cart_always, load_right_with, recording_always, right_after, right_after_cart, right_done, right_far, right_load, right_near, right_with, right_without, state_validated}
 
--- the ending is the right one, or memory runs out
+-- the outcome is the right one, or memory runs out
 pub info_right : (observable : Type 0) (rom : List ℕ) (old new : DepotState) (verdict : Verdict) (found : Findings) (outcome : Outcome) (command_outcome : CommandOutcome) → InfoEnds observable rom old new command_outcome
     → ¬ Rose old.read_faults new.read_faults → observable → (status_of command_outcome ≡ status_of (right_completion (Some (Info rom)) old.files verdict found outcome)) ⊎ (status_of command_outcome ≡ 10)
 info_right observable rom old new verdict found outcome (Shown lines) cause clean t =
@@ -48,7 +48,7 @@ pub run_right : (observable : Type 0) (run : Run) (old new : DepotState) (verdic
 run_right observable run old new verdict state (Done from frames accesses halted) (end, may, cause) is validated reads writes t =
     let found = cause t in inl (sym (right_done run old.files verdict state found.start end.1 found.above found.begins is validated))
 run_right observable run old new verdict state TooFar cause is validated reads writes t = inl (sym (ap status_of (right_far run old.files verdict state cause)))
-run_right observable run old new verdict state (Following from) (near, following, may, cause) is validated reads writes t =
+run_right observable run old new verdict state (Behind from) (near, following, may, cause) is validated reads writes t =
     let found = cause t in inl (sym (right_after run old.files verdict state found.0 near (omega (arith, following, found.2)) found.1 is validated))
 run_right observable run old new verdict state (WriteFault which) cause is validated reads writes t = absurd (writes cause.2.1)
 run_right observable run old new verdict state (ReadFault Recording) (near, (accepted, cause)) is validated reads writes t = run_recorded observable run old new verdict state (ReadFault Recording) near (accepted t) cause is reads t
@@ -87,11 +87,11 @@ run_right_with observable run old new verdict (Done from frames accesses halted)
     (run_right observable run old new verdict (Keeps (cause t).start) (Done from frames accesses halted) (end, may, cause) is validated reads writes t)
 run_right_with observable run old new verdict TooFar cause is reads writes t =
     inl (right_without run old.files verdict TooFar TooFar (λ state. right_far run old.files verdict state cause) refl)
-run_right_with observable run old new verdict (Following from) (near, following, may, cause) is reads writes t =
+run_right_with observable run old new verdict (Behind from) (near, following, may, cause) is reads writes t =
     let begins = (cause t).1 in
     let validated = state_validated run old.files verdict begins.inputs (cause t).0 begins.are is begins.with in
     right_with run old.files verdict (Keeps (cause t).0) 9 validated
-    (run_right observable run old new verdict (Keeps (cause t).0) (Following from) (near, following, may, cause) is validated reads writes t)
+    (run_right observable run old new verdict (Keeps (cause t).0) (Behind from) (near, following, may, cause) is validated reads writes t)
 run_right_with observable run old new verdict (WriteFault which) cause is reads writes t = absurd (writes cause.2.1)
 run_right_with observable run old new verdict (ReadFault Recording) (near, (accepted, cause)) is reads writes t = run_recorded_with observable run old new verdict (ReadFault Recording) near (accepted t) cause is reads t
 run_right_with observable run old new verdict (TooLong Recording) (near, (accepted, cause)) is reads writes t = run_recorded_with observable run old new verdict (TooLong Recording) near (accepted t) cause is reads t

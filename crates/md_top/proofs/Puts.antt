@@ -58,7 +58,7 @@ line_put observable text old new (Err fault) of status puts whole failed = inr (
 none_put : {E : Type 0} (put : Result (Unit {0}) E) (of status : ℕ) → put ≡ Ok tt → OnOk put (status ≡ of) → status ≡ of
 none_put {E} put of status is whole = subst (λ (r : Result (Unit {0}) E). OnOk r (status ≡ of)) is whole
 
--- what was put of an ending, and the status after it
+-- what was put of an outcome, and the status after it
 pub command_outcome_put : (observable : Type 0) (command : Option Command) (command_outcome : CommandOutcome) (old new : SinkState) (put : Result (Unit {0}) Failed) (of status : ℕ)
     → PutsCommandOutcome observable command command_outcome old new put → of ≡ status_of command_outcome → OnOk put (status ≡ of) → OnErr put (status ≡ failed_status of) → Reports observable command command_outcome old new status
 command_outcome_put observable command Played old new put of status puts is whole failed = (none_put put of status puts.0 whole ∙ is, puts.1)

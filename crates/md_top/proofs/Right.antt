@@ -1,4 +1,4 @@
--- The ending where no fault comes between and memory suffices.
+-- The outcome where no fault comes between and memory suffices.
 use Rattle.std.proofs.Common.{◌≡◌, ◌⊎◌, inl, inr, ℕ, ◌<◌, ◌≤◌, Bool, true, false, cond, List, [], length, Option, Some, None, refl, sym, ap, ◌∙◌}
 use Rattle.std.specs.Prelude.{IsSomeAnd, nat_le, nat_lt, unwrap_or}
 use Rattle.std.proofs.lemmas.Bool.{le-ltb, lt-ltb}
@@ -17,7 +17,7 @@ use Rattle.md_machine.specs.Starts.{Start}
 use Rattle.md_args.specs.declared.files.Input.{Input}
 use Rattle.md_args.specs.declared.files.Input.TheVariants.{First, Recording, State}
 use Rattle.md_top.specs.declared.command_outcome.CommandOutcome.{CommandOutcome}
-use Rattle.md_top.specs.declared.command_outcome.CommandOutcome.TheVariants.{Done, ReadFault, Short, NoMark, RecordingInvalid, StateInvalid, OtherCart, Following, Memory, TooLong}
+use Rattle.md_top.specs.declared.command_outcome.CommandOutcome.TheVariants.{Done, ReadFault, Short, NoMark, RecordingInvalid, StateInvalid, OtherCart, Behind, Memory, TooLong}
 use Rattle.md_top.specs.declared.inputs.Inputs.{Inputs}
 use Rattle.md_pads.proofs.Whole.{one_recording}
 use Rattle.state_laws.proofs.Whole.{one_verdict}
@@ -67,7 +67,7 @@ right_refused (Some bytes) rest why (within, is) =
 pub right_missing : (file : Option (List ℕ)) (rest : CommandOutcome) → file ≡ None → file_command_outcome file rest ≡ ReadFault First
 right_missing file rest missing = read_missing First cart_limit file (λ held. cart_command_outcome (fault_of held) rest) missing
 
--- without a fault the ending is the right one, or memory runs out
+-- without a fault the outcome is the right one, or memory runs out
 pub cart_right : (observable : Type 0) (rom : List ℕ) (old new : DepotState) (rest command_outcome : CommandOutcome) → CartCause observable rom old new command_outcome
     → ¬ Rose old.read_faults new.read_faults → observable → (status_of command_outcome ≡ status_of (file_command_outcome (old.files rom) rest)) ⊎ (status_of command_outcome ≡ 10)
 cart_right observable rom old new rest (ReadFault First) (inl rose) clean t = absurd (clean rose)
@@ -137,7 +137,7 @@ recording_right observable (Some name) old new verdict ready _ cause validated c
 -- AFTER THE SAVED STATE'S FILE
 
 -- a run whose end is not above its start, and one whose end is
-ended_by : (b : Bool) (start : Start) (end : ℕ) → status_of (cond b (Following start.at) (Done start.at (length (media_from start end).frames) (length (entries_from start end)) (halted_from start end))) ≡ cond b 9 0
+ended_by : (b : Bool) (start : Start) (end : ℕ) → status_of (cond b (Behind start.at) (Done start.at (length (media_from start end).frames) (length (entries_from start end)) (halted_from start end))) ≡ cond b 9 0
 ended_by true start end = refl
 ended_by false start end = refl
 

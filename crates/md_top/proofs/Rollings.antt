@@ -1,4 +1,4 @@
--- A session of two players: what its ending says.
+-- A session of two players: what its outcome says.
 use Rattle.std.proofs.Common.{◌≡◌, ◌≢◌, ◌⊎◌, inl, inr, ℕ, ◌<◌, ◌≤◌, List, [], length, Option, Some, None, refl, sym, ap, subst, ◌∙◌, arith}
 use Rattle.std.specs.Prelude.{IsSomeAnd, unwrap_or}
 use Rattle.md_outer.specs.Outside.{DepotState, Files, GoesOn, Rose}
@@ -21,7 +21,7 @@ use Rattle.md_top.proofs.Right.{read_long, read_missing, read_within, right_acce
 use Rattle.md_top.proofs.RunsRight.{cart_always, cart_there, file_there, file_within}
 use Rattle.md_top.proofs.Statuses.{Says, cart_says, missing}
 
--- what the endings of a session say
+-- what the outcomes of a session say
 pub roll_says : (observable : Type 0) (words : Rolling) (old new : DepotState) (command_outcome : CommandOutcome) → RollEnds observable words old new command_outcome → Says observable (Rollback words) old new command_outcome
 roll_says observable words old new (RolledBack rolled) cause = tt
 roll_says observable words old new (LineRefused line fault) cause = (line, fault, cause)

@@ -21,7 +21,7 @@ use Rattle.md_top.specs.Conversions.{ConvertEnds, IsInputOutcome, convert_comman
 use Rattle.md_top.specs.Demos.{DemoEnds}
 use Rattle.md_top.specs.Rollings.{RollEnds}
 use Rattle.md_top.specs.declared.command_outcome.CommandOutcome.{CommandOutcome}
-use Rattle.md_top.specs.declared.command_outcome.CommandOutcome.TheVariants.{Shown, Usage, ReadFault, WriteFault, RecordingInvalid, StateInvalid, OtherCart, Following, Memory, TooFar, ReplyFault, ScriptRefused, SourceRefused, InputRefused, LineRefused}
+use Rattle.md_top.specs.declared.command_outcome.CommandOutcome.TheVariants.{Shown, Usage, ReadFault, WriteFault, RecordingInvalid, StateInvalid, OtherCart, Behind, Memory, TooFar, ReplyFault, ScriptRefused, SourceRefused, InputRefused, LineRefused}
 use Rattle.md_top.proofs.Assemblies.{asm_done, asm_right, asm_says, assembled_other}
 use Rattle.md_top.proofs.Conversions.{convert_done, convert_right, convert_says, converted_other, made_outcome}
 use Rattle.md_top.proofs.Debuggings.{debug_done, debug_right, debug_says}
@@ -30,7 +30,7 @@ use Rattle.md_top.proofs.Puts.{line_of}
 use Rattle.md_top.proofs.Right.{right_accepted}
 use Rattle.md_top.proofs.RunsRight.{recording_validated, right_done, state_validated}
 use Rattle.md_top.proofs.Rollings.{roll_done, roll_right, roll_says}
-use Rattle.md_top.proofs.Statuses.{IsOf, Says, info_says, is_following, is_far, is_input_refused, is_line_refused, is_other_cart, is_read_fault, is_reply_fault, is_script_refused, is_source_refused, is_state_invalid, is_usage, is_write_fault, is_invalid, of_command_outcome, reply_failed, reported, run_far, run_says}
+use Rattle.md_top.proofs.Statuses.{IsOf, Says, info_says, is_behind, is_far, is_input_refused, is_line_refused, is_other_cart, is_read_fault, is_reply_fault, is_script_refused, is_source_refused, is_state_invalid, is_usage, is_write_fault, is_invalid, of_command_outcome, reply_failed, reported, run_far, run_says}
 use Rattle.md_top.proofs.Exact.{info_right, run_right, run_right_with}
 use Rattle.md_top.proofs.Found.{leaves_other, no_reply, none_found, ready_ends, right_lines, right_other, right_run, right_script}
 
@@ -58,7 +58,7 @@ none_causes observable old out out' status which = record {
   invalid = λ six. absurd (neither status 6 which six (λ is. omega (arith, is)) (λ is. omega (arith, is)));
   state_invalid = λ seven. absurd (neither status 7 which seven (λ is. omega (arith, is)) (λ is. omega (arith, is)));
   other_cart = λ eight. absurd (neither status 8 which eight (λ is. omega (arith, is)) (λ is. omega (arith, is)));
-  following = λ nine. absurd (neither status 9 which nine (λ is. omega (arith, is)) (λ is. omega (arith, is)));
+  behind = λ nine. absurd (neither status 9 which nine (λ is. omega (arith, is)) (λ is. omega (arith, is)));
   input_refused = λ seventeen. absurd (neither status 17 which seventeen (λ is. omega (arith, is)) (λ is. omega (arith, is)));
   source_refused = λ sixteen. absurd (neither status 16 which sixteen (λ is. omega (arith, is)) (λ is. omega (arith, is)));
   script_refused = λ fifteen. absurd (neither status 15 which fifteen (λ is. omega (arith, is)) (λ is. omega (arith, is)));
@@ -70,7 +70,7 @@ none_causes observable old out out' status which = record {
   others = λ t. tt;
 }
 
--- what is shown of an ending by the proofs of its command
+-- what is shown of an outcome by the proofs of its command
 record Explained (observable : Type 0) (command : Command) (old new : DepotState) (out out' : SinkState) (command_outcome : CommandOutcome) : Type 0 where
   says : Says observable command old new command_outcome
   reply : command_outcome ≡ ReplyFault → Rose out.faults out'.faults
@@ -97,7 +97,7 @@ module _ (observable : Type 0) (command : Command) (old new : DepotState) (out o
   said : (is : CommandOutcome) → command_outcome ≡ is → Says observable command old new is
   said is same = subst (Says observable command old new) same found.says
 
-  -- without a fault the status is the ending's
+  -- without a fault the status is the outcome's
   clean_status : ¬ Rose out.faults out'.faults → status ≡ status_of command_outcome
   clean_status clean = elim by [
     | inl same ↦ same
@@ -120,7 +120,7 @@ module _ (observable : Type 0) (command : Command) (old new : DepotState) (out o
     invalid = λ six. let is = is_invalid command_outcome (as_command_outcome 6 six (λ is. omega (arith, is))) in said (RecordingInvalid is.0) is.1;
     state_invalid = λ seven. let is = is_state_invalid command_outcome (as_command_outcome 7 seven (λ is. omega (arith, is))) in said (StateInvalid is.0) is.1;
     other_cart = λ eight. let is = is_other_cart command_outcome (as_command_outcome 8 eight (λ is. omega (arith, is))) in said (OtherCart is.0 is.1) is.2;
-    following = λ nine. let is = is_following command_outcome (as_command_outcome 9 nine (λ is. omega (arith, is))) in said (Following is.0) is.1;
+    behind = λ nine. let is = is_behind command_outcome (as_command_outcome 9 nine (λ is. omega (arith, is))) in said (Behind is.0) is.1;
     input_refused = λ seventeen. let is = is_input_refused command_outcome (as_command_outcome 17 seventeen (λ is. omega (arith, is))) in said (InputRefused is.0) is.1;
     source_refused = λ sixteen. let is = is_source_refused command_outcome (as_command_outcome 16 sixteen (λ is. omega (arith, is))) in said (SourceRefused is.0 is.1) is.2;
     script_refused = λ fifteen. let is = is_script_refused command_outcome (as_command_outcome 15 fifteen (λ is. omega (arith, is))) in said (ScriptRefused is.0 is.1) is.2;

@@ -50,7 +50,7 @@ memory_answered observable sink command old now out out' status same ten put =
     subst (λ (new : DepotState). IsAnswered observable sink command old new out out' status) (sym same)
     (memory_answers observable sink command old out out' status ten put, memory_causes observable sink command old out out' status ten put)
 
--- a command that resulted in an ending
+-- a command that resulted in an outcome
 pub ended_answered : (observable sink : Type 0) (command : Option Command) (asked : Command) (old new : DepotState) (out between out' : SinkState) (status : ℕ) (command_outcome : CommandOutcome)
     → Some asked ≡ command → HasCause observable (Some asked) old new command_outcome → (observable → LeavesFiles (Some asked) old.files new.files command_outcome)
     → Shows observable sink (Some asked) old.files command_outcome out between → Reports sink (Some asked) command_outcome between out' status → IsAnswered observable sink command old new out out' status

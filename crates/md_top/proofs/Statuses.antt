@@ -1,4 +1,4 @@
--- What a status says of the ending.
+-- What a status says of the outcome.
 use Rattle.std.proofs.Common.{◌≡◌, ◌⊎◌, inl, inr, ℕ, zero, suc, ◌<◌, ◌≤◌, List, [], length, Option, Some, None, refl, sym, subst, ◌∙◌, arith}
 use Rattle.std.specs.Prelude.{IsSomeAnd, unwrap_or}
 use Rattle.md_outer.specs.Outside.{DepotState, Files, Rose, SinkState, bytes_of}
@@ -13,7 +13,7 @@ use Rattle.md_args.specs.Words.{Command, Debug, Debugging, Info, Run, RunCart, a
 use Rattle.md_args.specs.declared.files.Input.{Input}
 use Rattle.md_args.specs.declared.files.Input.TheVariants.{First, Recording, State}
 use Rattle.md_args.specs.declared.files.Output.{Output}
-use Rattle.md_top.specs.Answers.{IsAfter, PutsLine, Reports, Shows}
+use Rattle.md_top.specs.Answers.{IsBehind, PutsLine, Reports, Shows}
 use Rattle.md_top.specs.Assemblies.{IsRefusedSource}
 use Rattle.md_top.specs.Conversions.{IsRefusedInput}
 use Rattle.md_top.specs.Debuggings.{IsRefusedScript, ShowsReplies}
@@ -23,7 +23,7 @@ use Rattle.md_top.specs.Loads.{IsLoadFound}
 use Rattle.md_top.specs.Rollings.{IsRefusedLine}
 use Rattle.md_top.specs.Texts.{text_of}
 use Rattle.md_top.specs.declared.command_outcome.CommandOutcome.{CommandOutcome}
-use Rattle.md_top.specs.declared.command_outcome.CommandOutcome.TheVariants.{Shown, Done, Played, Usage, ReadFault, WriteFault, Short, NoMark, RecordingInvalid, StateInvalid, OtherCart, Following, Memory, ScriptMemory, TooFar, ReplyFault, TooLong, ScriptRefused, SourceRefused, InputRefused, LineRefused}
+use Rattle.md_top.specs.declared.command_outcome.CommandOutcome.TheVariants.{Shown, Done, Played, Usage, ReadFault, WriteFault, Short, NoMark, RecordingInvalid, StateInvalid, OtherCart, Behind, Memory, ScriptMemory, TooFar, ReplyFault, TooLong, ScriptRefused, SourceRefused, InputRefused, LineRefused}
 use Rattle.md_top.proofs.Puts.{rose_later}
 
 -- what was shown before lowers no count of faults
@@ -40,7 +40,7 @@ shown_later : (observable sink : Type 0) (command : Option Command) (files : Fil
 shown_later observable sink (Some (Debug words)) files command_outcome out between shown = replies_later observable sink words files command_outcome out between shown
 shown_later observable sink _ files command_outcome out between shown = subst (λ (s : SinkState). out.faults ≤ s.faults) (sym shown) (omega arith)
 
--- the status is the ending's, but where that is 0 and the sink failed
+-- the status is the outcome's, but where that is 0 and the sink failed
 abbrev pub IsOf : ℕ → CommandOutcome → SinkState → SinkState → Type 0
 IsOf status command_outcome out out' = (status ≡ status_of command_outcome) ⊎ ((status_of command_outcome ≡ 0) × (status ≡ 13) × Rose out.faults out'.faults)
 
@@ -72,7 +72,7 @@ reply_failed observable sink words files command_outcome out between out' status
     let same : out' ≡ between = (subst (λ (e : CommandOutcome). Reports sink (Some (Debug words)) e between out' status) is reports).1 in
     subst (λ (s : SinkState). Rose out.faults s.faults) (sym same) rose
 
--- a status other than 13 is the ending's
+-- a status other than 13 is the outcome's
 pub of_command_outcome : (status : ℕ) (command_outcome : CommandOutcome) (out out' : SinkState) (n : ℕ) → IsOf status command_outcome out out' → status ≡ n → (n ≡ 13 → ⊥) → status_of command_outcome ≡ n
 of_command_outcome status command_outcome out out' n (inl same) is other = sym same ∙ is
 of_command_outcome status command_outcome out out' n (inr part) is other = absurd (other (sym is ∙ part.1))
@@ -103,9 +103,9 @@ pub is_other_cart : (command_outcome : CommandOutcome) → status_of command_out
 is_other_cart (OtherCart kept given) is = (kept, given, refl)
 is_other_cart _ is = absurd (omega (arith, is))
 
-pub is_following : (command_outcome : CommandOutcome) → status_of command_outcome ≡ 9 → (from : ℕ) × (command_outcome ≡ Following from)
-is_following (Following from) is = (from, refl)
-is_following _ is = absurd (omega (arith, is))
+pub is_behind : (command_outcome : CommandOutcome) → status_of command_outcome ≡ 9 → (from : ℕ) × (command_outcome ≡ Behind from)
+is_behind (Behind from) is = (from, refl)
+is_behind _ is = absurd (omega (arith, is))
 
 pub is_far : (command_outcome : CommandOutcome) → status_of command_outcome ≡ 11 → command_outcome ≡ TooFar
 is_far TooFar is = refl
@@ -141,7 +141,7 @@ Says observable command old new (WriteFault which) = Rose old.write_faults new.w
 Says observable command old new (RecordingInvalid place) = IsSomeAnd (input_of command Recording) (λ name. observable → ¬ IsSpelled (bytes_of old.files name))
 Says observable command old new (StateInvalid place) = IsSomeAnd (run_in command) (λ run. (place : ℕ) × IsLoadFound observable run old.files (StateInvalidAt place))
 Says observable command old new (OtherCart kept given) = IsSomeAnd (run_in command) (λ run. (kept : List ℕ) × (given : List ℕ) × IsLoadFound observable run old.files (OfOther kept given))
-Says observable command old new (Following from) = IsAfter observable command old.files
+Says observable command old new (Behind from) = IsBehind observable command old.files
 Says observable command old new TooFar = last_cycle < end_of command
 Says observable command old new (ScriptRefused line fault) = IsSomeAnd (debugging_in command) (λ words. IsRefusedScript observable words old.files)
 Says observable command old new (SourceRefused line kind) = IsSomeAnd (assembling_in command) (λ words. IsRefusedSource observable words old.files)
@@ -193,7 +193,7 @@ invalid_recording observable (Some name) old new place cause = λ t. not_spelled
 pub run_says : (observable : Type 0) (run : Run) (old new : DepotState) (command_outcome : CommandOutcome) → RunEnds observable run old new command_outcome → Says observable (RunCart run) old new command_outcome
 run_says observable run old new Memory cause = tt
 run_says observable run old new TooFar cause = cause
-run_says observable run old new (Following from) (near, following, may, cause) = (from, may, following, cause)
+run_says observable run old new (Behind from) (near, following, may, cause) = (from, may, following, cause)
 run_says observable run old new (Done from frames accesses halted) cause = tt
 run_says observable run old new (WriteFault which) cause = cause.2.1
 run_says observable run old new (ReadFault Recording) cause =
@@ -206,7 +206,7 @@ run_says observable run old new (StateInvalid place) (near, cause) = (place, cau
 run_says observable run old new (OtherCart kept given) (near, cause) = (kept, given, cause)
 run_says observable run old new other cause = cart_says observable (RunCart run) run.rom old new other refl cause.1
 
--- where the end is too far no other ending comes
+-- where the end is too far no other outcome comes
 pub run_far : (observable : Type 0) (run : Run) (old new : DepotState) (command_outcome : CommandOutcome) → RunEnds observable run old new command_outcome → last_cycle < run.cycles
     → (status_of command_outcome ≡ 11) ⊎ (status_of command_outcome ≡ 10)
 run_far observable run old new TooFar cause far = inl refl

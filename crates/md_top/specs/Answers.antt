@@ -43,7 +43,7 @@ Shows observable sink command files command_outcome old new = new ≡ old
 abbrev pub PutsLine : Type 0 → List ℕ → ℕ → SinkState → SinkState → ℕ → Type 0
 PutsLine observable text of old new status = ((status ≡ of) × PutsAll observable text old new) ⊎ ((status ≡ failed_status of) × PutsPart observable text old new)
 
--- the status, and what was put then; nothing of an ending of which a session's replies are all
+-- the status, and what was put then; nothing of an outcome of which a session's replies are all
 abbrev pub Reports : Type 0 → Option Command → CommandOutcome → SinkState → SinkState → ℕ → Type 0
 Reports observable command Played old new status = (status ≡ 0) × (new ≡ old)
 Reports observable command ReplyFault old new status = (status ≡ 13) × (new ≡ old)
@@ -55,7 +55,7 @@ PutsCommandOutcome observable command Played old new result = (result ≡ Ok tt)
 PutsCommandOutcome observable command ReplyFault old new result = (result ≡ Ok tt) × (new ≡ old)
 PutsCommandOutcome observable command command_outcome old new result = PutsText observable (text_of command command_outcome) old new result
 
--- The answer as a whole: some ending has its cause, has left the files so, and was reported after what was shown
+-- The answer as a whole: some outcome has its cause, has left the files so, and was reported after what was shown
 -- before it.
 pub record Answers (depot_observable sink_observable : Type 0) (command : Option Command) (old new : DepotState) (out out' : SinkState) (status : ℕ) : Type 0 where
   pub command_outcome : CommandOutcome
@@ -76,14 +76,14 @@ pub record NoFaults (old new : DepotState) (out out' : SinkState) : Type 0 where
   pub puts : ¬ Rose out.faults out'.faults
 
 -- the end of a run is not above the cycle at which it begins
-abbrev pub IsAfter : Type 0 → Command → Files → Type 0
-IsAfter observable (Info rom) files = ⊥
-IsAfter observable (RunDemo demo) files = demo.cycles ≡ 0
-IsAfter observable (Convert conversion) files = ⊥
-IsAfter observable (Assemble words) files = ⊥
-IsAfter observable (Debug words) files = ⊥
-IsAfter observable (Rollback words) files = ⊥
-IsAfter observable (RunCart run) files =
+abbrev pub IsBehind : Type 0 → Command → Files → Type 0
+IsBehind observable (Info rom) files = ⊥
+IsBehind observable (RunDemo demo) files = demo.cycles ≡ 0
+IsBehind observable (Convert conversion) files = ⊥
+IsBehind observable (Assemble words) files = ⊥
+IsBehind observable (Debug words) files = ⊥
+IsBehind observable (Rollback words) files = ⊥
+IsBehind observable (RunCart run) files =
     (from : ℕ) × MayBeginAt run from × (run.cycles ≤ from) × (observable → (start : Start) × Begins run files start × (from ≡ start.at))
 
 -- so the saved state of a run is found, so the script of a session, and so the lines of two players
@@ -92,13 +92,13 @@ AreFindings command files verdict found =
     IsStateValidated (option_and_then run_in command) files verdict found.state × IsScripted (option_and_then debugging_in command) files found.script
     × IsRollFound (option_and_then rolling_in command) files found.completion
 
--- they are found so, or what is found has no part in the ending
+-- they are found so, or what is found has no part in the outcome
 abbrev pub AreFindingsRight : Option Command → Files → Verdict → Outcome → Findings → Type 0
 AreFindingsRight command files verdict outcome found =
     AreFindings command files verdict found
     ⊎ ((other : Findings) → right_completion command files verdict other outcome ≡ right_completion command files verdict found outcome)
 
--- the status is that of the right ending, with such findings
+-- the status is that of the right outcome, with such findings
 abbrev pub IsRight : Option Command → Files → Verdict → Outcome → ℕ → Type 0
 IsRight command files verdict outcome status =
     (found : Findings) × AreFindingsRight command files verdict outcome found × (status ≡ status_of (right_completion command files verdict found outcome))
@@ -113,7 +113,7 @@ pub record Causes (depot_observable : Type 0) (command : Option Command) (old ne
   pub invalid : status ≡ 6 → IsSomeAnd (option_and_then recording_in command) (λ name. depot_observable → ¬ IsSpelled (bytes_of old.files name))
   pub state_invalid : status ≡ 7 → IsSomeAnd (option_and_then run_in command) (λ run. (place : ℕ) × IsLoadFound depot_observable run old.files (StateInvalidAt place))
   pub other_cart : status ≡ 8 → IsSomeAnd (option_and_then run_in command) (λ run. (kept : List ℕ) × (given : List ℕ) × IsLoadFound depot_observable run old.files (OfOther kept given))
-  pub following : status ≡ 9 → IsSomeAnd command (λ asked. IsAfter depot_observable asked old.files)
+  pub behind : status ≡ 9 → IsSomeAnd command (λ asked. IsBehind depot_observable asked old.files)
   pub input_refused : status ≡ 17 → IsSomeAnd (option_and_then conversion_in command) (λ conversion. IsRefusedInput depot_observable conversion old.files)
   pub source_refused : status ≡ 16 → IsSomeAnd (option_and_then assembling_in command) (λ words. IsRefusedSource depot_observable words old.files)
   pub script_refused : status ≡ 15 → IsSomeAnd (option_and_then debugging_in command) (λ words. IsRefusedScript depot_observable words old.files)

@@ -53,7 +53,7 @@ AsmFiles words old new command_outcome = new ≡ old
 abbrev pub CanAssemble : Assembling → Files → Type 0
 CanAssemble words held = (image : List ℕ) × (lines : List Placed) × IsFound (held words.source) (assembly.Done image lines)
 
--- what an assembly results in, as its ending
+-- what an assembly results in, as its outcome
 abbrev pub as_command_outcome : Completion → CommandOutcome
 as_command_outcome (completion.Made size) = Converted size
 as_command_outcome completion.Unread = ReadFault First
@@ -63,7 +63,7 @@ as_command_outcome completion.Unwritten = WriteFault Target
 as_command_outcome completion.Unlisted = WriteFault Listing
 as_command_outcome completion.NoMemory = Memory
 
--- the ending where no fault comes between and memory suffices
+-- the outcome where no fault comes between and memory suffices
 abbrev pub asm_command_outcome : Assembling → Files → CommandOutcome
 asm_command_outcome words held = as_command_outcome (files.right_completion (held words.source))
 

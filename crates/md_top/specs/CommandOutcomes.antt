@@ -18,7 +18,7 @@ use Rattle.md_top.specs.Resuming.{RunsWell}
 use Rattle.md_top.specs.Rollings.{CanRoll, RollEnds}
 use Rattle.md_top.specs.Runs.{pieces_of, pieces_until}
 use Rattle.md_top.specs.declared.command_outcome.CommandOutcome.{CommandOutcome}
-use Rattle.md_top.specs.declared.command_outcome.CommandOutcome.TheVariants.{Shown, Done, DemoDone, Converted, Played, RolledBack, Usage, ReadFault, WriteFault, Short, NoMark, RecordingInvalid, StateInvalid, OtherCart, Following, Memory, ScriptMemory, TooFar, ReplyFault, TooLong, ScriptRefused, SourceRefused, InputRefused, LineRefused}
+use Rattle.md_top.specs.declared.command_outcome.CommandOutcome.TheVariants.{Shown, Done, DemoDone, Converted, Played, RolledBack, Usage, ReadFault, WriteFault, Short, NoMark, RecordingInvalid, StateInvalid, OtherCart, Behind, Memory, ScriptMemory, TooFar, ReplyFault, TooLong, ScriptRefused, SourceRefused, InputRefused, LineRefused}
 
 -- the status that the program ends with
 abbrev pub status_of : CommandOutcome → ℕ
@@ -36,7 +36,7 @@ status_of NoMark = 5
 status_of (RecordingInvalid place) = 6
 status_of (StateInvalid place) = 7
 status_of (OtherCart kept given) = 8
-status_of (Following from) = 9
+status_of (Behind from) = 9
 status_of Memory = 10
 status_of ScriptMemory = 10
 status_of TooFar = 11
@@ -101,7 +101,7 @@ InfoEnds observable rom old new command_outcome = CartCause observable rom old n
 abbrev pub RunEnds : Type 0 → Run → DepotState → DepotState → CommandOutcome → Type 0
 RunEnds observable run old new Memory = Unit {0}
 RunEnds observable run old new TooFar = last_cycle < run.cycles
-RunEnds observable run old new (Following from) =
+RunEnds observable run old new (Behind from) =
     (run.cycles ≤ last_cycle) × (run.cycles ≤ from) × MayBeginAt run from
     × (observable → (start : Start) × Begins run old.files start × (from ≡ start.at))
 RunEnds observable run old new (Done from frames accesses halted) =

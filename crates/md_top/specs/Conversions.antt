@@ -41,7 +41,7 @@ ConvertFiles conversion old new command_outcome = new ≡ old
 abbrev pub CanConvert : Conversion → Files → Type 0
 CanConvert conversion held = (made : List ℕ) × IsMadeOf conversion (held conversion.input) made
 
--- what a conversion results in, as its ending
+-- what a conversion results in, as its outcome
 abbrev pub as_command_outcome : Completion → CommandOutcome
 as_command_outcome (converted.Made size) = Converted size
 as_command_outcome converted.Unread = ReadFault First
@@ -50,7 +50,7 @@ as_command_outcome (converted.Refused fault) = InputRefused fault
 as_command_outcome converted.Unwritten = WriteFault Target
 as_command_outcome converted.NoMemory = Memory
 
--- the ending where no fault comes between and memory suffices, with this outcome of the input
+-- the command outcome where no fault comes between and memory suffices, with this outcome of the input
 abbrev pub convert_command_outcome : Conversion → Files → Outcome → CommandOutcome
 convert_command_outcome conversion held outcome = as_command_outcome (files.right_completion (held conversion.input) outcome)
 

@@ -28,13 +28,13 @@ fault_text NoMemory = codes ": memory\n"
 abbrev pub script_line : ℕ → DebugFault → List ℕ
 script_line line fault = (codes "refused: script line " ++ decimal line) ++ fault_text fault
 
--- what a script results in, as an ending
+-- what a script results in, as an outcome
 abbrev pub played_outcome : ScriptOutcome → CommandOutcome
 played_outcome Obeyed = Played
 played_outcome (Refused line fault) = ScriptRefused line fault
 played_outcome OutOfMemory = ScriptMemory
 
--- the cartridge is accepted and the script held, within its limit; its lines result in these replies and this ending
+-- the cartridge is accepted and the script held, within its limit; its lines result in these replies and this outcome
 abbrev pub IsPlayed : Debugging → Files → List ℕ → ScriptOutcome → Type 0
 IsPlayed words held replies command_outcome =
     IsAccepted (held words.rom) × IsSomeAnd (held words.script) (λ script. (length script ≤ script_limit) × PlaysScript (cart_of words.rom held) script replies command_outcome)
@@ -73,7 +73,7 @@ CanDebug words held = (replies : List ℕ) × IsPlayed words held replies Obeyed
 abbrev pub IsRefusedScript : Type 0 → Debugging → Files → Type 0
 IsRefusedScript observable words held = (replies : List ℕ) × (line : ℕ) × (fault : DebugFault) × (observable → IsPlayed words held replies (Refused line fault))
 
--- what the lines of a script result in: the replies and the ending
+-- what the lines of a script result in: the replies and the outcome
 pub record Scripted : Type 0 where
   pub replies : List ℕ
   pub command_outcome : ScriptOutcome

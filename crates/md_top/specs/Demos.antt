@@ -13,7 +13,7 @@ use Rattle.md_top.specs.Resuming.{RunsWell}
 use Rattle.md_top.specs.Runs.{entries_from, halted_from, media_from, powered_on}
 use Rattle.md_top.specs.declared.digests.Digests.{Digests}
 use Rattle.md_top.specs.declared.command_outcome.CommandOutcome.{CommandOutcome}
-use Rattle.md_top.specs.declared.command_outcome.CommandOutcome.TheVariants.{Following, DemoDone, Memory, TooFar}
+use Rattle.md_top.specs.declared.command_outcome.CommandOutcome.TheVariants.{Behind, DemoDone, Memory, TooFar}
 use Rattle.md_top.specs.declared.hashers.Hashers.{Hashers}
 use Rattle.md_top.specs.declared.summary.Summary.{Summary}
 
@@ -56,6 +56,6 @@ pub record HaveUntil (start : Start) (at : ℕ) (hashers : Hashers) : Type 0 whe
 abbrev pub DemoEnds : Demo → CommandOutcome → Type 0
 DemoEnds demo Memory = Unit {0}
 DemoEnds demo TooFar = last_cycle < demo.cycles
-DemoEnds demo (Following from) = (demo.cycles ≡ 0) × (from ≡ 0)
+DemoEnds demo (Behind from) = (demo.cycles ≡ 0) × (from ≡ 0)
 DemoEnds demo (DemoDone summary) = IsEnd demo.cycles × IsSummary (demo_start demo) demo.cycles summary
 DemoEnds demo command_outcome = ⊥

@@ -13,7 +13,7 @@ use Rattle.md_top.specs.declared.command_outcome.CommandOutcome.{CommandOutcome}
 use Rattle.md_top.specs.declared.command_outcome.CommandOutcome.TheVariants.{ReadFault, Short, NoMark, RecordingInvalid, Memory, TooLong}
 use Rattle.md_top.specs.declared.inputs.Inputs.{Inputs}
 
--- Why each ending may come. What a file holds is spoken of where the depot's contents are observable. Each cause says
+-- Why each outcome may come. What a file holds is spoken of where the depot's contents are observable. Each cause says
 -- that none of the earlier ones holds.
 
 -- the file of this name could not be read: a count of faults rose, or the depot tells its contents and holds no such file

@@ -1,4 +1,4 @@
--- The ending where no fault comes between and memory suffices: the refusals in their order.
+-- The outcome where no fault comes between and memory suffices: the refusals in their order.
 use Rattle.std.specs.Prelude.{ℕ, nat_le, nat_lt, if◌then◌else◌, List, length, Option, Some, None}
 use Rattle.rom_header.specs.Cartridge.{fault_of}
 use Rattle.rom_header.specs.Header.{header_lines}
@@ -22,15 +22,15 @@ use Rattle.md_top.specs.Loads.{state_limit}
 use Rattle.md_top.specs.Rollings.{completion_outcome, inputs_limit}
 use Rattle.md_top.specs.Runs.{entries_from, halted_from, media_from, powered_on}
 use Rattle.md_top.specs.declared.command_outcome.CommandOutcome.{CommandOutcome}
-use Rattle.md_top.specs.declared.command_outcome.CommandOutcome.TheVariants.{Shown, Done, DemoDone, Usage, ReadFault, RecordingInvalid, StateInvalid, OtherCart, Following, TooFar, TooLong}
+use Rattle.md_top.specs.declared.command_outcome.CommandOutcome.TheVariants.{Shown, Done, DemoDone, Usage, ReadFault, RecordingInvalid, StateInvalid, OtherCart, Behind, TooFar, TooLong}
 use Rattle.md_top.specs.declared.inputs.Inputs.{Inputs}
 
--- after the file of an input: it could not be read, it is longer than its limit, or its bytes have an ending
+-- after the file of an input: it could not be read, it is longer than its limit, or its bytes have an outcome
 abbrev pub read_command_outcome : Input → ℕ → Option (List ℕ) → (List ℕ → CommandOutcome) → CommandOutcome
 read_command_outcome which limit None command_outcome = ReadFault which
 read_command_outcome which limit (Some bytes) command_outcome = if nat_lt limit (length bytes) then TooLong which else command_outcome bytes
 
--- after the bytes of the cartridge's file; `accepted` is the ending where they are accepted
+-- after the bytes of the cartridge's file; `accepted` is the outcome where they are accepted
 abbrev pub cart_command_outcome : Option CartFault → CommandOutcome → CommandOutcome
 cart_command_outcome (Some fault) accepted = refusal_of fault
 cart_command_outcome None accepted = accepted
@@ -39,7 +39,7 @@ cart_command_outcome None accepted = accepted
 abbrev pub file_command_outcome : Option (List ℕ) → CommandOutcome → CommandOutcome
 file_command_outcome file accepted = read_command_outcome First cart_limit file (λ bytes. cart_command_outcome (fault_of bytes) accepted)
 
--- after the bytes of the recording's file; `ready` is the ending after what they spell
+-- after the bytes of the recording's file; `ready` is the outcome after what they spell
 abbrev pub verdict_command_outcome : Verdict → (Recorded → CommandOutcome) → CommandOutcome
 verdict_command_outcome (InvalidAt place) ready = RecordingInvalid place
 verdict_command_outcome (Spelled recording) ready = ready recording
@@ -56,7 +56,7 @@ recorded_command_outcome (Some name) files verdict ready = recording_command_out
 -- where a run begins
 abbrev pub run_command_outcome : Start → ℕ → CommandOutcome
 run_command_outcome start end =
-    if nat_le end start.at then Following start.at else Done start.at (length (media_from start end).frames) (length (entries_from start end)) (halted_from start end)
+    if nat_le end start.at then Behind start.at else Done start.at (length (media_from start end).frames) (length (entries_from start end)) (halted_from start end)
 
 -- after a saved state that the verdict is on
 abbrev pub kept_command_outcome : StateVerdict → ℕ → CommandOutcome
@@ -81,7 +81,7 @@ accepted_command_outcome run files verdict state =
 
 -- where a run of a demonstration cartridge begins
 abbrev pub demo_command_outcome : Demo → CommandOutcome
-demo_command_outcome demo = if nat_le demo.cycles 0 then Following 0 else DemoDone (summary_from (demo_start demo) demo.cycles)
+demo_command_outcome demo = if nat_le demo.cycles 0 then Behind 0 else DemoDone (summary_from (demo_start demo) demo.cycles)
 
 -- what a run results in, with these files and these verdicts on its recording and on its saved state
 abbrev pub asked_command_outcome : Run → Files → Verdict → StateVerdict → CommandOutcome

@@ -39,7 +39,7 @@ counts_lines rolled = (codes "frames " ++ decimal rolled.frames ++ codes "\n") +
 abbrev pub rolled_lines : Rolled → List ℕ
 rolled_lines rolled = counts_lines rolled ++ (codes "state sha256 " ++ encode_lower rolled.digest ++ codes "\n")
 
--- what the lines result in, as an ending
+-- what the lines result in, as an outcome
 abbrev pub completion_outcome : Completion → CommandOutcome
 completion_outcome (completion.Done rolled) = RolledBack rolled
 completion_outcome (completion.Refused line fault) = LineRefused line fault

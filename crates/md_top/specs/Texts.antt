@@ -1,4 +1,4 @@
--- What is put of an ending.
+-- What is put of an outcome.
 use Rattle.std.specs.Prelude.{ℕ, List, [], ◌++◌, codes, decimal, Option, Some, None, unwrap_or}
 use Rattle.hex.specs.Hex.{encode_lower}
 use Rattle.md_args.specs.Files.{input_of, output_of}
@@ -10,7 +10,7 @@ use Rattle.md_top.specs.Debuggings.{script_line}
 use Rattle.md_top.specs.Rollings.{inputs_line, rolled_lines}
 use Rattle.md_top.specs.declared.digests.Digests.{Digests}
 use Rattle.md_top.specs.declared.command_outcome.CommandOutcome.{CommandOutcome}
-use Rattle.md_top.specs.declared.command_outcome.CommandOutcome.TheVariants.{Following, Converted, DemoDone, Done, InputRefused, LineRefused, Memory, NoMark, OtherCart, Played, ReadFault, RecordingInvalid, ReplyFault, RolledBack, ScriptMemory, ScriptRefused, Short, Shown, SourceRefused, StateInvalid, TooFar, TooLong, WriteFault}
+use Rattle.md_top.specs.declared.command_outcome.CommandOutcome.TheVariants.{Behind, Converted, DemoDone, Done, InputRefused, LineRefused, Memory, NoMark, OtherCart, Played, ReadFault, RecordingInvalid, ReplyFault, RolledBack, ScriptMemory, ScriptRefused, Short, Shown, SourceRefused, StateInvalid, TooFar, TooLong, WriteFault}
 
 -- a line of a word and a number
 abbrev pub number_line : List ℕ → ℕ → List ℕ
@@ -70,7 +70,7 @@ text_of (Some command) NoMark = codes "refused: cartridge: no mark\n"
 text_of (Some command) (RecordingInvalid place) = number_line (codes "refused: recording at ") place
 text_of (Some command) (StateInvalid place) = number_line (codes "refused: state at ") place
 text_of (Some command) (OtherCart kept given) = carts_line kept given
-text_of (Some command) (Following from) = numbers_line (codes "refused: cycle ") (end_of command) (codes " is not above ") from
+text_of (Some command) (Behind from) = numbers_line (codes "refused: cycle ") (end_of command) (codes " is not above ") from
 text_of (Some command) ScriptMemory = codes "refused: memory\n"
 text_of (Some command) TooFar = codes "refused: cycle " ++ decimal (end_of command) ++ codes " is too far\n"
 text_of (Some command) ReplyFault = []

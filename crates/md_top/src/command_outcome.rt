@@ -54,7 +54,7 @@ pub(crate) enum CommandOutcome {
         given: [u8; 32],
     },
     /// The run's end is not above this cycle, at which it begins.
-    Following(u64),
+    Behind(u64),
     /// Out of memory.
     Memory,
     /// Out of memory for a line of the script, after the replies to those before it.
@@ -102,7 +102,7 @@ impl CommandOutcome {
             CommandOutcome::RecordingInvalid(_) => 6,
             CommandOutcome::StateInvalid(_) => 7,
             CommandOutcome::OtherCart { .. } => 8,
-            CommandOutcome::Following(_) => 9,
+            CommandOutcome::Behind(_) => 9,
             CommandOutcome::Memory | CommandOutcome::ScriptMemory => 10,
             CommandOutcome::TooFar => 11,
             CommandOutcome::ReplyFault => 13,

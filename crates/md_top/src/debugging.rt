@@ -44,7 +44,7 @@ pub(crate) fn debug_cart<D: Depot, S: Sink>(
     }
 }
 
-/// What a script results in, as an ending.
+/// What a script results in, as an outcome.
 fn ended(command_outcome: ScriptOutcome) -> CommandOutcome
     ensures { result ≡ played_outcome command_outcome }
 {

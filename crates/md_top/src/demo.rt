@@ -40,7 +40,7 @@ pub(crate) fn begin_demo(alloc: Global, demo: &DemoWords) -> Result<Course, Comm
         return Err(CommandOutcome::TooFar);
     }
     if demo.cycles == 0 {
-        return Err(CommandOutcome::Following(0));
+        return Err(CommandOutcome::Behind(0));
     }
     let machine = match demo_machine(alloc, &demo) {
         Ok(machine) => machine,

@@ -157,7 +157,7 @@ fn find_start<D: Depot>(
     };
     let from = machine.at();
     if run.cycles <= from {
-        return Err(CommandOutcome::Following(from));
+        return Err(CommandOutcome::Behind(from));
     }
     match begin(alloc, machine) {
         Ok(course) => Ok(course),

@@ -33,7 +33,7 @@ pub(crate) fn report<S: Sink>(
     status_after(status, put_command_outcome(command, command_outcome, out))
 }
 
-/// The status of an ending after what is put of it: where that could not be put, one that is 0 becomes 13.
+/// The status of an outcome after what is put of it: where that could not be put, one that is 0 becomes 13.
 fn status_after(status: u8, put: Result<(), Failed>) -> u8
     ensures ok { OnOk put (result ≡ status) }
     ensures err { OnErr put (result ≡ failed_status status) }
@@ -85,7 +85,7 @@ fn put_command_outcome<S: Sink>(
         CommandOutcome::RecordingInvalid(place) => put_number(out, "refused: recording at ", place),
         CommandOutcome::StateInvalid(place) => put_number(out, "refused: state at ", place),
         CommandOutcome::OtherCart { kept, given } => put_digests(out, &kept, &given),
-        CommandOutcome::Following(from) => put_numbers(
+        CommandOutcome::Behind(from) => put_numbers(
             out,
             "refused: cycle ",
             command.end(),

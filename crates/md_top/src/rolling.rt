@@ -53,7 +53,7 @@ fn outcome(alloc: Global, cart: Cart, window: u32, inputs: &[u8]) -> Completion
     }
 }
 
-/// The same, as an ending.
+/// The same, as an outcome.
 fn ended(completion: Completion) -> CommandOutcome
     ensures { result ≡ completion_outcome completion }
 {

@@ -1,14 +1,17 @@
-use Rattle.std.proofs.Common.{refl}
+use Rattle.std.proofs.Common.{inl, inr, refl}
 use Rattle.md_top.proofs.report.put_command_outcome.Goals as goal
 
 pub returns-in-Shown : goal.returns-in-Shown
 returns-in-Shown g c = rw c.in-Shown.is (rw c.bytes.ensures at c.put.ensures)
 
 pub returns-in-Played : goal.returns-in-Played
-returns-in-Played g c = rw c.in-Played.is (refl, refl)
+returns-in-Played g c = elim c.in-Played.is [
+  | inl is ↦ rw is (refl, refl)
+  | inr is ↦ rw is (refl, refl)
+]
 
-pub returns-in-ReplyFault : goal.returns-in-ReplyFault
-returns-in-ReplyFault g c = rw c.in-ReplyFault.is (refl, refl)
+pub returns-in-Behind : goal.returns-in-Behind
+returns-in-Behind g c = rw c.in-Behind.is (rw c.end-in-Behind.ensures at c.put_numbers.ensures)
 
 pub returns-in-Usage : goal.returns-in-Usage
 returns-in-Usage g c = rw c.in-Usage.is c.put-in-Usage.ensures
