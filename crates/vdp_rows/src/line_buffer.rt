@@ -36,7 +36,7 @@ impl Video {
         let note = self.line_buffer.note(line);
         answer.say_bit(note.overflow)?;
         answer.say_bit(note.collision)?;
-        self.buffer.copy(self.line_buffer.row(line))
+        self.buffer.copy(self.line_buffer.scanline(line))
     }
 
     /// Whether the VDP is as the buffer shows it.
