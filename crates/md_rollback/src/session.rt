@@ -8,9 +8,9 @@ ghost use Rattle.md_rollback.specs.Images.{ReachBackTo};
 ghost use Rattle.md_rollback.specs.Played.{IsMachineOf, KeepsReached};
 
 use crate::fault::AdvanceFault;
+use crate::frames::same_frames;
 use crate::images::Images;
 use crate::play::remake;
-use crate::frames::same_frames;
 use crate::{InputFault, Inputs, KeptImages, MOST_FRAMES};
 use machine_laws::saved;
 use md_machine::Machine;
@@ -131,9 +131,7 @@ impl<R: Replays> Session<R> {
         // the frames before the last ones of the window were played as they are expected
         let fixed = frames.saturating_sub(self.window);
         let known = &self.played[..fixed];
-        let expected = self
-            .inputs
-            .expected_after(self.alloc, known, frames + 1)?;
+        let expected = self.inputs.expected_after(self.alloc, known, frames + 1)?;
         let right = same_frames(self.played.as_slice(), expected.as_slice(), fixed);
         let newer = self.images.newer_than(right);
         remake(
