@@ -2,7 +2,7 @@ use Rattle.std.proofs.Common.{◌≡◌, ℕ, ◌+◌, ◌<◌, ◌≤◌}
 use Rattle.md_rollback.specs.Images.{ReachBackTo}
 use Rattle.md_rollback.specs.Played.{AreMade, IsPlayed}
 use Rattle.md_rollback.proofs.Near.{IsNewest}
-use Rattle.md_rollback.proofs.play.play.Given as goal
+use Rattle.md_rollback.proofs.replaying.play.Given as goal
 
 abbrev pub invariant-loop-frame : goal.invariant-loop-frame
 invariant-loop-frame g l =

@@ -2,7 +2,7 @@ use Rattle.std.proofs.Common.{refl, ap, ◌*◌, ◌+◌, arith}
 use Rattle.md_word.specs.Region.{frame_cycles}
 use Rattle.md_word.specs.Clock.{frame}
 use Rattle.md_rollback.proofs.Steps.{played-next}
-use Rattle.md_rollback.proofs.play.play_frame.Goals as goal
+use Rattle.md_rollback.proofs.replaying.play_frame.Goals as goal
 
 pub alone-requires-clause-near : goal.alone-requires-clause-near
 alone-requires-clause-near c = omega (arith, c.requires.at, ap frame_cycles c.requires.region)

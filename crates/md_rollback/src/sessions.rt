@@ -10,7 +10,7 @@ ghost use Rattle.md_rollback.specs.Played.{IsMachineOf, KeepsReached};
 use crate::fault::AdvanceFault;
 use crate::frames::same_frames;
 use crate::images::Images;
-use crate::play::remake;
+use crate::replaying::remake;
 use crate::{InputFault, Inputs, KeptImages, MOST_FRAMES};
 use machine_laws::saved;
 use md_machine::Machine;

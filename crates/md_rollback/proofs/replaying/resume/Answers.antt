@@ -6,7 +6,7 @@ use Rattle.machine_laws.specs.Recorded.{with_recording}
 use Rattle.save_state.specs.States.{settled_console}
 use Rattle.md_word.specs.Clock.{frame}
 use Rattle.md_rollback.proofs.Steps.{ok-no-err, resumed-machine, same-ok}
-use Rattle.md_rollback.proofs.play.resume.Goals as goal
+use Rattle.md_rollback.proofs.replaying.resume.Goals as goal
 
 pub returns-in-Ok : goal.returns-in-Ok
 returns-in-Ok g c =

@@ -1,7 +1,7 @@
 use Rattle.std.proofs.Common.{◌+◌, ◌≤◌, ◌∙◌, ap, sym, subst}
 use Rattle.md_rollback.specs.Images.{Kept, ReachBackTo}
 use Rattle.md_rollback.specs.Sessions.{SessionValue}
-use Rattle.md_rollback.proofs.session.Session.images.Goals as goal
+use Rattle.md_rollback.proofs.sessions.Session.images.Goals as goal
 
 pub returns-clause-near : goal.returns-clause-near
 returns-clause-near g c = λ f few late.

@@ -3,7 +3,7 @@ use Rattle.save_state.specs.States.{settled_console}
 use Rattle.md_rollback.proofs.Kept.{made-kept, made-unkept}
 use Rattle.md_rollback.proofs.Near.{head-kept}
 use Rattle.md_rollback.proofs.Steps.{image-made, may-be-kept, region-is}
-use Rattle.md_rollback.proofs.play.play_next.Goals as goal
+use Rattle.md_rollback.proofs.replaying.play_next.Goals as goal
 
 pub play_frame-requires-clause-region : goal.play_frame-requires-clause-region
 play_frame-requires-clause-region g c = region-is (g.R.Replays.cart c.args.replays.now) c.args.machine.now.console.shared.recording.frames _ c.args.machine.now.console c.requires.played.machine_is.run

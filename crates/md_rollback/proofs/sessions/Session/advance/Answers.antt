@@ -9,7 +9,7 @@ use Rattle.md_rollback.proofs.FixedFrames.{fixed-frames, fixed-same}
 use Rattle.md_rollback.specs.Played.{AreMade, IsImageOf, IsMachineOf, IsPlayed, IsPlayedAlike}
 use Rattle.md_rollback.specs.Sessions.{IsSession, SessionValue}
 use Rattle.md_rollback.proofs.Advances.{back-few, expected-long, found-by, images-here, machine-here, may-be-recorded, session-next}
-use Rattle.md_rollback.proofs.session.Session.advance.Goals as goal
+use Rattle.md_rollback.proofs.sessions.Session.advance.Goals as goal
 
 pub same_frames-right-requires-clause-shorter : goal.same_frames-right-requires-clause-shorter
 same_frames-right-requires-clause-shorter g c =

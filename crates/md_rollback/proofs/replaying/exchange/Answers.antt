@@ -3,7 +3,7 @@ use Rattle.std.specs.Arc.{arc_value}
 use Rattle.md_pads.specs.declared.version.Version.{Version}
 use Rattle.machine_laws.specs.Recorded.{with_recording}
 use Rattle.md_rollback.proofs.Steps.{exchanged-machine}
-use Rattle.md_rollback.proofs.play.exchange.Goals as goal
+use Rattle.md_rollback.proofs.replaying.exchange.Goals as goal
 
 pub returns : goal.returns
 returns c = λ cart frame is.

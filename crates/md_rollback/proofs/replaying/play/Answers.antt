@@ -5,7 +5,7 @@ use Rattle.md_rollback.specs.Played.{AreMade, IsImageOf, IsPlayed}
 use Rattle.md_rollback.proofs.Kept.{made-next, made-none}
 use Rattle.md_rollback.proofs.Near.{IsNewest, near-next, newest-next}
 use Rattle.md_rollback.proofs.Steps.{frames-are}
-use Rattle.md_rollback.proofs.play.play.Goals as goal
+use Rattle.md_rollback.proofs.replaying.play.Goals as goal
 
 pub loop-frame-init : goal.loop-frame-init
 loop-frame-init g c = record {

@@ -8,7 +8,7 @@ use Rattle.md_rollback.specs.Images.{AreImagesBelow, Kept, image_at}
 use Rattle.md_rollback.proofs.Below.{image-dropped, widened}
 use Rattle.md_rollback.specs.Played.{AreMade, IsImageOf, IsPlayed, IsPlayedAlike}
 use Rattle.md_rollback.proofs.Steps.{frames-are}
-use Rattle.md_rollback.proofs.play.remake.Goals as goal
+use Rattle.md_rollback.proofs.replaying.remake.Goals as goal
 
 pub stand_at-requires-clause-first : goal.stand_at-requires-clause-first
 stand_at-requires-clause-first g c = ap (λ (r : Recorded). r.version) c.in_ok-recording.ensures

@@ -9,7 +9,7 @@ use Rattle.md_rollback.specs.Images.{Kept}
 use Rattle.md_rollback.specs.Sessions.{IsSession}
 use Rattle.md_rollback.proofs.Advances.{first-played, first-session, one-pushed}
 use Rattle.md_rollback.proofs.Steps.{image-made}
-use Rattle.md_rollback.proofs.session.Session.make.Goals as goal
+use Rattle.md_rollback.proofs.sessions.Session.make.Goals as goal
 
 pub invariant_of-result : goal.invariant_of-result
 invariant_of-result g c =
