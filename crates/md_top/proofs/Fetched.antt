@@ -6,14 +6,14 @@ use Rattle.md_pads.specs.Recording.{InvalidAt, IsSpelled, Recorded, Spells}
 use Rattle.md_pads.specs.declared.fault.RecFault.{RecFault}
 use Rattle.md_pads.specs.declared.fault.RecFault.TheVariants.{Form}
 use Rattle.md_pads.specs.declared.fault.RecFault.TheVariants as fault
-use Rattle.md_top.specs.Inputs.{IsVerdict, Spelled, RecordingCause, Verdict, InvalidAt, recording_limit}
+use Rattle.md_top.specs.Inputs.{IsVerdict, Spelled, RecordingCause, Verdict, Unspelled, recording_limit}
 use Rattle.md_top.specs.declared.command_outcome.CommandOutcome.TheVariants.{RecordingInvalid}
 
 -- there is a verdict on all bytes
 pub verdict_of : (bytes : List ℕ) (read : Result Recorded RecFault) → IfOk read (λ recording. Spells bytes recording)
     → ((place : ℕ) → IsErrOf read (Form place) ↔ InvalidAt bytes place) → (IsErrOf read fault.NoMemory → IsSpelled bytes) → (verdict : Verdict) × IsVerdict bytes verdict
 verdict_of bytes (Ok recording) found form memory = (Spelled recording, found)
-verdict_of bytes (Err (Form place)) found form memory = (InvalidAt place, (form place).0 refl)
+verdict_of bytes (Err (Form place)) found form memory = (Unspelled place, (form place).0 refl)
 verdict_of bytes (Err fault.NoMemory) found form memory = (Spelled (memory refl).0, (memory refl).1)
 
 -- the bytes are those of a file

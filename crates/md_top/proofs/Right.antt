@@ -9,7 +9,7 @@ use Rattle.md_outer.specs.Outside.{DepotState, Files, Rose}
 use Rattle.md_pads.specs.Recording.{InvalidAt, Recorded, Spells}
 use Rattle.md_top.specs.CommandOutcomes.{status_of}
 use Rattle.md_top.specs.Refusals.{cart_command_outcome, file_command_outcome, kept_command_outcome, loaded_command_outcome, read_command_outcome, recorded_command_outcome, recording_command_outcome, run_command_outcome, state_command_outcome, verdict_command_outcome}
-use Rattle.md_top.specs.Inputs.{CartCause, IsAccepted, IsValidated, IsVerdict, Spelled, RecordingCause, Records, Verdict, InvalidAt, cart_limit, recording_limit}
+use Rattle.md_top.specs.Inputs.{CartCause, IsAccepted, IsValidated, IsVerdict, Spelled, RecordingCause, Records, Verdict, Unspelled, cart_limit, recording_limit}
 use Rattle.md_top.specs.Loads.{BeginsWith, IsFound, IsFoundIn, IsLoadValidated, StateCause, recording_by, state_limit}
 use Rattle.state_laws.specs.Verdicts.{Keeps, OfOther, StateVerdict, StateInvalidAt}
 use Rattle.md_top.specs.Runs.{entries_from, halted_from, media_from, powered_on}
@@ -86,7 +86,7 @@ file_recording : (file : Option (List ℕ)) (verdict : Verdict) (recording : Rec
     → recording ≡ recording_by (Some name) verdict
 file_recording None verdict recording name is validated = absurd is
 file_recording (Some bytes) (Spelled found) recording name (within, spells) validated = one_recording bytes recording found spells validated
-file_recording (Some bytes) (InvalidAt place) recording name (within, spells) validated = absurd (validated.none (recording, spells))
+file_recording (Some bytes) (Unspelled place) recording name (within, spells) validated = absurd (validated.none (recording, spells))
 
 pub recording_same : (name : Option (List ℕ)) (files : Files) (verdict : Verdict) (recording : Recorded) → Records name files recording → IsValidated name files verdict
     → recording ≡ recording_by name verdict
@@ -100,7 +100,7 @@ file_recorded None verdict recording ready is validated = absurd is
 file_recorded (Some bytes) (Spelled found) recording ready (within, spells) validated =
     read_within Recording recording_limit bytes (λ held. ready found) within
     ∙ ap ready (one_recording bytes found recording validated spells)
-file_recorded (Some bytes) (InvalidAt place) recording ready (within, spells) validated = absurd (validated.none (recording, spells))
+file_recorded (Some bytes) (Unspelled place) recording ready (within, spells) validated = absurd (validated.none (recording, spells))
 
 pub right_recorded : (name : Option (List ℕ)) (files : Files) (verdict : Verdict) (recording : Recorded) (ready : Recorded → CommandOutcome)
     → Records name files recording → IsValidated name files verdict → recorded_command_outcome name files verdict ready ≡ ready recording
@@ -117,7 +117,7 @@ file_invalid : (file : Option (List ℕ)) (verdict : Verdict) (place : ℕ) (rea
     → status_of (recording_command_outcome file verdict ready) ≡ 6
 file_invalid None verdict place ready is validated = absurd is
 file_invalid (Some bytes) (Spelled recording) place ready (within, invalid) validated = absurd (invalid.none (recording, validated))
-file_invalid (Some bytes) (InvalidAt other) place ready (within, invalid) validated =
+file_invalid (Some bytes) (Unspelled other) place ready (within, invalid) validated =
     ap status_of (read_within Recording recording_limit bytes (λ held. RecordingInvalid other) within)
 
 pub recording_right : (observable : Type 0) (name : Option (List ℕ)) (old new : DepotState) (verdict : Verdict) (ready : Recorded → CommandOutcome) (command_outcome : CommandOutcome)

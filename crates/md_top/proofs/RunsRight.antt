@@ -7,7 +7,7 @@ use Rattle.md_outer.specs.Outside.{DepotState, Files, Rose}
 use Rattle.md_pads.specs.Recording.{InvalidAt, Recorded, Spells}
 use Rattle.md_top.specs.CommandOutcomes.{status_of}
 use Rattle.md_top.specs.Refusals.{accepted_command_outcome, asked_command_outcome, file_command_outcome, loaded_command_outcome, recorded_command_outcome, recording_command_outcome, state_command_outcome}
-use Rattle.md_top.specs.Inputs.{AreInputs, CartCause, IsAccepted, IsValidated, IsTooLong, IsUnread, IsVerdict, Spelled, RecordingCause, Records, Verdict, InvalidAt, cart_of, recording_limit}
+use Rattle.md_top.specs.Inputs.{AreInputs, CartCause, IsAccepted, IsValidated, IsTooLong, IsUnread, IsVerdict, Spelled, RecordingCause, Records, Verdict, Unspelled, cart_of, recording_limit}
 use Rattle.md_word.specs.Clock.{last_cycle}
 use Rattle.md_top.specs.Loads.{Begins, BeginsWith, IsFound, IsFoundIn, IsLoadValidated, IsStateValidated, LoadCause, inputs_by, state_limit}
 use Rattle.state_laws.specs.Verdicts.{Keeps, OfOther, StateVerdict, StateInvalidAt}
@@ -162,7 +162,7 @@ invalid_always : (file : Option (List ℕ)) (verdict : Verdict) (place : ℕ)
     → (right : CommandOutcome) × ((ready : Recorded → CommandOutcome) → recording_command_outcome file verdict ready ≡ right) × (6 ≡ status_of right)
 invalid_always None verdict place is validated = absurd is
 invalid_always (Some bytes) (Spelled recording) place (within, invalid) validated = absurd (invalid.none (recording, validated))
-invalid_always (Some bytes) (InvalidAt other) place (within, invalid) validated =
+invalid_always (Some bytes) (Unspelled other) place (within, invalid) validated =
     (RecordingInvalid other, (λ ready. read_within Recording recording_limit bytes (λ held. RecordingInvalid other) within), refl)
 
 -- and so is a recording

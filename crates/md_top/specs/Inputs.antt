@@ -73,16 +73,16 @@ RecordingCause observable (Some name) old new (RecordingInvalid place) = observa
 RecordingCause observable (Some name) old new Memory = Unit {0}
 RecordingCause observable name old new command_outcome = ⊥
 
--- what the bytes of a recording's file are found to be: the spelling of this recording, or wrong from a
--- place on
+-- what the bytes of a recording's file are found to be: the spelling of this recording, or invalid at an
+-- offset
 pub data Verdict : Type 0 where
   Spelled : Recorded → Verdict
-  InvalidAt : ℕ → Verdict
+  Unspelled : ℕ → Verdict
 
 -- the bytes are so
 abbrev pub IsVerdict : List ℕ → Verdict → Type 0
 IsVerdict bytes (Spelled recording) = Spells bytes recording
-IsVerdict bytes (InvalidAt place) = InvalidAt bytes place
+IsVerdict bytes (Unspelled place) = InvalidAt bytes place
 
 -- the bytes of the recording of this name are so, if one is named
 abbrev pub IsValidated : Option (List ℕ) → Files → Verdict → Type 0

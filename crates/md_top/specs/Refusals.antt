@@ -16,7 +16,7 @@ use Rattle.md_top.specs.Assemblies.{asm_command_outcome}
 use Rattle.md_top.specs.Conversions.{convert_command_outcome}
 use Rattle.md_top.specs.Debuggings.{Scripted, played_outcome, script_limit}
 use Rattle.md_top.specs.Demos.{demo_start, summary_from}
-use Rattle.md_top.specs.Inputs.{Spelled, Verdict, InvalidAt, cart_limit, cart_of, recording_limit, refusal_of}
+use Rattle.md_top.specs.Inputs.{Spelled, Verdict, Unspelled, cart_limit, cart_of, recording_limit, refusal_of}
 use Rattle.md_word.specs.Clock.{last_cycle}
 use Rattle.md_top.specs.Loads.{state_limit}
 use Rattle.md_top.specs.Rollings.{completion_outcome, inputs_limit}
@@ -41,7 +41,7 @@ file_command_outcome file accepted = read_command_outcome First cart_limit file 
 
 -- after the bytes of the recording's file; `ready` is the outcome after what they spell
 abbrev pub verdict_command_outcome : Verdict → (Recorded → CommandOutcome) → CommandOutcome
-verdict_command_outcome (InvalidAt place) ready = RecordingInvalid place
+verdict_command_outcome (Unspelled place) ready = RecordingInvalid place
 verdict_command_outcome (Spelled recording) ready = ready recording
 
 -- after the recording's file
