@@ -1,6 +1,7 @@
 -- Images that are saved states.
-use Rattle.std.proofs.Common.{◌≡◌, ◌≢◌, ◌∙◌, refl, sym, ap, ap₂, subst, false, ℕ, List, [], length, Result, Ok, Err, inl, inr, arith}
-use Rattle.std.specs.Prelude.{IfOk}
+use Rattle.std.proofs.Common.{◌≡◌, ◌≢◌, ◌∙◌, refl, sym, ap, ap₂, subst, false, ℕ, List, [], length, Option, Some, None, Result, Ok, Err, inl, inr, arith}
+use Rattle.std.specs.Prelude.{IfOk, IfSome}
+use Rattle.std.proofs.lemmas.Option.{same_Some}
 use Rattle.md_pads.specs.Recording.{Recorded}
 use Rattle.z80_chip.specs.States as states80
 use Rattle.md_machine.specs.Console.{Console, power_on}
@@ -23,17 +24,6 @@ use Rattle.save_state.proofs.PowerOn.{first_is_none, first_settled}
 use Rattle.save_state.proofs.ReadLaws.{parts_of_state}
 use Rattle.save_state.proofs.VersionLaws.{newest_state}
 use Rattle.state_laws.specs.Kept.{IsFirst, IsKept, MayBeKept}
-
--- ---- what `read` gives is a machine or a fault
-
-pub same-machine : (m w : MachineValue) → ◌≡◌ {A = Result MachineValue StateFault} (Ok m) (Ok w) → m ≡ w
-same-machine m w same = cc
-
-pub no-memory : (m : MachineValue) → ◌≡◌ {A = Result MachineValue StateFault} (Ok m) (Err faults.NoMemory) → ⊥
-no-memory m same = cc
-
-pub refused-read : (fault : StateFault) (m : MachineValue) → ◌≡◌ {A = Result MachineValue StateFault} (Err fault) (Ok m) → ⊥
-refused-read fault m same = cc
 
 -- ---- images with another recording
 
@@ -118,14 +108,14 @@ only-first cart recording bytes r only at m first all memory =
     only (all ∙ ap₂ kept_bytes first.0 first.1.1) memory
     ∙ ap₂ (λ (n : ℕ) (x : Console). Ok (read-with recording n x)) (sym first.0) (sym first.1.1)
 
--- where bytes are refused as a state, they are at most that of power-on
-pub only-refused : (cart : List ℕ) (recording : Recorded) (bytes : List ℕ) (fault : StateFault) (r : Result MachineValue ReplayFault)
-    → ((start : Start) → IsState cart bytes start → start.console.shared.recording ≡ recording → ◌≡◌ {A = Result MachineValue StateFault} (Err fault) (Ok (record { at = start.at; console = start.console; entries = []; media = no_media })))
+-- where bytes are no state, they are at most that of power-on
+pub only-refused : (cart : List ℕ) (recording : Recorded) (bytes : List ℕ) (r : Result MachineValue ReplayFault)
+    → ((start : Start) → IsState cart bytes start → start.console.shared.recording ≡ recording → ⊥)
     → (bytes ≡ kept_bytes 0 (power_on cart recording false) → r ≢ Err NoMemory → r ≡ Ok (read-with recording 0 (power_on cart recording false)))
     → (at : ℕ) (m : Console) → IsKept cart at m → bytes ≡ kept_bytes at m → r ≢ Err NoMemory → r ≡ Ok (read-with recording at m)
-only-refused cart recording bytes fault r state only at m (inl first) all memory = only-first cart recording bytes r only at m first all memory
-only-refused cart recording bytes fault r state only at m (inr saved) all memory =
-    absurd (refused-read fault _ (state (record { at = at; console = with_recording recording m }) (newest_state cart bytes _ (state-with cart at m recording bytes saved all)) refl))
+only-refused cart recording bytes r state only at m (inl first) all memory = only-first cart recording bytes r only at m first all memory
+only-refused cart recording bytes r state only at m (inr saved) all memory =
+    absurd (state (record { at = at; console = with_recording recording m }) (newest_state cart bytes _ (state-with cart at m recording bytes saved all)) refl)
 
 -- where they are read as a state, they are not that of power-on
 pub only-read : (cart : List ℕ) (recording : Recorded) (bytes : List ℕ) (machine : MachineValue)
@@ -141,12 +131,24 @@ pub only-long : (cart : List ℕ) (bytes : List ℕ) (start : Start) → IsState
 only-long cart bytes start is at m (inl first) all = absurd (no-first cart bytes start is at m first all)
 only-long cart bytes start is at m (inr saved) all = newest-long cart bytes (record { at = at; console = m }) (record { saved = saved; all = all })
 
--- what `read` says of a cartridge and a recording that are others' copies
+-- ---- what is read of bytes as a saved state
+
+-- what a reader says of a cartridge and a recording
 abbrev pub OnlyState : List ℕ → Recorded → List ℕ → Result MachineValue StateFault → Type 0
 OnlyState cart recording bytes r =
     (start : Start) → IsState cart bytes start → start.console.shared.recording ≡ recording → r ≢ Err faults.NoMemory
     → r ≡ Ok (record { at = start.at; console = start.console; entries = []; media = no_media })
 
+same-machine : (m w : MachineValue) → ◌≡◌ {A = Result MachineValue StateFault} (Ok m) (Ok w) → m ≡ w
+same-machine m w same = cc
+
+no-memory : (m : MachineValue) → ◌≡◌ {A = Result MachineValue StateFault} (Ok m) (Err faults.NoMemory) → ⊥
+no-memory m same = cc
+
+refused-read : (fault : StateFault) (m : MachineValue) → ◌≡◌ {A = Result MachineValue StateFault} (Err fault) (Ok m) → ⊥
+refused-read fault m same = cc
+
+-- the same of others' copies of both
 pub state-of : (cart own : List ℕ) (recording again : Recorded) (bytes : List ℕ) (m : MachineValue) → own ≡ cart → again ≡ recording → OnlyState own again bytes (Ok m)
     → (start : Start) → IsState cart bytes start → start.console.shared.recording ≡ recording → m ≡ record { at = start.at; console = start.console; entries = []; media = no_media }
 state-of cart own recording again bytes m one two only start is pads =
@@ -154,9 +156,27 @@ state-of cart own recording again bytes m one two only start is pads =
 
 pub state-refused : (cart own : List ℕ) (recording again : Recorded) (bytes : List ℕ) (fault : StateFault) → own ≡ cart → again ≡ recording
     → (◌≡◌ {A = Result MachineValue StateFault} (Err fault) (Err faults.NoMemory) → ⊥) → OnlyState own again bytes (Err fault)
-    → (start : Start) → IsState cart bytes start → start.console.shared.recording ≡ recording → ◌≡◌ {A = Result MachineValue StateFault} (Err fault) (Ok (record { at = start.at; console = start.console; entries = []; media = no_media }))
+    → (start : Start) → IsState cart bytes start → start.console.shared.recording ≡ recording → ⊥
 state-refused cart own recording again bytes fault one two other only start is pads =
-    only start (subst (λ (k : List ℕ). IsState k bytes start) (sym one) is) (pads ∙ sym two) other
+    refused-read fault _ (only start (subst (λ (k : List ℕ). IsState k bytes start) (sym one) is) (pads ∙ sym two) other)
+
+-- what bytes are read as, if they are a state
+abbrev pub OnlyRead : List ℕ → Recorded → List ℕ → Option MachineValue → Type 0
+OnlyRead cart recording bytes read =
+    (start : Start) → IsState cart bytes start → start.console.shared.recording ≡ recording
+    → read ≡ Some (record { at = start.at; console = start.console; entries = []; media = no_media })
+
+-- what holds of what is read
+pub read-some : (P : MachineValue → Type 0) (read : Option MachineValue) (m : MachineValue) → read ≡ Some m → IfSome read P → P m
+read-some P read m is holds = subst (λ (r : Option MachineValue). IfSome r P) is holds
+
+pub some-read : (cart : List ℕ) (recording : Recorded) (bytes : List ℕ) (read : Option MachineValue) (m : MachineValue) → read ≡ Some m → OnlyRead cart recording bytes read
+    → (start : Start) → IsState cart bytes start → start.console.shared.recording ≡ recording → m ≡ record { at = start.at; console = start.console; entries = []; media = no_media }
+some-read cart recording bytes read m some only start is pads = same_Some _ _ (sym some ∙ only start is pads)
+
+pub none-read : (cart : List ℕ) (recording : Recorded) (bytes : List ℕ) (read : Option MachineValue) → read ≡ None → OnlyRead cart recording bytes read
+    → (start : Start) → IsState cart bytes start → start.console.shared.recording ≡ recording → ⊥
+none-read cart recording bytes read none only start is pads = absurd (let same = sym none ∙ only start is pads in cc)
 
 -- the image of power-on
 pub first-image : (cart : List ℕ) (recording : Recorded) (m : MachineValue) (image : List ℕ) → m ≡ record { at = 0; console = power_on cart recording false; entries = []; media = no_media }

@@ -1,7 +1,6 @@
 -- The images of the machines of a cartridge and a recording: their saved states, and that of power-on. This
 -- project's profile.
 use Rattle.std.specs.Prelude.{◌≡◌, ℕ, ◌≤◌, Bool, All, List, []}
-use Rattle.sha2.specs.Sha256.{sha256}
 use Rattle.md_word.specs.Clock.{last_cycle}
 use Rattle.md_pads.specs.Recording.{IsFrame, Recorded}
 use Rattle.md_machine.specs.Console.{Console, power_on}
@@ -59,8 +58,7 @@ pub data Keeps (images : ImagesValue) (bytes : List ℕ) (m : MachineValue) : Ty
   state : IsState images.cart bytes (start_of m) → m.console.shared.recording ≡ images.recording → m ≡ drained m.at m.console → Keeps images bytes m
   first : bytes ≡ image_of images (first_of images) → m ≡ first_of images → Keeps images bytes m
 
--- what is kept for the images: the digest of the cartridge's image, and the image of power-on
-pub record AreReady (images : ImagesValue) (digest first : List ℕ) : Type 0 where
-  pub digest_is : digest ≡ sha256 images.cart
+-- what is kept for the images: the image of power-on
+pub record AreReady (images : ImagesValue) (first : List ℕ) : Type 0 where
   pub first_is : first ≡ image_of images (first_of images)
   pub buttons : All IsFrame images.recording.frames

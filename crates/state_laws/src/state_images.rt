@@ -3,15 +3,15 @@ ghost use Rattle.std.specs.Arc.{arc_value};
 ghost use Rattle.md_pads.specs.Recording.{IsFrame};
 ghost use Rattle.state_laws.specs.Images.{HasImage, ImagesValue, first_of};
 
-use crate::owners::{is_same, same_cart, same_recording};
+use crate::StateReplays;
+use crate::owners::is_same;
 use machine_laws::saved;
 use md_machine::Machine;
 use md_pads::Recording;
 use md_word::NoMemory;
 use page_ring::{ImageFault, Images};
 use rom_header::Cart;
-use save_state::{LENGTH, StateFault, read_with, write_with};
-use sha2::{Digest, Sha256};
+use save_state::LENGTH;
 use std::alloc::Global;
 use std::marker::Model;
 use std::sync::Arc;
@@ -20,11 +20,10 @@ use std::sync::Arc;
 /// power-on, which is none. The digest of the cartridge and the image of power-on are computed once.
 #[derive(Drop)]
 pub struct StateImages {
-    cart: Arc<Cart>,
+    replays: StateReplays,
     recording: Arc<Recording>,
     /// The region of the machine at power-on.
     pal: bool,
-    digest: [u8; 32],
     /// The image of the machine at power-on.
     first: Vec<u8>,
 }
@@ -35,9 +34,9 @@ impl Model for StateImages {
 
     ghost Value = { ImagesValue };
 
-    ghost view = { λ s. record { cart = arc_value s.cart; recording = arc_value s.recording; pal = s.pal } };
+    ghost view = { λ s. record { cart = s.replays; recording = arc_value s.recording; pal = s.pal } };
 
-    ghost invariant = { λ s. AreReady (record { cart = arc_value s.cart; recording = arc_value s.recording; pal = s.pal }) s.digest s.first.items };
+    ghost invariant = { λ s. AreReady (record { cart = s.replays; recording = arc_value s.recording; pal = s.pal }) s.first.items };
 }
 
 impl StateImages {
@@ -52,14 +51,13 @@ impl StateImages {
         requires { All IsFrame (arc_value recording).frames }
         ensures { IfOk result (λ images. images ≡ record { cart = arc_value cart; recording = arc_value recording; pal = pal }) }
     {
-        let digest = Sha256::digest(cart.bytes());
-        let machine = first_machine(alloc, &cart, &recording, pal)?;
-        let first = write_with(alloc, &machine, &digest)?;
+        let replays = StateReplays::make(cart);
+        let machine = replays.power_on(alloc, &recording, pal)?;
+        let first = replays.write(alloc, &machine)?;
         Ok(StateImages {
-            cart,
+            replays,
             recording,
             pal,
-            digest,
             first,
         })
     }
@@ -69,23 +67,9 @@ impl StateImages {
         ensures machine { IfOk result (λ machine. machine ≡ first_of self.now) }
         ensures own { HasImage self.now (first_of self.now) }
     {
-        saved::power_on_is_reached(&self.cart);
-        first_machine(alloc, &self.cart, &self.recording, self.pal)
+        saved::power_on_is_reached(self.replays.cart());
+        self.replays.power_on(alloc, &self.recording, self.pal)
     }
-}
-
-/// A machine at power-on.
-fn first_machine(
-    alloc: Global,
-    cart: &Arc<Cart>,
-    recording: &Arc<Recording>,
-    pal: bool,
-) -> Result<Machine, NoMemory>
-    ensures { IfOk result (λ machine. machine ≡ first_of (record { cart = arc_value cart.now; recording = arc_value recording.now; pal = pal })) }
-{
-    let cart = same_cart(cart)?;
-    let recording = same_recording(recording)?;
-    Machine::power_on(alloc, cart, recording, pal)
 }
 
 impl Images<Machine> for StateImages {
@@ -107,23 +91,20 @@ impl Images<Machine> for StateImages {
 
     fn image(&self, alloc: Global, machine: &Machine) -> Result<Vec<u8>, NoMemory> {
         saved::reached_may_be_kept();
-        write_with(alloc, machine, &self.digest)
+        self.replays.write(alloc, machine)
     }
 
     fn machine(&self, alloc: Global, bytes: &[u8]) -> Result<Machine, ImageFault> {
         if is_same(self.first.as_slice(), bytes) {
             return Ok(self.first_machine(alloc)?);
         }
-        let cart = same_cart(&self.cart)?;
-        let recording = same_recording(&self.recording)?;
-        match read_with(alloc, bytes, &self.digest, cart, recording) {
-            Ok(machine) => {
+        let read = self.replays.read(alloc, bytes, &self.recording)?;
+        match read {
+            Some(machine) => {
                 saved::states_are_reached(&machine);
                 Ok(machine)
             }
-            Err(StateFault::NoMemory) => Err(ImageFault::NoMemory),
-            Err(StateFault::Form { .. }) => Err(ImageFault::Form),
-            Err(StateFault::OtherCart { .. }) => Err(ImageFault::Form),
+            None => Err(ImageFault::Form),
         }
     }
 }

@@ -9,12 +9,12 @@ use Rattle.state_laws.proofs.Machines.{first_has}
 use Rattle.state_laws.proofs.state_images.StateImages.first_machine.Goals as goal
 
 pub returns-clause-machine : goal.returns-clause-machine
-returns-clause-machine c = subst (λ (x : ImagesValue). IfOk c.first_machine.result (λ (m : MachineValue). m ≡ first_of x)) c.self.view_is c.first_machine.ensures
+returns-clause-machine c = subst (λ (x : ImagesValue). IfOk c.power_on.result (λ (m : MachineValue). m ≡ first_of x)) c.self.view_is c.power_on.ensures
 
 pub returns-clause-own : goal.returns-clause-own
 returns-clause-own c =
     let recording = arc_value c.self.inside.recording in
     let pal = c.self.inside.pal in
     subst (λ (x : ImagesValue). HasImage x (first_of x)) c.self.view_is
-    (first_has (record { cart = arc_value c.self.inside.cart; recording = recording; pal = pal })
-    (subst (λ (cart : List ℕ). IsReached 0 (power_on cart recording pal)) c.deref.ensures (c.power_on_is_reached.ensures recording pal c.self.invariant.buttons)))
+    (first_has (record { cart = c.self.inside.replays; recording = recording; pal = pal })
+    (subst (λ (cart : List ℕ). IsReached 0 (power_on cart recording pal)) c.cart.ensures (c.power_on_is_reached.ensures recording pal c.self.invariant.buttons)))
