@@ -5,7 +5,7 @@ use Rattle.std.proofs.Math.ListN.{get_or-eq_default}
 use Rattle.std.proofs.lemmas.Bool.{cases_lt}
 use Rattle.std.proofs.lemmas.List.Elements.{All-get_or, All-replicate, All-set}
 use Rattle.md_word.specs.Clock.{line}
-use Rattle.vdp_ports.specs.Vdp.{Vdp, at_power_on, register}
+use Rattle.vdp_ports.specs.Vdp.{Vdp, at_power_on, is_shown, register}
 use Rattle.vdp_ports.specs.Dma.{copying, dropped, filling, length_of}
 use Rattle.vdp_ports.specs.Data.{accessed, place, put, transferred, written}
 use Rattle.vdp_ports.specs.Control.{acknowledged, armed, bit, controlled, first, second, source_of, started, started_by, starts, status, status_read, stored, transfer_of, transfers}
@@ -16,7 +16,7 @@ use Rattle.md_word.specs.Region.{height}
 use Rattle.vdp_time.specs.Lines.{counted, heightened, h_blank, h_counter, hv, jumping, line_of, line_started, raised, v_blank, v_counter}
 use Rattle.bus_shared.specs.Board.{AreBytes}
 use Rattle.bus_shared.specs.Laws.{IsTransfer, IsWordCost}
-use Rattle.bus_shared.specs.Video.{half_at, is_shown, is_wide, joined, line_begun, port_read, port_transfer, port_word, port_written, with_cost, word_cost}
+use Rattle.bus_shared.specs.Video.{half_at, is_wide, joined, line_begun, port_read, port_transfer, port_word, port_written, with_cost, word_cost}
 use Rattle.bus_shared.specs.declared.port.VideoPort.{VideoPort}
 use Rattle.bus_shared.specs.declared.port.VideoPort.TheVariants.{Data, Control, Counter, Sound, Unused}
 
@@ -165,7 +165,7 @@ cost-by false = inr refl
 
 pub cost-of-word : (cycle : ℕ) (s : Vdp) → IsWordCost (word_cost cycle s)
 unfolding word_cost
-cost-of-word cycle s = cost-by (v_blank cycle (is_shown s) s.pal s.tall)
+cost-of-word cycle s = cost-by (v_blank cycle (is_shown s.registers) s.pal s.tall)
 
 transfer-by : (b : Bool) (cost : ℕ) (s : Vdp) → IsWordCost cost → AreBytes s.registers
     → IfSome (with_cost cost (if b then Some (source_of s, length_of s) else None)) IsTransfer
@@ -218,7 +218,7 @@ hv-below cycle wide pal tall = omega (arith, v-below cycle pal tall, h-below cyc
 pub port-below : (port : VideoPort) (cycle : ℕ) (s : Vdp) → port_word port cycle s < 0x1_0000
 unfolding port_word
 port-below Data cycle s = omega arith
-port-below Control cycle s = status-below (is_busy cycle (settled cycle s)) (h_blank cycle) (v_blank cycle (is_shown (settled cycle s)) (settled cycle s).pal (settled cycle s).tall) (settled cycle s)
+port-below Control cycle s = status-below (is_busy cycle (settled cycle s)) (h_blank cycle) (v_blank cycle (is_shown (settled cycle s).registers) (settled cycle s).pal (settled cycle s).tall) (settled cycle s)
 port-below Counter cycle s = hv-below cycle (is_wide s) s.pal s.tall
 port-below Sound cycle s = lit< tt
 port-below Unused cycle s = lit< tt

@@ -1,7 +1,7 @@
 -- No access observes that a fill or copy was settled earlier.
 use Rattle.std.proofs.Common.{◌≡◌, ◌∙◌, refl, sym, ap, ℕ, zero, suc, ◌/◌, ◌%◌, ◌≤◌, ◌==◌, nat_lt, Bool, true, false, if◌then◌else◌, List, length, slice_index, inl, inr, arith}
 use Rattle.std.proofs.lemmas.Bool.{cases_lt}
-use Rattle.vdp_ports.specs.Vdp.{Vdp}
+use Rattle.vdp_ports.specs.Vdp.{Vdp, is_shown}
 use Rattle.vdp_ports.specs.Control.{acknowledged, controlled, started_by, status_read}
 use Rattle.vdp_ports.specs.Data.{accessed, read, transferred, written}
 use Rattle.vdp_dma.specs.Settling.{advanced, done, due, finished, moved, running, settled, step, vram_after, write}
@@ -11,7 +11,7 @@ use Rattle.vdp_dma.proofs.Settled.{by-none, by-some, settled_twice}
 use Rattle.vdp_planes.specs.declared.view.SpriteNote.{SpriteNote}
 use Rattle.vdp_time.specs.Lines.{hv, line_started, v_blank}
 use Rattle.bus_shared.specs.Settled.{SeesNoSettling}
-use Rattle.bus_shared.specs.Video.{is_shown, is_wide, joined, line_begun, port_read, port_transfer, port_word, port_written, status_at, with_cost, word_cost}
+use Rattle.bus_shared.specs.Video.{is_wide, joined, line_begun, port_read, port_transfer, port_word, port_written, status_at, with_cost, word_cost}
 use Rattle.bus_shared.specs.declared.port.VideoPort.{VideoPort}
 use Rattle.bus_shared.specs.declared.port.VideoPort.TheVariants.{Data, Control, Counter, Sound, Unused}
 
@@ -51,8 +51,8 @@ unfolding settled
 kept-stay c s = same-if kept_of (length (due c s) == 0) _ _ (kept_of s) refl (kept-advanced _ _ s)
 
 cost-stays : (e c : ℕ) (s : Vdp) → word_cost c (settled e s) ≡ word_cost c s
-unfolding word_cost is_shown
-cost-stays e c s = ap (λ (k : Kept). if v_blank c (slice_index k.0 1 / 0x40 % 2 == 1) k.1.pal k.1.tall then 34 else 380) (kept-stay e s)
+unfolding word_cost
+cost-stays e c s = ap (λ (k : Kept). if v_blank c (is_shown k.0) k.1.pal k.1.tall then 34 else 380) (kept-stay e s)
 
 counter-stays : (e c : ℕ) (s : Vdp) → port_word Counter c (settled e s) ≡ port_word Counter c s
 unfolding port_word is_wide

@@ -6,7 +6,7 @@ use Rattle.md_word.specs.Region.{rows}
 use Rattle.md_word.specs.declared.key.Key.{Key}
 use Rattle.md_word.specs.declared.main_bus.Transfer.{Transfer}
 use Rattle.md_word.specs.declared.pins.Pins68.{Pins68}
-use Rattle.vdp_ports.specs.Vdp.{Vdp, register}
+use Rattle.vdp_ports.specs.Vdp.{Vdp, is_shown, register}
 use Rattle.vdp_ports.specs.Control.{acknowledged, controlled, level, started_by, status, status_read}
 use Rattle.vdp_ports.specs.Data.{accessed, read, transferred, written}
 use Rattle.vdp_dma.specs.Settling.{is_busy, settled}
@@ -28,17 +28,13 @@ port_at address =
     else (if nat_lt place 0x10 then Counter
     else (if nat_lt place 0x18 then Sound else Unused)))
 
--- whether the display is on: bit 6 of register 1
-unfoldable pub is_shown : Vdp → Bool
-is_shown vdp = register vdp 1 / 0x40 % 2 == 1
-
 -- whether the picture has 320 dots: bit 0 of register 12
 unfoldable pub is_wide : Vdp → Bool
 is_wide vdp = register vdp 12 % 2 == 1
 
 -- the status at a cycle
 abbrev pub status_at : ℕ → Vdp → ℕ
-status_at cycle vdp = status (is_busy cycle vdp) (h_blank cycle) (v_blank cycle (is_shown vdp) vdp.pal vdp.tall) vdp
+status_at cycle vdp = status (is_busy cycle vdp) (h_blank cycle) (v_blank cycle (is_shown vdp.registers) vdp.pal vdp.tall) vdp
 
 -- the word that a port gives at a cycle: fill and copy are settled to it where data or status is read
 unfoldable pub port_word : VideoPort → ℕ → Vdp → ℕ
@@ -63,7 +59,7 @@ port_written port cycle word vdp = vdp
 -- the cycles to the next word of a transfer: 34 in the vertical blanking and where the display is off,
 -- else 380
 unfoldable pub word_cost : ℕ → Vdp → ℕ
-word_cost cycle vdp = if v_blank cycle (is_shown vdp) vdp.pal vdp.tall then 34 else 380
+word_cost cycle vdp = if v_blank cycle (is_shown vdp.registers) vdp.pal vdp.tall then 34 else 380
 
 -- a transfer that starts, with what its first word costs
 abbrev pub with_cost : ℕ → Option (ℕ × ℕ) → Option Transfer

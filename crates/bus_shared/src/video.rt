@@ -15,7 +15,7 @@ use vdp_dma::{busy, settle, transfer_word};
 use vdp_planes::register::MODE_4;
 use vdp_planes::{LineView, SpriteNote, fill_view};
 use vdp_ports::VdpState;
-use vdp_ports::register::MODE_2;
+use vdp_ports::register::is_shown;
 use vdp_time::{blank, hv, line_of, start_line};
 
 /// The word that is read where no port answers.
@@ -35,14 +35,6 @@ pub(crate) fn power_on(alloc: Global, pal: bool) -> Result<Box<VdpState>, NoMemo
     Ok(Box::new(alloc, VdpState::power_on(alloc, pal)?)?)
 }
 
-/// Whether the display is on.
-#[tactic(auto, unfolding(crate::specs::Video::is_shown))]
-fn is_shown(vdp: &VdpState) -> bool
-    ensures { result ≡ video.is_shown vdp.now }
-{
-    vdp.registers[MODE_2] / 0x40 % 2 == 1
-}
-
 /// Whether the picture has 320 dots.
 #[tactic(auto, unfolding(crate::specs::Video::is_wide))]
 fn is_wide(vdp: &VdpState) -> bool
@@ -56,7 +48,7 @@ fn is_wide(vdp: &VdpState) -> bool
 fn word_cost(vdp: &VdpState, cycle: u64) -> u16
     ensures { result ≡ video.word_cost cycle vdp.now }
 {
-    let (_, vb) = blank(cycle, is_shown(vdp), vdp.pal, vdp.tall);
+    let (_, vb) = blank(cycle, is_shown(&vdp.registers), vdp.pal, vdp.tall);
     if vb { UNDRAWN_COST } else { DRAWN_COST }
 }
 
@@ -78,7 +70,7 @@ fn read_status(vdp: &mut VdpState, cycle: u64) -> u16
 {
     settle(vdp, cycle);
     let is_busy = busy(vdp, cycle);
-    let (hb, vb) = blank(cycle, is_shown(vdp), vdp.pal, vdp.tall);
+    let (hb, vb) = blank(cycle, is_shown(&vdp.registers), vdp.pal, vdp.tall);
     vdp.control_read(is_busy, hb, vb)
 }
 

@@ -2,10 +2,10 @@ ghost use Rattle.std.specs.Prelude.{◌≡◌, ◌<◌, ◌≤◌, ◌%◌};
 ghost use Rattle.vdp_planes.specs.View.{display_height, has_bit, register, seen, view_of};
 ghost use Rattle.vdp_planes.specs.Dots.{dot_of, word_of};
 
-use crate::register::MODE_2;
 use md_word::region::height;
 use std::marker::Model;
 use vdp_ports::VdpState;
+use vdp_ports::register::is_shown;
 
 /// What a line of a picture is drawn from: the registers and memories of the VDP at the line's event,
 /// and the height of its display. The region is that of the picture. It takes 64 KiB: keep it in a box.
@@ -162,7 +162,7 @@ impl<'a> Scene<'a> {
     pub fn is_shown(&self) -> bool
         ensures { result ≡ has_bit (register (seen self.now) 1) 64 }
     {
-        self.registers[MODE_2] / 64 % 2 == 1
+        is_shown(self.registers)
     }
 }
 

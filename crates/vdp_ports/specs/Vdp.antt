@@ -1,6 +1,6 @@
--- The video display processor as contracts see it: registers, memories, ports, a fill or copy that
--- goes on, interrupts. Genesis Technical Overview, the VDP.
-use Rattle.std.specs.Prelude.{◌≡◌, ℕ, Bool, false, List, length, slice_index, replicate}
+-- The video display processor as contracts see it: registers, memories, ports, a fill or copy in
+-- progress, interrupts. Genesis Technical Overview, the VDP.
+use Rattle.std.specs.Prelude.{◌≡◌, ℕ, ◌/◌, ◌%◌, Bool, false, ◌==◌, List, length, slice_index, replicate}
 
 -- the VDP; a fill or copy is settled when somebody looks
 pub record Vdp : Type 0 where
@@ -41,6 +41,10 @@ pub record IsVdp (registers vram cram vsram : List ℕ) : Type 0 where
 -- a register by its number
 abbrev pub register : Vdp → ℕ → ℕ
 register s n = slice_index s.registers n
+
+-- whether the display is on: bit 6 of register 1
+abbrev pub is_shown : List ℕ → Bool
+is_shown registers = slice_index registers 1 / 64 % 2 == 1
 
 -- at power-on all is 0 but the region
 abbrev pub at_power_on : Bool → Vdp

@@ -1,4 +1,6 @@
 // The numbers of registers. Source: Genesis Technical Overview, the VDP's registers.
+ghost use Rattle.std.specs.Prelude.{◌≡◌};
+ghost use Rattle.vdp_ports.specs.Vdp as meaning;
 
 /// Bit 4 lets the horizontal interrupt through.
 pub const MODE_1: usize = 0;
@@ -19,3 +21,11 @@ pub const SOURCE_LOW: usize = 21;
 pub const SOURCE_MIDDLE: usize = 22;
 /// Bits 7 and 6 choose between transfer, fill and copy.
 pub const SOURCE_HIGH: usize = 23;
+
+/// Whether the display is on.
+#[inline]
+pub fn is_shown(registers: &[u8; 24]) -> bool
+    ensures { result ≡ meaning.is_shown registers.now }
+{
+    registers[MODE_2] / 64 % 2 == 1
+}
