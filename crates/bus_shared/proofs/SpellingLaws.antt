@@ -5,6 +5,7 @@ use Rattle.std.proofs.lemmas.List.{drop_at, length-append, length-take, take-app
 use Rattle.fm_port.specs.Port as fm_ports
 use Rattle.fm_port.specs.PortSpelling as fm_spelling
 use Rattle.fm_port.proofs.PortBytes as fm_laws
+use Rattle.fm_port.proofs.PortBytes.{table as fm_table}
 use Rattle.md_fields.specs.Fields.{AreSized, AreWithin, sizes, spelling}
 use Rattle.md_fields.specs.Items.{IsRight, Keeps}
 use Rattle.md_fields.specs.Places.{IsBytes, Stand, number_at}
@@ -12,6 +13,7 @@ use Rattle.md_fields.proofs.Items.{refused_within}
 use Rattle.md_fields.proofs.Flags.{flag_again, flag_back}
 use Rattle.md_fields.proofs.Refusals.{failed}
 use Rattle.md_fields.proofs.Standing.{long_as, long_as_sized, spelled, spelled_stand}
+use Rattle.md_fields.proofs.Values.{refused_once}
 use Rattle.md_word.specs.Coding.{flag_number}
 use Rattle.md_word.specs.declared.unspell.Unspell.{Unspell}
 use Rattle.md_word.specs.declared.unspell.Unspell.TheVariants.{Rule, NoMemory}
@@ -19,6 +21,7 @@ use Rattle.md_pads.specs.Recording.{Recorded}
 use Rattle.psg_sound.specs.PortSpelling as psg_spelling
 use Rattle.psg_sound.specs.declared.write.PsgWrite.{PsgWrite}
 use Rattle.psg_sound.proofs.PortBytes as psg_laws
+use Rattle.psg_sound.proofs.PortBytes.{table as psg_table}
 use Rattle.vdp_ports.specs.Numbers.{numbers_of, vdp_of}
 use Rattle.vdp_ports.specs.Saved.{vdp_fields}
 use Rattle.vdp_ports.specs.Spelling as vdp_spelling
@@ -65,11 +68,11 @@ vdp_long at pal bytes s p = ap length p.keeps.all ∙ long_as (vdp_fields at pal
 
 fm_long : (at : ℕ) (bytes : List ℕ) (p : fm_ports.Port) → fm_spelling.SpellsPort at bytes p → length bytes ≡ 12316
 fm_long at bytes p spells =
-    ap length spells.keeps.all ∙ long_as (fm_spelling.port_fields at (fm_spelling.saved_port_of p)) spells.keeps.within ∙ fm_laws.port_size at (fm_spelling.saved_port_of p)
+    ap length spells.keeps.all ∙ long_as (fm_spelling.port_fields at (fm_spelling.saved_port_of p)) spells.keeps.within ∙ (fm_table at).sized (fm_spelling.saved_port_of p)
 
 psg_long : (at : ℕ) (bytes : List ℕ) (ws : List PsgWrite) → psg_spelling.SpellsPort at bytes ws → length bytes ≡ 10242
 psg_long at bytes ws spells =
-    ap length spells.keeps.all ∙ long_as (psg_spelling.port_fields at (psg_spelling.saved_port_of ws)) spells.keeps.within ∙ psg_laws.port_size at (psg_spelling.saved_port_of ws)
+    ap length spells.keeps.all ∙ long_as (psg_spelling.port_fields at (psg_spelling.saved_port_of ws)) spells.keeps.within ∙ (psg_table at).sized (psg_spelling.saved_port_of ws)
 
 lines_long : (at : ℕ) (bytes : List ℕ) (n : SavedLines) → Keeps (lines_fields at) bytes n → length bytes ≡ 36
 lines_long at bytes n keeps = ap length keeps.all ∙ long_as (lines_fields at n) keeps.within ∙ lines_laws.lines_size at n
@@ -189,8 +192,8 @@ parts_once : (at : ℕ) (pal : Bool) (start : ℕ) (parts : Parts) (p q : ℕ) �
 parts_once at pal start parts =
     from_once 0 _ _ (store_once parts.store)
     (from_once start _ _ (vdp_laws.only_place at pal parts.vdp)
-    (from_once (start + vdp_size) _ _ (fm_laws.invalid_once at parts.fm)
-    (from_once (start + vdp_size + 12316) _ _ (psg_laws.invalid_once at parts.psg)
+    (from_once (start + vdp_size) _ _ (refused_once (fm_table at) parts.fm)
+    (from_once (start + vdp_size + 12316) _ _ (refused_once (psg_table at) parts.psg)
     (from_once (start + vdp_size + 22558) _ _ (lines_laws.lines_once at parts.lines) (λ p q a b. absurd a)))))
 
 pub invalid_once : (at : ℕ) (pal : Bool) (bytes : List ℕ) (p q : ℕ) → InvalidAt at pal bytes p → InvalidAt at pal bytes q → p ≡ q
@@ -261,7 +264,7 @@ pub vdp_near : (at : ℕ) (pal : Bool) (bytes : List ℕ) (place : ℕ) → vdp_
 vdp_near at pal bytes place invalid = refused_within (vdp_fields at pal) bytes vdp_size (vdp_laws.fields_size at pal) place invalid
 
 pub psg_near : (at : ℕ) (bytes : List ℕ) (place : ℕ) → psg_spelling.PortInvalidAt at bytes place → place ≤ 10242
-psg_near at bytes place invalid = refused_within (psg_spelling.port_fields at) bytes 10242 (psg_laws.port_size at) place invalid
+psg_near at bytes place invalid = refused_within (psg_spelling.port_fields at) bytes 10242 (psg_table at).sized place invalid
 
 -- ---- what the bytes hold
 
@@ -313,9 +316,6 @@ whole at pal bytes recording store vdp fm psg n p =
     }
 
 -- ---- the answers of the parts
-
-pub same_fault : {T : Type 0} (f g : Unspell) → failed {T = T} f ≡ failed g → f ≡ g
-same_fault f g e = cc
 
 pub ok_not : {T : Type 0} (value : T) (f : Unspell) → Ok value ≡ failed f → ⊥
 ok_not value f e = absurd cc
@@ -390,7 +390,7 @@ ports_exit at pal bytes p place long none no_vdp invalid e =
     (inr (long, inr (none, inr (no_vdp, ports_after at (store_length bytes + vdp_size) (cut bytes).fm (cut bytes).psg (cut bytes).lines p invalid))))
 
 pub ports_near : (at : ℕ) (fm psg lines : List ℕ) (place : ℕ) → PortsInvalidAt at 0 fm psg lines place → place ≤ 22594
-ports_near at fm psg lines place (inl w) = omega (arith, w.2, refused_within (fm_spelling.port_fields at) fm 12316 (fm_laws.port_size at) w.0 w.1)
+ports_near at fm psg lines place (inl w) = omega (arith, w.2, refused_within (fm_spelling.port_fields at) fm 12316 (fm_table at).sized w.0 w.1)
 ports_near at fm psg lines place (inr (no_fm, inl w)) = omega (arith, w.2, psg_near at psg w.0 w.1)
 ports_near at fm psg lines place (inr (no_fm, inr (no_psg, inl w))) = omega (arith, w.2, refused_within (lines_fields at) lines 36 (lines_laws.lines_size at) w.0 w.1)
 ports_near at fm psg lines place (inr (no_fm, inr (no_psg, inr w))) = absurd w.1

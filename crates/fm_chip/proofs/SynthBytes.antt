@@ -1,168 +1,73 @@
 -- Laws of the bytes that keep the synthesis.
-use Rattle.std.proofs.Common.{◌≡◌, ℕ, zero, suc, ◌+◌, ◌-◌, ◌^◌, ◌<◌, ◌≤◌, Bool, true, false, cond, List, [], ◌∷◌, ◌++◌, length, get_or, take, drop, Option, Some, ℤ, pos, negsuc, refl, sym, ap, subst, ◌∙◌, arith}
+use Rattle.std.proofs.Common.{◌≡◌, ℕ, zero, suc, ◌+◌, ◌-◌, ◌^◌, ◌<◌, ◌≤◌, Bool, true, false, cond, List, [], ◌∷◌, ◌++◌, length, Option, Some, ℤ, pos, negsuc, refl, sym, ap, subst, ◌∙◌, arith}
 use Rattle.std.specs.Prelude.{All, ◌&&◌, nat_lt, option_map}
-use Rattle.std.specs.Int.{w16}
 use Rattle.std.proofs.lemmas.Int.{ints}
 use Rattle.std.proofs.lemmas.Bool.{and_parts, le-ltb, leb-true, lt-ltb, ltb-true}
 use Rattle.std.proofs.lemmas.List.Elements.{All-cons, All-get_or, All-nil}
-use Rattle.md_fields.specs.Fields.{AllHold, AreWithin, Field, first_invalid, holds_of, or_else, size_of, sizes}
+use Rattle.md_fields.specs.Fields.{AllHold, Field, first_invalid, holds_of, or_else, size_of, sizes}
 use Rattle.md_fields.specs.Items.{IsRight, Keeps}
-use Rattle.md_fields.specs.Places.{IsBytes, Stand, number_at}
+use Rattle.md_fields.specs.Places.{IsBytes, Stand}
 use Rattle.md_fields.proofs.Flags.{flag_again, flag_back}
-use Rattle.md_fields.proofs.Items.{rules_hold, kept, not_both, one_place, same}
-use Rattle.md_fields.proofs.Tables.{first_append, within_both}
+use Rattle.md_fields.proofs.Items.{kept, rules_hold}
+use Rattle.md_fields.proofs.Tables.{first_append, holds_both}
+use Rattle.md_fields.proofs.Values.{Table, Value, fit_at, holds_at, list_in, number_in, read_back, rule_at, stand_by, values_at}
 use Rattle.fm_voice.specs.Channel.{IsLevel}
 use Rattle.fm_chip.specs.Channels.{IsChannel, channel_at}
 use Rattle.fm_chip.specs.Operators.{IsOperator}
 use Rattle.fm_chip.specs.Synth.{IsSynth, Synth}
-use Rattle.fm_chip.specs.SynthSpelling.{SpellsSynth, SynthInvalidAt, channel_from, fields1, fields2, fields3, fields4, fields5, fields6, four_at, four_fields, head_fields, is_output, last_at, last_before, last_fields, last_from, operator_at, operator_before, operator_from, output_of, saved_four_of, saved_last_of, saved_synth_of, state_again, state_number, state_of, synth_at, synth_fields, synth_from, word_of}
+use Rattle.fm_chip.specs.SynthSpelling.{SpellsSynth, channel_from, fields1, fields2, fields3, fields4, fields5, fields6, four_fields, head_fields, is_output, last_fields, last_from, operator_from, output_of, saved_four_of, saved_last_of, saved_synth_of, state_again, state_number, state_of, synth_at, synth_fields, synth_from, word_of}
 use Rattle.fm_chip.specs.declared.channels.Channel.{Channel}
 use Rattle.fm_chip.specs.declared.saved_operator.SavedFour.{SavedFour}
 use Rattle.fm_chip.specs.declared.saved_operator.SavedOperator.{SavedOperator}
 use Rattle.fm_chip.specs.declared.saved_synth.SavedLast.{SavedLast}
 use Rattle.fm_chip.specs.declared.saved_synth.SavedSynth.{SavedSynth}
 
--- ---- what is spelled at an offset is read there
+-- ---- the table
 
-moved : (m n : ℕ) (fs : List Field) (bytes : List ℕ) → m ≡ n → Stand m fs bytes → Stand n fs bytes
-moved m n fs bytes e h = subst (λ (k : ℕ). Stand k fs bytes) e h
+-- the numbers of an operator, of a channel's four, and of its last outputs in the values from a number on
+abbrev operator_in : List Value → ℕ → SavedOperator
+operator_in values i = record { phase = number_in values i; v = number_in values (i + 1); state = number_in values (i + 2); on = number_in values (i + 3) }
 
-operator_only : (place : ℕ) (bytes : List ℕ) (s : SavedOperator) (rest : List Field) → Stand place (operator_before s rest) bytes → (s ≡ operator_at place bytes) × Stand (place + 8) rest bytes
-unfolding Stand
-operator_only place bytes s rest h =
-    (λ i. record { phase = h.0 i; v = h.1.0 i; state = h.1.1.0 i; on = h.1.1.1.0 i }, moved (place + 4 + 2 + 1 + 1) (place + 8) rest bytes (omega arith) h.1.1.1.1)
+abbrev four_in : List Value → ℕ → SavedFour
+four_in values i = record { one = operator_in values i; two = operator_in values (i + 4); three = operator_in values (i + 8); four = operator_in values (i + 12) }
 
-operator_stands : (place : ℕ) (bytes : List ℕ) (rest : List Field) → Stand (place + 8) rest bytes → Stand place (operator_before (operator_at place bytes) rest) bytes
-unfolding Stand
-operator_stands place bytes rest h = (refl, (refl, (refl, (refl, moved (place + 8) (place + 4 + 2 + 1 + 1) rest bytes (omega arith) h))))
+abbrev last_in : List Value → ℕ → SavedLast
+last_in values i = record { older = number_in values i; newer = number_in values (i + 1) }
 
-four_only : (place next : ℕ) (bytes : List ℕ) (s : SavedFour) (rest : List Field) → place + 32 ≡ next → Stand place (four_fields s ++ rest) bytes → (s ≡ four_at place bytes) × Stand next rest bytes
-four_only place next bytes s rest e h =
-    let r3 = operator_before s.four rest in
-    let r2 = operator_before s.three r3 in
-    let r1 = operator_before s.two r2 in
-    let one = operator_only place bytes s.one r1 h in
-    let two = operator_only (place + 8) bytes s.two r2 one.1 in
-    let three = operator_only (place + 8 + 8) bytes s.three r3 two.1 in
-    let four = operator_only (place + 8 + 8 + 8) bytes s.four rest three.1 in
-    (λ i. record { one = one.0 i; two = two.0 i; three = three.0 i; four = four.0 i }, moved (place + 8 + 8 + 8 + 8) next rest bytes (omega (arith, e)) four.1)
+-- the fields, and the numbers of their values
+pub table : Table 741 synth_fields
+unfolding sizes synth_fields values_at
+table = record {
+  back = λ values. record {
+    registers = list_in values 0;
+    latches = list_in values 1;
+    t = number_in values 2;
+    count = number_in values 3;
+    counter = number_in values 4;
+    four1 = four_in values 5;
+    four2 = four_in values 21;
+    four3 = four_in values 37;
+    four4 = four_in values 53;
+    four5 = four_in values 69;
+    four6 = four_in values 85;
+    last1 = last_in values 101;
+    last2 = last_in values 103;
+    last3 = last_in values 105;
+    last4 = last_in values 107;
+    last5 = last_in values 109;
+    last6 = last_in values 111;
+  };
+  again = λ s. refl;
+  alike = λ s t bytes. refl;
+  sized = λ s. refl;
+}
 
-four_stands : (place next : ℕ) (bytes : List ℕ) (rest : List Field) → place + 32 ≡ next → Stand next rest bytes → Stand place (four_fields (four_at place bytes) ++ rest) bytes
-four_stands place next bytes rest e h =
-    let s = four_at place bytes in
-    let r3 = operator_before s.four rest in
-    let r2 = operator_before s.three r3 in
-    let r1 = operator_before s.two r2 in
-    operator_stands place bytes r1
-    (operator_stands (place + 8) bytes r2
-    (operator_stands (place + 8 + 8) bytes r3
-    (operator_stands (place + 8 + 8 + 8) bytes rest (moved next (place + 8 + 8 + 8 + 8) rest bytes (omega (arith, e)) h))))
-
-last_only : (place next : ℕ) (bytes : List ℕ) (s : SavedLast) (rest : List Field) → place + 4 ≡ next → Stand place (last_before s rest) bytes → (s ≡ last_at place bytes) × Stand next rest bytes
-unfolding Stand
-last_only place next bytes s rest e h = (λ i. record { older = h.0 i; newer = h.1.0 i }, moved (place + 2 + 2) next rest bytes (omega (arith, e)) h.1.1)
-
-last_stands : (place next : ℕ) (bytes : List ℕ) (rest : List Field) → place + 4 ≡ next → Stand next rest bytes → Stand place (last_before (last_at place bytes) rest) bytes
-unfolding Stand
-last_stands place next bytes rest e h = (refl, (refl, moved next (place + 2 + 2) rest bytes (omega (arith, e)) h))
-
--- the numbers before the operators
-record Head (bytes : List ℕ) (s : SavedSynth) : Type 0 where
-  registers : s.registers ≡ take 512 (drop 0 bytes)
-  latches : s.latches ≡ take 9 (drop 512 bytes)
-  t : s.t ≡ get_or bytes 521 0
-  count : s.count ≡ get_or bytes 522 0
-  counter : s.counter ≡ number_at w16 523 bytes
-
-head_only : (bytes : List ℕ) (s : SavedSynth) (rest : List Field) → Stand 0 (head_fields s ++ rest) bytes → Head bytes s × Stand 525 rest bytes
-unfolding Stand
-head_only bytes s rest h = (record { registers = h.0; latches = h.1.0; t = h.1.1.0; count = h.1.1.1.0; counter = h.1.1.1.1.0 }, h.1.1.1.1.1)
-
-head_stands : (bytes : List ℕ) (rest : List Field) → Stand 525 rest bytes → Stand 0 (head_fields (synth_at bytes) ++ rest) bytes
-unfolding Stand
-head_stands bytes rest h = (refl, (refl, (refl, (refl, (refl, h)))))
-
-end_stands : (bytes : List ℕ) → length bytes ≡ 741 → Stand 741 [] bytes
-unfolding Stand
-end_stands bytes h = h
-
-is_read : (bytes : List ℕ) (s : SavedSynth) → Stand 0 (synth_fields s) bytes → s ≡ synth_at bytes
-unfolding synth_fields
-is_read bytes s h =
-    let head = head_only bytes s (fields1 s) h in
-    let f1 = four_only 525 557 bytes s.four1 (fields2 s) refl head.1 in
-    let f2 = four_only 557 589 bytes s.four2 (fields3 s) refl f1.1 in
-    let f3 = four_only 589 621 bytes s.four3 (fields4 s) refl f2.1 in
-    let f4 = four_only 621 653 bytes s.four4 (fields5 s) refl f3.1 in
-    let f5 = four_only 653 685 bytes s.four5 (fields6 s) refl f4.1 in
-    let f6 = four_only 685 717 bytes s.four6 (last_fields s) refl f5.1 in
-    let r5 = last_before s.last6 [] in
-    let r4 = last_before s.last5 r5 in
-    let r3 = last_before s.last4 r4 in
-    let r2 = last_before s.last3 r3 in
-    let r1 = last_before s.last2 r2 in
-    let l1 = last_only 717 721 bytes s.last1 r1 refl f6.1 in
-    let l2 = last_only 721 725 bytes s.last2 r2 refl l1.1 in
-    let l3 = last_only 725 729 bytes s.last3 r3 refl l2.1 in
-    let l4 = last_only 729 733 bytes s.last4 r4 refl l3.1 in
-    let l5 = last_only 733 737 bytes s.last5 r5 refl l4.1 in
-    let l6 = last_only 737 741 bytes s.last6 [] refl l5.1 in
-    λ i. record {
-      registers = head.0.registers i;
-      latches = head.0.latches i;
-      t = head.0.t i;
-      count = head.0.count i;
-      counter = head.0.counter i;
-      four1 = f1.0 i;
-      four2 = f2.0 i;
-      four3 = f3.0 i;
-      four4 = f4.0 i;
-      four5 = f5.0 i;
-      four6 = f6.0 i;
-      last1 = l1.0 i;
-      last2 = l2.0 i;
-      last3 = l3.0 i;
-      last4 = l4.0 i;
-      last5 = l5.0 i;
-      last6 = l6.0 i;
-    }
-
+-- what is in the bytes has the values that they give
 pub synth_stands : (bytes : List ℕ) → length bytes ≡ 741 → Stand 0 (synth_fields (synth_at bytes)) bytes
-unfolding synth_fields
-synth_stands bytes long =
-    let s = synth_at bytes in
-    let r5 = last_before s.last6 [] in
-    let r4 = last_before s.last5 r5 in
-    let r3 = last_before s.last4 r4 in
-    let r2 = last_before s.last3 r3 in
-    let r1 = last_before s.last2 r2 in
-    head_stands bytes (fields1 s)
-    (four_stands 525 557 bytes (fields2 s) refl
-    (four_stands 557 589 bytes (fields3 s) refl
-    (four_stands 589 621 bytes (fields4 s) refl
-    (four_stands 621 653 bytes (fields5 s) refl
-    (four_stands 653 685 bytes (fields6 s) refl
-    (four_stands 685 717 bytes (last_fields s) refl
-    (last_stands 717 721 bytes r1 refl
-    (last_stands 721 725 bytes r2 refl
-    (last_stands 725 729 bytes r3 refl
-    (last_stands 729 733 bytes r4 refl
-    (last_stands 733 737 bytes r5 refl
-    (last_stands 737 741 bytes [] refl (end_stands bytes long)))))))))))))
-
-only_one : (bytes : List ℕ) (s t : SavedSynth) → Stand 0 (synth_fields s) bytes → Stand 0 (synth_fields t) bytes → s ≡ t
-only_one bytes s t p q = is_read bytes s p ∙ sym (is_read bytes t q)
-
-pub synth_size : (s : SavedSynth) → sizes (synth_fields s) ≡ 741
-unfolding sizes synth_fields
-synth_size s = refl
+unfolding synth_fields values_at
+synth_stands bytes long = stand_by 0 (synth_fields (synth_at bytes)) bytes (omega (arith, long, table.sized (synth_at bytes))) refl
 
 -- ---- what the rules say
-
-operator_holds : (s : SavedOperator) (rest : List Field) → AllHold (operator_before s rest) → IsOperator (operator_from s) × (s.state ≤ 3) × (s.on ≤ 1) × AllHold rest
-unfolding AllHold
-operator_holds s rest h =
-    (record { phase = ltb-true s.phase 0x10_0000 h.0; v = leb-true s.v 1023 h.1.0 }, leb-true s.state 3 h.1.1.0, leb-true s.on 1 h.1.1.1.0, h.1.1.1.1)
 
 record Four (s : SavedFour) : Type 0 where
   one : IsOperator (operator_from s.one)
@@ -178,39 +83,23 @@ record Four (s : SavedFour) : Type 0 where
   on3 : s.three.on ≤ 1
   on4 : s.four.on ≤ 1
 
-four_holds : (s : SavedFour) (rest : List Field) → AllHold (four_fields s ++ rest) → Four s × AllHold rest
-four_holds s rest h =
-    let r3 = operator_before s.four rest in
-    let r2 = operator_before s.three r3 in
-    let r1 = operator_before s.two r2 in
-    let one = operator_holds s.one r1 h in
-    let two = operator_holds s.two r2 one.3 in
-    let three = operator_holds s.three r3 two.3 in
-    let four = operator_holds s.four rest three.3 in (
-      record {
-        one = one.0;
-        two = two.0;
-        three = three.0;
-        four = four.0;
-        state1 = one.1;
-        state2 = two.1;
-        state3 = three.1;
-        state4 = four.1;
-        on1 = one.2;
-        on2 = two.2;
-        on3 = three.2;
-        on4 = four.2;
-      },
-      four.3,
-    )
-
-last_holds : (s : SavedLast) (rest : List Field) → AllHold (last_before s rest) → ((is_output s.older && is_output s.newer) ≡ true) × AllHold rest
-unfolding AllHold
-last_holds s rest h = (h.0, h.1.1)
-
-last_within : (s : SavedLast) (rest : List Field) → AreWithin (last_before s rest) → (s.older < 2 ^ 16) × (s.newer < 2 ^ 16) × AreWithin rest
-unfolding AreWithin
-last_within s rest w = (w.0, w.1.0, w.1.1)
+four_rules : (s : SavedFour) → AllHold (four_fields s) → Four s
+four_rules s h =
+    let rule = holds_at (four_fields s) h in
+    record {
+      one = record { phase = ltb-true s.one.phase 0x10_0000 (rule 0); v = leb-true s.one.v 1023 (rule 1) };
+      two = record { phase = ltb-true s.two.phase 0x10_0000 (rule 4); v = leb-true s.two.v 1023 (rule 5) };
+      three = record { phase = ltb-true s.three.phase 0x10_0000 (rule 8); v = leb-true s.three.v 1023 (rule 9) };
+      four = record { phase = ltb-true s.four.phase 0x10_0000 (rule 12); v = leb-true s.four.v 1023 (rule 13) };
+      state1 = leb-true s.one.state 3 (rule 2);
+      state2 = leb-true s.two.state 3 (rule 6);
+      state3 = leb-true s.three.state 3 (rule 10);
+      state4 = leb-true s.four.state 3 (rule 14);
+      on1 = leb-true s.one.on 1 (rule 3);
+      on2 = leb-true s.two.on 1 (rule 7);
+      on3 = leb-true s.three.on 1 (rule 11);
+      on4 = leb-true s.four.on 1 (rule 15);
+    }
 
 -- a word of an output gives it, and the other way round
 output_by : (low : Bool) (n : ℕ) → n < 2 ^ 16 → nat_lt n 0x8000 ≡ low → word_of (cond low (pos n) (negsuc (0xffff - n))) ≡ n
@@ -335,75 +224,41 @@ record Rules (s : SavedSynth) : Type 0 where
   last5 : Last s.last5
   last6 : Last s.last6
 
-head_holds : (s : SavedSynth) (rest : List Field) → AllHold (head_fields s ++ rest) → (s.t < 128) × (s.count < 108) × (s.counter < 4096) × AllHold rest
-unfolding AllHold
-head_holds s rest h = (ltb-true s.t 128 h.1.1.0, ltb-true s.count 108 h.1.1.1.0, ltb-true s.counter 4096 h.1.1.1.1.0, h.1.1.1.1.1)
-
-head_within : (s : SavedSynth) (rest : List Field) → AreWithin (head_fields s ++ rest) → (length s.registers ≡ 512) × (length s.latches ≡ 9) × AreWithin rest
-unfolding AreWithin
-head_within s rest w = (w.0, w.1.0, w.1.1.1.1.1)
-
 rules_of : (bytes : List ℕ) (s : SavedSynth) → Keeps synth_fields bytes s → IsRight synth_fields s → Rules s
 unfolding synth_fields
 rules_of bytes s keeps right =
-    let h = head_holds s (fields1 s) (rules_hold 0 (synth_fields s) right) in
-    let h1 = four_holds s.four1 (fields2 s) h.3 in
-    let h2 = four_holds s.four2 (fields3 s) h1.1 in
-    let h3 = four_holds s.four3 (fields4 s) h2.1 in
-    let h4 = four_holds s.four4 (fields5 s) h3.1 in
-    let h5 = four_holds s.four5 (fields6 s) h4.1 in
-    let h6 = four_holds s.four6 (last_fields s) h5.1 in
-    let r5 = last_before s.last6 [] in
-    let r4 = last_before s.last5 r5 in
-    let r3 = last_before s.last4 r4 in
-    let r2 = last_before s.last3 r3 in
-    let r1 = last_before s.last2 r2 in
-    let l1 = last_holds s.last1 r1 h6.1 in
-    let l2 = last_holds s.last2 r2 l1.1 in
-    let l3 = last_holds s.last3 r3 l2.1 in
-    let l4 = last_holds s.last4 r4 l3.1 in
-    let l5 = last_holds s.last5 r5 l4.1 in
-    let l6 = last_holds s.last6 [] l5.1 in
-    let w = head_within s (fields1 s) keeps.within in
-    let v1 = within_both (four_fields s.four1) (fields2 s) w.2 in
-    let v2 = within_both (four_fields s.four2) (fields3 s) v1.1 in
-    let v3 = within_both (four_fields s.four3) (fields4 s) v2.1 in
-    let v4 = within_both (four_fields s.four4) (fields5 s) v3.1 in
-    let v5 = within_both (four_fields s.four5) (fields6 s) v4.1 in
-    let v6 = within_both (four_fields s.four6) (last_fields s) v5.1 in
-    let m1 = last_within s.last1 r1 v6.1 in
-    let m2 = last_within s.last2 r2 m1.2 in
-    let m3 = last_within s.last3 r3 m2.2 in
-    let m4 = last_within s.last4 r4 m3.2 in
-    let m5 = last_within s.last5 r5 m4.2 in
-    let m6 = last_within s.last6 [] m5.2 in
+    let rule = rule_at 0 (synth_fields s) right in
+    let fit = fit_at (synth_fields s) keeps.within in
+    let h = holds_both (head_fields s) (fields1 s) (rules_hold 0 (synth_fields s) right) in
+    let h1 = holds_both (four_fields s.four1) (fields2 s) h.1 in
+    let h2 = holds_both (four_fields s.four2) (fields3 s) h1.1 in
+    let h3 = holds_both (four_fields s.four3) (fields4 s) h2.1 in
+    let h4 = holds_both (four_fields s.four4) (fields5 s) h3.1 in
+    let h5 = holds_both (four_fields s.four5) (fields6 s) h4.1 in
+    let h6 = holds_both (four_fields s.four6) (last_fields s) h5.1 in
     record {
-      registers = w.0;
-      latches = w.1;
-      t = h.0;
-      count = h.1;
-      counter = h.2;
-      four1 = h1.0;
-      four2 = h2.0;
-      four3 = h3.0;
-      four4 = h4.0;
-      four5 = h5.0;
-      four6 = h6.0;
-      last1 = record { older = m1.0; newer = m1.1; outputs = l1.0 };
-      last2 = record { older = m2.0; newer = m2.1; outputs = l2.0 };
-      last3 = record { older = m3.0; newer = m3.1; outputs = l3.0 };
-      last4 = record { older = m4.0; newer = m4.1; outputs = l4.0 };
-      last5 = record { older = m5.0; newer = m5.1; outputs = l5.0 };
-      last6 = record { older = m6.0; newer = m6.1; outputs = l6.0 };
+      registers = fit 0;
+      latches = fit 1;
+      t = ltb-true s.t 128 (rule 2);
+      count = ltb-true s.count 108 (rule 3);
+      counter = ltb-true s.counter 4096 (rule 4);
+      four1 = four_rules s.four1 h1.0;
+      four2 = four_rules s.four2 h2.0;
+      four3 = four_rules s.four3 h3.0;
+      four4 = four_rules s.four4 h4.0;
+      four5 = four_rules s.four5 h5.0;
+      four6 = four_rules s.four6 h6.0;
+      last1 = record { older = fit 101; newer = fit 102; outputs = rule 101 };
+      last2 = record { older = fit 103; newer = fit 104; outputs = rule 103 };
+      last3 = record { older = fit 105; newer = fit 106; outputs = rule 105 };
+      last4 = record { older = fit 107; newer = fit 108; outputs = rule 107 };
+      last5 = record { older = fit 109; newer = fit 110; outputs = rule 109 };
+      last6 = record { older = fit 111; newer = fit 112; outputs = rule 111 };
     }
 
-saved_back : (s : SavedSynth) → Rules s → saved_synth_of (synth_from s) ≡ s
-saved_back s r = λ i. record {
-  registers = s.registers;
-  latches = s.latches;
-  t = s.t;
-  count = s.count;
-  counter = s.counter;
+-- the numbers that are right are those of their chip
+synth_back : (s : SavedSynth) → Rules s → saved_synth_of (synth_from s) ≡ s
+synth_back s r = λ i. record s {
   four1 = four_back s.four1 s.last1 r.four1 i;
   four2 = four_back s.four2 s.last2 r.four2 i;
   four3 = four_back s.four3 s.last3 r.four3 i;
@@ -419,8 +274,8 @@ saved_back s r = λ i. record {
 }
 
 -- what is read is sound
-pub read_sound : (bytes : List ℕ) (s : SavedSynth) → Keeps synth_fields bytes s → IsRight synth_fields s → IsSynth (synth_from s)
-read_sound bytes s keeps right =
+pub synth_sound : (bytes : List ℕ) (s : SavedSynth) → Keeps synth_fields bytes s → IsRight synth_fields s → IsSynth (synth_from s)
+synth_sound bytes s keeps right =
     let r = rules_of bytes s keeps right in
     let c1 = channel_from s.four1 s.last1 in
     let c2 = channel_from s.four2 s.last2 in
@@ -444,14 +299,10 @@ read_sound bytes s keeps right =
     }
 
 -- what is read is spelled so
-pub read_spells : (bytes : List ℕ) (s : SavedSynth) → Keeps synth_fields bytes s → IsRight synth_fields s → SpellsSynth bytes (synth_from s)
-read_spells bytes s keeps right =
-    let e = sym (saved_back s (rules_of bytes s keeps right)) in
-    record {
-      keeps = subst (Keeps synth_fields bytes) e keeps;
-      right = subst (λ (t : SavedSynth). IsRight synth_fields t) e right;
-      synth = read_sound bytes s keeps right;
-    }
+pub synth_read : (bytes : List ℕ) (s : SavedSynth) → Keeps synth_fields bytes s → IsRight synth_fields s → SpellsSynth bytes (synth_from s)
+synth_read bytes s keeps right =
+    let both = read_back table saved_synth_of synth_from bytes s (synth_back s (rules_of bytes s keeps right)) keeps right in
+    record { keeps = both.0; right = both.1; synth = synth_sound bytes s keeps right }
 
 last_again : (l : List ℤ) → length l ≡ 2 → All IsLevel l → last_from (saved_last_of l) ≡ l
 last_again [] two h = absurd (omega (arith, two))
@@ -499,26 +350,9 @@ channels_again (a ∷ b ∷ c ∷ d ∷ e ∷ f ∷ []) n h =
     λ i. channel_again a ha i ∷ channel_again b hb i ∷ channel_again c hc i ∷ channel_again d hd i ∷ channel_again e he i ∷ channel_again f hf i ∷ []
 channels_again (a ∷ b ∷ c ∷ d ∷ e ∷ f ∷ g ∷ rest) n h = absurd (omega (arith, n))
 
-synth_again : (s : Synth) → IsSynth s → synth_from (saved_synth_of s) ≡ s
-synth_again s h = λ i. record {
-  registers = s.registers;
-  latches = s.latches;
-  lfo = s.lfo;
-  counter = s.counter;
-  channels = channels_again s.channels h.six h.channels i;
-}
-
--- what is spelled so is read
-pub read_only : (bytes : List ℕ) (s : SavedSynth) (synth : Synth) → Keeps synth_fields bytes s → SpellsSynth bytes synth → synth_from s ≡ synth
-read_only bytes s synth keeps spells =
-    ap synth_from (same synth_fields bytes (only_one bytes) s (saved_synth_of synth) keeps spells.keeps) ∙ synth_again synth spells.synth
-
--- what is right is refused nowhere, and there is one place of a refusal
-pub right_nowhere : (bytes : List ℕ) (s : SavedSynth) → Keeps synth_fields bytes s → IsRight synth_fields s → (place : ℕ) → SynthInvalidAt bytes place → ⊥
-right_nowhere bytes s keeps right place invalid = not_both synth_fields bytes (only_one bytes) 741 s place keeps right (synth_size s) invalid
-
-pub invalid_once : (bytes : List ℕ) (p q : ℕ) → SynthInvalidAt bytes p → SynthInvalidAt bytes q → p ≡ q
-invalid_once bytes p q a b = one_place synth_fields bytes (only_one bytes) 741 synth_size p q a b
+-- a chip is that of its numbers
+pub synth_again : (s : Synth) → IsSynth s → synth_from (saved_synth_of s) ≡ s
+synth_again s h = λ i. record s { channels = channels_again s.channels h.six h.channels i }
 
 -- what is read is in the bytes
 pub keeps_synth : (bytes : List ℕ) (s : SavedSynth) → IsBytes bytes → length bytes ≡ 741 → s ≡ synth_at bytes → Keeps synth_fields bytes s

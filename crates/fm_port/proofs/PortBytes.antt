@@ -1,13 +1,13 @@
 -- Laws of the bytes that keep the port.
-use Rattle.std.proofs.Common.{◌≡◌, ℕ, ◌+◌, ◌*◌, ◌-◌, ◌^◌, ◌<◌, ◌≤◌, ◌/◌, ◌%◌, Bool, true, false, cond, eqb, List, [], ◌∷◌, ◌++◌, length, get_or, map, take, drop, replicate, take_all, Some, None, refl, sym, ap, subst, ◌∙◌, inr, arith}
+use Rattle.std.proofs.Common.{◌≡◌, ℕ, ◌+◌, ◌*◌, ◌-◌, ◌^◌, ◌<◌, ◌≤◌, ◌/◌, ◌%◌, Bool, true, false, cond, eqb, List, [], ◌∷◌, ◌++◌, length, get_or, map, take, drop, replicate, Some, None, refl, sym, ap, subst, ◌∙◌, inr, arith}
 use Rattle.std.specs.Prelude.{All, min, ◌&&◌, ◌||◌, nat_le, nat_lt}
 use Rattle.std.specs.List.{list_all}
 use Rattle.std.specs.Int.{w16, to_be_bytes}
 use Rattle.std.proofs.Math.Bridge.{le_prop}
 use Rattle.std.proofs.Math.Nat.{min-eq_left}
-use Rattle.std.proofs.lemmas.Bool.{and_parts, eqb-true, le-leb, leb-true, lt-leb, ltb-true}
-use Rattle.std.proofs.lemmas.List.{append-nil, length-append, length-take, length-drop, length-map, take_at}
-use Rattle.std.proofs.lemmas.List.Elements.{All-cons, All-nil}
+use Rattle.std.proofs.lemmas.Bool.{and_parts, eqb-true, leb-true, ltb-true}
+use Rattle.std.proofs.lemmas.List.{length-take, length-drop, length-map}
+use Rattle.std.proofs.lemmas.List.Elements.{All-cons, All-head, All-nil, All-tail}
 use Rattle.md_word.specs.Clock.{cycle_limit}
 use Rattle.md_word.specs.Coding.{flag_number}
 use Rattle.md_word.proofs.Below.{bit_below}
@@ -17,14 +17,15 @@ use Rattle.md_fields.specs.Items.{IsRight, Keeps}
 use Rattle.md_fields.specs.Padding.{are_zeros, padded}
 use Rattle.md_fields.specs.Places.{IsBytes, Stand, number_at}
 use Rattle.md_fields.proofs.Flags.{flag_again, flag_back, flag_small}
-use Rattle.md_fields.proofs.Items.{none_invalid, rules_hold, kept, not_both, one_place, same}
-use Rattle.md_fields.proofs.Padding.{padded_back, padded_length, padded_zeros}
+use Rattle.md_fields.proofs.Items.{kept, none_invalid}
 use Rattle.md_fields.proofs.Standing.{IsBytes-drop, IsBytes-take}
-use Rattle.sound_writes.specs.Entries.{AreFit, entries_bytes, entries_from}
-use Rattle.sound_writes.specs.Keys.{after, all_fit, are_kept, fits, is_kept}
-use Rattle.sound_writes.specs.declared.earliest.Earliest.{Earliest}
-use Rattle.sound_writes.proofs.Entries as entries
-use Rattle.sound_writes.proofs.Entries.{second_fails, third_fails}
+use Rattle.md_fields.proofs.Values as items
+use Rattle.md_fields.proofs.Values.{Table, list_in, not_refused, number_in, read_back, rule_at, values_at}
+use Rattle.sound_writes.specs.Entries.{AreFit, entries_bytes}
+use Rattle.sound_writes.specs.Keys.{fits}
+use Rattle.sound_writes.specs.Ports as ports
+use Rattle.sound_writes.proofs.Entries.{Layout, entries_count}
+use Rattle.sound_writes.proofs.Ports.{Room, all_right, chips_kept, entries_again, entries_back, entries_fit, few_writes, list_bytes, list_right, list_within, list_invalid, right_writes, zeros_after, zeros_kept}
 use Rattle.md_fields.proofs.Tables.{within_append, first_following, first_front, spelling_append}
 use Rattle.fm_port.specs.Port.{IsPort, Port}
 use Rattle.fm_port.specs.PortSpelling.{are_saved_timers, PortInvalidAt, SavedPort, SpellsPort, are_right, at_most_2, are_writes, is_next, is_write, key_of, list_fields, number_fields, port_bytes, port_fields, port_from, port_with, saved_numbers, saved_port_of, saved_write_of, write_at, write_fields, write_from, writes_at, writes_from}
@@ -34,37 +35,37 @@ use Rattle.fm_port.specs.declared.write.FmWrite.{FmWrite}
 
 -- ---- a write
 
-write_size : (w : SavedWrite) → sizes (write_fields w) ≡ 12
-unfolding sizes
-write_size w = refl
-
-write_stands : (place : ℕ) (bytes : List ℕ) (rest : List Field) → Stand (place + 12) rest bytes → Stand place (write_fields (write_at place bytes) ++ rest) bytes
-unfolding Stand
-write_stands place bytes rest h =
-    let at = λ (m n : ℕ) (e : m ≡ n). ap (λ (k : ℕ). get_or bytes k 0) e in (
-      refl,
-      (
+pub write_layout : Layout 12 write_fields write_at
+unfolding sizes spelling Stand
+write_layout = record {
+  sized = λ w. refl;
+  long = λ w. refl;
+  stands = λ place bytes rest h.
+      let at = λ (m n : ℕ) (e : m ≡ n). ap (λ (k : ℕ). get_or bytes k 0) e in (
         refl,
         (
-          at (place + 9) (place + 8 + 1) (omega arith),
+          refl,
           (
-            at (place + 10) (place + 8 + 1 + 1) (omega arith),
+            at (place + 9) (place + 8 + 1) (omega arith),
             (
-              at (place + 11) (place + 8 + 1 + 1 + 1) (omega arith),
-              subst (λ (n : ℕ). Stand n rest bytes) (omega arith) h,
+              at (place + 10) (place + 8 + 1 + 1) (omega arith),
+              (
+                at (place + 11) (place + 8 + 1 + 1 + 1) (omega arith),
+                subst (λ (n : ℕ). Stand n rest bytes) (omega arith) h,
+              ),
             ),
           ),
         ),
-      ),
-    )
+      );
+  only = λ place bytes w rest h.
+      let port : w.port ≡ get_or bytes (place + 9) 0 = h.1.1.0 ∙ ap (λ (n : ℕ). get_or bytes n 0) (omega arith) in
+      let register : w.register ≡ get_or bytes (place + 10) 0 = h.1.1.1.0 ∙ ap (λ (n : ℕ). get_or bytes n 0) (omega arith) in
+      let value : w.value ≡ get_or bytes (place + 11) 0 = h.1.1.1.1.0 ∙ ap (λ (n : ℕ). get_or bytes n 0) (omega arith) in
+      (λ i. record { cycle = h.0 i; chip = h.1.0 i; port = port i; register = register i; value = value i });
+}
 
-write_only : (place : ℕ) (bytes : List ℕ) (w : SavedWrite) (rest : List Field) → Stand place (write_fields w ++ rest) bytes → w ≡ write_at place bytes
-unfolding Stand
-write_only place bytes w rest h =
-    let port : w.port ≡ get_or bytes (place + 9) 0 = h.1.1.0 ∙ ap (λ (n : ℕ). get_or bytes n 0) (omega arith) in
-    let register : w.register ≡ get_or bytes (place + 10) 0 = h.1.1.1.0 ∙ ap (λ (n : ℕ). get_or bytes n 0) (omega arith) in
-    let value : w.value ≡ get_or bytes (place + 11) 0 = h.1.1.1.1.0 ∙ ap (λ (n : ℕ). get_or bytes n 0) (omega arith) in
-    λ i. record { cycle = h.0 i; chip = h.1.0 i; port = port i; register = register i; value = value i }
+pub room : Room 12 12288
+room = record { few = λ count few. omega (arith, few); unused = λ count. omega arith }
 
 abbrev made : (key : Key) (port register value : ℕ) → port ≤ 2 → FmWrite
 made key port register value p = record { key = key; port = port; register = register; value = value; port_in_range = p }
@@ -102,44 +103,31 @@ pub number_size : (at : ℕ) (s : Numbers) → sizes (number_fields at s) ≡ 26
 unfolding sizes
 number_size at s = refl
 
-pub port_size : (at : ℕ) (s : SavedPort) → sizes (port_fields at s) ≡ 12316
-unfolding sizes
-port_size at s = refl
-
-only_one : (at : ℕ) (bytes : List ℕ) (s t : SavedPort) → Stand 0 (port_fields at s) bytes → Stand 0 (port_fields at t) bytes → s ≡ t
-unfolding Stand
-only_one at bytes s t p0 q0 =
-    let p1 = p0.1 in let q1 = q0.1 in
-    let p2 = p1.1 in let q2 = q1.1 in
-    let p3 = p2.1 in let q3 = q2.1 in
-    let p4 = p3.1 in let q4 = q3.1 in
-    let p5 = p4.1 in let q5 = q4.1 in
-    let p6 = p5.1 in let q6 = q5.1 in
-    let p7 = p6.1 in let q7 = q6.1 in
-    let p8 = p7.1 in let q8 = q7.1 in
-    let p9 = p8.1 in let q9 = q8.1 in
-    let p10 = p9.1 in let q10 = q9.1 in
-    let p11 = p10.1 in let q11 = q10.1 in
-    let p12 = p11.1 in let q12 = q11.1 in
-    let p13 = p12.1 in let q13 = q12.1 in
-    λ i. record {
-      numbers = record {
-        first = (p0.0 ∙ sym q0.0) i;
-        second = (p1.0 ∙ sym q1.0) i;
-        high_a = (p2.0 ∙ sym q2.0) i;
-        low_a = (p3.0 ∙ sym q3.0) i;
-        number_b = (p4.0 ∙ sym q4.0) i;
-        control = (p5.0 ∙ sym q5.0) i;
-        run_a = (p6.0 ∙ sym q6.0) i;
-        next_a = (p7.0 ∙ sym q7.0) i;
-        run_b = (p8.0 ∙ sym q8.0) i;
-        next_b = (p9.0 ∙ sym q9.0) i;
-        flag_a = (p10.0 ∙ sym q10.0) i;
-        flag_b = (p11.0 ∙ sym q11.0) i;
-      };
-      count = (p12.0 ∙ sym q12.0) i;
-      entries = (p13.0 ∙ sym q13.0) i;
-    }
+pub table : (at : ℕ) → Table 12316 (port_fields at)
+unfolding sizes values_at
+table at = record {
+  back = λ values. record {
+    numbers = record {
+      first = number_in values 0;
+      second = number_in values 1;
+      high_a = number_in values 2;
+      low_a = number_in values 3;
+      number_b = number_in values 4;
+      control = number_in values 5;
+      run_a = number_in values 6;
+      next_a = number_in values 7;
+      run_b = number_in values 8;
+      next_b = number_in values 9;
+      flag_a = number_in values 10;
+      flag_b = number_in values 11;
+    };
+    count = number_in values 12;
+    entries = list_in values 13;
+  };
+  again = λ s. refl;
+  alike = λ s t bytes. refl;
+  sized = λ s. refl;
+}
 
 -- what is in the bytes beside latches and timers
 abbrev pub count_in : List ℕ → ℕ
@@ -173,14 +161,6 @@ breaks_number at bytes s place fits long head e =
       first = first_front 0 place (number_fields at s) (list_fields at (read_port bytes s)) e;
     })
 
-first_by : (at : ℕ) (s : SavedPort) → are_writes at s.count s.entries ≡ false → first_invalid 26 (list_fields at s) ≡ Some 26
-unfolding first_invalid
-first_by at s e = rw e refl
-
-none_by : (at : ℕ) (s : SavedPort) → are_writes at s.count s.entries ≡ true → first_invalid 26 (list_fields at s) ≡ None
-unfolding first_invalid
-none_by at s e = rw e refl
-
 following : (at : ℕ) (s : SavedPort) → first_invalid 0 (number_fields at s.numbers) ≡ None → first_invalid 0 (port_fields at s) ≡ first_invalid 26 (list_fields at s)
 following at s e =
     first_following 0 (number_fields at s.numbers) (list_fields at s) e ∙ ap (λ (n : ℕ). first_invalid n (list_fields at s)) (omega (arith, number_size at s.numbers))
@@ -191,207 +171,86 @@ breaks_writes at bytes s fits long head none e =
     inr (record {
       saved = read_port bytes s;
       keeps = keeps_port at bytes s fits long head;
-      first = following at (read_port bytes s) none ∙ first_by at (read_port bytes s) e;
+      first = following at (read_port bytes s) none ∙ list_invalid 26 12288 (are_writes at (count_in bytes) (entries_in bytes)) (count_in bytes) (entries_in bytes) e;
     })
-
--- a part of the writes' rule fails, and all hold
-pub too_many : (at count : ℕ) (entries : List ℕ) → 1024 < count → are_writes at count entries ≡ false
-too_many at count entries more = let none : nat_le count 1024 ≡ false = lt-leb count 1024 more in rw none refl
-
-pub not_right : (at count : ℕ) (entries : List ℕ) → are_right at (writes_at count entries) ≡ false → are_writes at count entries ≡ false
-not_right at count entries e = rw e (second_fails (nat_le count 1024) (are_zeros (drop (12 * count) entries)))
-
-pub not_zeros : (at count : ℕ) (entries : List ℕ) → are_zeros (drop (12 * count) entries) ≡ false → are_writes at count entries ≡ false
-not_zeros at count entries e = rw e (third_fails (nat_le count 1024) (are_right at (writes_at count entries)))
-
-pub all_right : (at count : ℕ) (entries : List ℕ) → count ≤ 1024 → are_right at (writes_at count entries) ≡ true
-    → are_zeros (drop (12 * count) entries) ≡ true → are_writes at count entries ≡ true
-all_right at count entries few right zeros = rw (le-leb count 1024 few, right, zeros) refl
-
--- by the two parts of the rule on the writes
-pub right_are : (at : ℕ) (ws : List SavedWrite) (writes keys : Bool) → list_all is_write ws ≡ writes → are_kept at (map key_of ws) ≡ keys → are_right at ws ≡ (writes && keys)
-right_are at ws writes keys a b = λ i. a i && b i
-
--- what is left after so many writes
-pub left_there : (count : ℕ) (entries : List ℕ) → length entries ≡ 12288 → take (12288 - 12 * count) (drop (12 * count) entries) ≡ drop (12 * count) entries
-left_there count entries long = take_all (12288 - 12 * count) (drop (12 * count) entries) (omega (arith, long, length-drop (12 * count) entries))
-
--- and by whether those that are left are zeros, where the others are right
-pub zeros_are : (at count : ℕ) (entries : List ℕ) (zeros : Bool) → count ≤ 1024 → length entries ≡ 12288 → are_right at (writes_at count entries) ≡ true
-    → zeros ≡ are_zeros (take (12288 - 12 * count) (drop (12 * count) entries)) → zeros ≡ are_writes at count entries
-zeros_are at count entries zeros few long right e =
-    let left : are_zeros (drop (12 * count) entries) ≡ zeros = sym (e ∙ ap are_zeros (left_there count entries long)) in
-    sym (rw (le-leb count 1024 few, right, left) refl)
-
--- ---- the writes from one on
-
--- one more, and none
-pub next_there : (count index : ℕ) (bytes : List ℕ) → index < count
-    → entries_from 12 write_at (count - index) (12 * index) bytes ≡ write_at (12 * index) bytes ∷ entries_from 12 write_at (count - (index + 1)) (12 * (index + 1)) bytes
-next_there count index bytes below =
-    entries.entries_more 12 write_at count index (12 * index) bytes below
-    ∙ ap (λ (n : ℕ). write_at (12 * index) bytes ∷ entries_from 12 write_at (count - (index + 1)) n bytes) (omega arith)
-
-none_there : (count index : ℕ) (bytes : List ℕ) → count ≤ index → entries_from 12 write_at (count - index) (12 * index) bytes ≡ []
-none_there count index bytes past =
-    let none : count - index ≡ 0 = omega (arith, past) in ap (λ (n : ℕ). entries_from 12 write_at n (12 * index) bytes) none
-
-pub all_writes_more : (count index : ℕ) (bytes : List ℕ) → index < count → is_write (write_at (12 * index) bytes) ≡ true
-    → list_all is_write (entries_from 12 write_at (count - index) (12 * index) bytes) ≡ list_all is_write (entries_from 12 write_at (count - (index + 1)) (12 * (index + 1)) bytes)
-all_writes_more count index bytes below e =
-    ap (list_all is_write) (next_there count index bytes below)
-    ∙ ap (λ (b : Bool). b && list_all is_write (entries_from 12 write_at (count - (index + 1)) (12 * (index + 1)) bytes)) e
-
-pub all_writes_not : (count index : ℕ) (bytes : List ℕ) → index < count → is_write (write_at (12 * index) bytes) ≡ false
-    → list_all is_write (entries_from 12 write_at (count - index) (12 * index) bytes) ≡ false
-all_writes_not count index bytes below e =
-    ap (list_all is_write) (next_there count index bytes below)
-    ∙ ap (λ (b : Bool). b && list_all is_write (entries_from 12 write_at (count - (index + 1)) (12 * (index + 1)) bytes)) e
-
-pub all_writes_end : (count index : ℕ) (bytes : List ℕ) → count ≤ index → list_all is_write (entries_from 12 write_at (count - index) (12 * index) bytes) ≡ true
-all_writes_end count index bytes past = ap (list_all is_write) (none_there count index bytes past)
-
--- the keys of those
-abbrev pub rest_keys : ℕ → ℕ → List ℕ → List Key
-rest_keys count index bytes = map key_of (entries_from 12 write_at (count - (index + 1)) (12 * (index + 1)) bytes)
-
-pub all_kept_more : (at : ℕ) (e : Earliest) (count index : ℕ) (bytes : List ℕ) → index < count → fits at e (key_of (write_at (12 * index) bytes)) ≡ true
-    → all_fit at (after (key_of (write_at (12 * index) bytes)) e) (rest_keys count index bytes) ≡ all_fit at e (map key_of (entries_from 12 write_at (count - index) (12 * index) bytes))
-unfolding all_fit
-all_kept_more at e count index bytes below fit =
-    let key : Key = key_of (write_at (12 * index) bytes) in
-    sym (ap (λ (l : List SavedWrite). all_fit at e (map key_of l)) (next_there count index bytes below)
-    ∙ ap (λ (b : Bool). b && all_fit at (after key e) (rest_keys count index bytes)) fit)
-
-pub all_kept_not : (at : ℕ) (e : Earliest) (count index : ℕ) (bytes : List ℕ) → index < count → fits at e (key_of (write_at (12 * index) bytes)) ≡ false
-    → all_fit at e (map key_of (entries_from 12 write_at (count - index) (12 * index) bytes)) ≡ false
-unfolding all_fit
-all_kept_not at e count index bytes below fit =
-    let key : Key = key_of (write_at (12 * index) bytes) in
-    ap (λ (l : List SavedWrite). all_fit at e (map key_of l)) (next_there count index bytes below)
-    ∙ ap (λ (b : Bool). b && all_fit at (after key e) (rest_keys count index bytes)) fit
-
-pub all_kept_end : (at : ℕ) (e : Earliest) (count index : ℕ) (bytes : List ℕ) → count ≤ index
-    → all_fit at e (map key_of (entries_from 12 write_at (count - index) (12 * index) bytes)) ≡ true
-unfolding all_fit
-all_kept_end at e count index bytes past = ap (λ (l : List SavedWrite). all_fit at e (map key_of l)) (none_there count index bytes past)
 
 -- ---- what the rules say
 
-record Rules (at : ℕ) (s : SavedPort) : Type 0 where
-  run_a : s.numbers.run_a ≤ 1
-  next_a : is_next at 1032192 s.numbers.run_a s.numbers.next_a ≡ true
-  run_b : s.numbers.run_b ≤ 1
-  next_b : is_next at 4128768 s.numbers.run_b s.numbers.next_b ≡ true
-  flag_a : s.numbers.flag_a ≤ 1
-  flag_b : s.numbers.flag_b ≤ 1
-  writes : are_writes at s.count s.entries ≡ true
+-- the numbers of a timer: its run, its next overflow and its flag
+record TimerRules (at longest runs overflow raised : ℕ) : Type 0 where
+  run : runs ≤ 1
+  next : is_next at longest runs overflow ≡ true
+  flag : raised ≤ 1
 
-rules_of : (at : ℕ) (s : SavedPort) → IsRight (port_fields at) s → Rules at s
-unfolding AllHold
-rules_of at s right =
-    let h0 = rules_hold 0 (port_fields at s) right in
-    let h6 = h0.1.1.1.1.1.1 in
-    let h7 = h6.1 in
-    let h8 = h7.1 in
-    let h9 = h8.1 in
-    let h10 = h9.1 in
-    let h11 = h10.1 in
-    let h12 = h11.1 in
-    let run_a = eqb-true s.numbers.run_a (s.numbers.control % 2) h6.0 in
-    let run_b = eqb-true s.numbers.run_b (s.numbers.control / 2 % 2) h8.0 in
-    record {
-      run_a = omega (arith, run_a);
-      next_a = h7.0;
-      run_b = omega (arith, run_b);
-      next_b = h9.0;
-      flag_a = leb-true s.numbers.flag_a 1 h10.0;
-      flag_b = leb-true s.numbers.flag_b 1 h11.0;
-      writes = h12.0;
-    }
+rules_a : (at : ℕ) (s : SavedPort) → IsRight (port_fields at) s → TimerRules at 1032192 s.numbers.run_a s.numbers.next_a s.numbers.flag_a
+rules_a at s right =
+    let rule = rule_at 0 (port_fields at s) right in
+    let run = eqb-true s.numbers.run_a (s.numbers.control % 2) (rule 6) in
+    record { run = omega (arith, run); next = rule 7; flag = leb-true s.numbers.flag_a 1 (rule 10) }
+
+rules_b : (at : ℕ) (s : SavedPort) → IsRight (port_fields at) s → TimerRules at 4128768 s.numbers.run_b s.numbers.next_b s.numbers.flag_b
+rules_b at s right =
+    let rule = rule_at 0 (port_fields at s) right in
+    let run = eqb-true s.numbers.run_b (s.numbers.control / 2 % 2) (rule 8) in
+    record { run = omega (arith, run); next = rule 9; flag = leb-true s.numbers.flag_b 1 (rule 11) }
+
+rule_of : (at : ℕ) (s : SavedPort) → IsRight (port_fields at) s → are_writes at s.count s.entries ≡ true
+rule_of at s right = rule_at 0 (port_fields at s) right 12
 
 -- what is kept, whose rules hold, is that of its port
-saved_back : (at : ℕ) (s : SavedPort) → length s.entries ≡ 12288 → IsBytes s.entries → Rules at s → saved_port_of (port_from s) ≡ s
-saved_back at s long fits rules =
+port_back : (at : ℕ) (s : SavedPort) → length s.entries ≡ 12288 → IsBytes s.entries → IsRight (port_fields at) s → saved_port_of (port_from s) ≡ s
+port_back at s long fits right =
     let n : Numbers = s.numbers in
-    let parts = and_parts _ _ rules.writes in
-    let more = and_parts _ _ parts.1 in
-    let few : s.count ≤ 1024 = leb-true s.count 1024 parts.0 in
-    let room : 0 + 12 * s.count ≤ length s.entries = omega (arith, long, few) in
+    let a = rules_a at s right in
+    let b = rules_b at s right in
+    let e = rule_of at s right in
     let ws = writes_at s.count s.entries in
-    let again : map saved_write_of (map write_from ws) ≡ ws = all_again ws (and_parts _ _ more.0).0 in
-    let counted : length ws ≡ s.count = entries.entries_count 12 write_fields write_at write_size write_stands write_only s.count 0 s.entries in
-    let count : length (map write_from ws) ≡ s.count = length-map ws write_from ∙ counted in
-    let fit : AreFit write_fields ws = entries.all_fit_there 12 write_fields write_at write_size write_stands write_only s.count 0 s.entries fits room in
-    let size : length (entries_bytes write_fields ws) ≡ 12 * s.count =
-    omega (arith, entries.entries_length 12 write_fields write_at write_size write_stands write_only ws fit, counted) in
-    let whole : entries_bytes write_fields ws ++ drop (0 + 12 * s.count) s.entries ≡ s.entries =
-    entries.entries_spelled 12 write_fields write_at write_size write_stands write_only s.count 0 s.entries fits room in
-    let front : entries_bytes write_fields ws ≡ take (12 * s.count) s.entries =
-    sym (take_at (entries_bytes write_fields ws) (drop (0 + 12 * s.count) s.entries) (12 * s.count) size) ∙ ap (take (12 * s.count)) whole in
+    let again : map saved_write_of (map write_from ws) ≡ ws = all_again ws (and_parts _ _ (right_writes 12 write_at (are_right at) s.count s.entries e)).0 in
+    let count : length (map write_from ws) ≡ s.count = length-map ws write_from ∙ entries_count write_layout s.count 0 s.entries in
     let back : padded 12288 (entries_bytes write_fields (map saved_write_of (map write_from ws))) ≡ s.entries =
     ap (λ (l : List SavedWrite). padded 12288 (entries_bytes write_fields l)) again
-    ∙ ap (padded 12288) front ∙ padded_back 12288 (12 * s.count) s.entries long (omega (arith, few)) more.1 in
+    ∙ entries_back write_layout room s.count s.entries long fits (few_writes 12 write_at (are_right at) s.count s.entries e) (zeros_after 12 write_at (are_right at) s.count s.entries e) in
     λ i. record {
-      numbers = record {
-        first = n.first;
-        second = n.second;
-        high_a = n.high_a;
-        low_a = n.low_a;
-        number_b = n.number_b;
-        control = n.control;
-        run_a = flag_back n.run_a rules.run_a i;
-        next_a = n.next_a;
-        run_b = flag_back n.run_b rules.run_b i;
-        next_b = n.next_b;
-        flag_a = flag_back n.flag_a rules.flag_a i;
-        flag_b = flag_back n.flag_b rules.flag_b i;
-      };
+      numbers = record n { run_a = flag_back n.run_a a.run i; run_b = flag_back n.run_b b.run i; flag_a = flag_back n.flag_a a.flag i; flag_b = flag_back n.flag_b b.flag i };
       count = count i;
       entries = back i;
     }
 
+-- the numbers of writes are those of what is kept of them, and so are the writes
+numbers_again : (ws : List FmWrite) → AreFit write_fields (map saved_write_of ws) → writes_at (length ws) (padded 12288 (entries_bytes write_fields (map saved_write_of ws))) ≡ map saved_write_of ws
+numbers_again ws fit =
+    ap (λ (n : ℕ). writes_at n (padded 12288 (entries_bytes write_fields (map saved_write_of ws)))) (sym (length-map ws saved_write_of))
+    ∙ entries_again write_layout room (map saved_write_of ws) fit
+
 list_again : (ws : List FmWrite) → AreFit write_fields (map saved_write_of ws) → writes_from (length ws) (padded 12288 (entries_bytes write_fields (map saved_write_of ws))) ≡ ws
-list_again ws fit =
-    let es = map saved_write_of ws in
-    ap (λ (n : ℕ). writes_from n (padded 12288 (entries_bytes write_fields es))) (sym (length-map ws saved_write_of))
-    ∙ ap (map write_from) (entries.entries_read 12 write_fields write_at write_size write_stands write_only es [] (replicate (12288 - length (entries_bytes write_fields es)) 0) fit)
-    ∙ writes_again ws
+list_again ws fit = ap (map write_from) (numbers_again ws fit) ∙ writes_again ws
 
 -- a port is that of what is kept of it
 port_again : (p : Port) → AreFit write_fields (map saved_write_of p.writes) → port_from (saved_port_of p) ≡ p
-port_again p fit = λ i. record {
-  first = p.first;
-  second = p.second;
-  timers = record {
-    high_a = p.timers.high_a;
-    low_a = p.timers.low_a;
-    number_b = p.timers.number_b;
-    control = p.timers.control;
-    a = record { run = flag_again p.timers.a.run i; next = p.timers.a.next; flag = flag_again p.timers.a.flag i };
-    b = record { run = flag_again p.timers.b.run i; next = p.timers.b.next; flag = flag_again p.timers.b.flag i };
+port_again p fit = λ i. record p {
+  timers = record p.timers {
+    a = record p.timers.a { run = flag_again p.timers.a.run i; flag = flag_again p.timers.a.flag i };
+    b = record p.timers.b { run = flag_again p.timers.b.run i; flag = flag_again p.timers.b.flag i };
   };
   writes = list_again p.writes fit i;
 }
 
 -- ---- what is read
 
-pub read_spells : (at : ℕ) (bytes : List ℕ) (s : Numbers) → IsBytes bytes → length bytes ≡ 12316 → IsHead bytes s
+pub port_read : (at : ℕ) (bytes : List ℕ) (s : Numbers) → IsBytes bytes → length bytes ≡ 12316 → IsHead bytes s
     → first_invalid 0 (number_fields at s) ≡ None → are_writes at (count_in bytes) (entries_in bytes) ≡ true
     → SpellsPort at bytes (port_with s (writes_from (count_in bytes) (entries_in bytes)))
-read_spells at bytes s fits long head none e =
+port_read at bytes s fits long head none e =
     let k : SavedPort = read_port bytes s in
     let size : length k.entries ≡ 12288 = omega (arith, length-take 12288 (drop 28 bytes), length-drop 28 bytes, long) in
     let inner : IsBytes k.entries = IsBytes-take 12288 (drop 28 bytes) (IsBytes-drop 28 bytes fits) in
-    let right : IsRight (port_fields at) k = following at k none ∙ none_by at k e in
-    let few : k.count ≤ 1024 = leb-true k.count 1024 (and_parts _ _ e).0 in
-    let back = sym (saved_back at k size inner (rules_of at k right)) in
-    let fit : AreFit write_fields (writes_at k.count k.entries) =
-    entries.all_fit_there 12 write_fields write_at write_size write_stands write_only k.count 0 k.entries inner (omega (arith, size, few)) in
+    let right : IsRight (port_fields at) k = following at k none ∙ list_right 26 12288 (are_writes at k.count k.entries) k.count k.entries e in
+    let both = read_back (table at) saved_port_of port_from bytes k (port_back at k size inner right) (keeps_port at bytes s fits long head) right in
+    let fit : AreFit write_fields (writes_at k.count k.entries) = entries_fit write_layout room k.count k.entries size inner (few_writes 12 write_at (are_right at) k.count k.entries e) in
     record {
-      keeps = subst (Keeps (port_fields at) bytes) back (keeps_port at bytes s fits long head);
-      right = subst (λ (t : SavedPort). IsRight (port_fields at) t) back right;
-      fit = subst (AreFit write_fields) (sym (all_again (writes_at k.count k.entries) (and_parts _ _ (and_parts _ _ (and_parts _ _ e).1).0).0)) fit;
+      keeps = both.0;
+      right = both.1;
+      fit = subst (AreFit write_fields) (sym (all_again (writes_at k.count k.entries) (and_parts _ _ (right_writes 12 write_at (are_right at) k.count k.entries e)).0)) fit;
     }
 
 next_by : (runs : Bool) (at longest next : ℕ) → at ≤ cycle_limit → longest ≤ 4128768 → cond runs (nat_le at next && nat_lt (next - at) longest) (eqb next 0) ≡ true → next ≤ 2 ^ 51
@@ -401,57 +260,40 @@ next_by false at longest next far few e = omega (arith, eqb-true next 0 e)
 next_few : (at longest run next : ℕ) → at ≤ cycle_limit → longest ≤ 4128768 → is_next at longest run next ≡ true → next ≤ 2 ^ 51
 next_few at longest run next far few e = next_by (eqb run 1) at longest next far few e
 
-chips_kept : (at : ℕ) (ws : List FmWrite) → list_all (is_kept at) (map key_of (map saved_write_of ws)) ≡ true → All (λ w. w.key.chip < 2) ws
-chips_kept at [] e = All-nil (λ (w : FmWrite). w.key.chip < 2)
-chips_kept at (w ∷ ws) e =
-    let p = and_parts _ _ e in
-    All-cons (λ (v : FmWrite). v.key.chip < 2) w ws (ltb-true w.key.chip 2 (and_parts _ _ p.0).0) (chips_kept at ws p.1)
+-- the writes of what is spelled are right
+pub spelled_right : (at : ℕ) (bytes : List ℕ) (p : Port) → SpellsPort at bytes p → are_right at (map saved_write_of p.writes) ≡ true
+spelled_right at bytes p spells =
+    let s : SavedPort = saved_port_of p in
+    ap (are_right at) (sym (numbers_again p.writes spells.fit)) ∙ right_writes 12 write_at (are_right at) s.count s.entries (rule_of at s spells.right)
+
+-- a write of a processor is one whose numbers are
+own_chips : (ws : List FmWrite) → All (λ w. (key_of w).chip < 2) (map saved_write_of ws) → All (λ w. w.key.chip < 2) ws
+own_chips [] h = All-nil (λ (w : FmWrite). w.key.chip < 2)
+own_chips (w ∷ ws) h =
+    All-cons (λ (v : FmWrite). v.key.chip < 2) w ws (All-head (λ v. (key_of v).chip < 2) (saved_write_of w) (map saved_write_of ws) h) (own_chips ws (All-tail (λ v. (key_of v).chip < 2) (saved_write_of w) (map saved_write_of ws) h))
 
 -- what is spelled is a port
 pub port_sound : (at : ℕ) (bytes : List ℕ) (p : Port) → at ≤ cycle_limit → SpellsPort at bytes p → IsPort p
 port_sound at bytes p far spells =
-    let rules = rules_of at (saved_port_of p) spells.right in
-    let e = and_parts _ _ rules.writes in
-    let es = map saved_write_of p.writes in
-    let again : writes_at (length p.writes) (padded 12288 (entries_bytes write_fields es)) ≡ es =
-    ap (λ (n : ℕ). writes_at n (padded 12288 (entries_bytes write_fields es))) (sym (length-map p.writes saved_write_of))
-    ∙ entries.entries_read 12 write_fields write_at write_size write_stands write_only es [] (replicate (12288 - length (entries_bytes write_fields es)) 0) spells.fit in
-    let right : are_right at es ≡ true = ap (are_right at) (sym again) ∙ (and_parts _ _ e.1).0 in
+    let s : SavedPort = saved_port_of p in
     record {
       timers = record {
-        a = record { next = next_few at 1032192 (flag_number p.timers.a.run) p.timers.a.next far (omega arith) rules.next_a };
-        b = record { next = next_few at 4128768 (flag_number p.timers.b.run) p.timers.b.next far (omega arith) rules.next_b };
+        a = record { next = next_few at 1032192 (flag_number p.timers.a.run) p.timers.a.next far (omega arith) (rules_a at s spells.right).next };
+        b = record { next = next_few at 4128768 (flag_number p.timers.b.run) p.timers.b.next far (omega arith) (rules_b at s spells.right).next };
       };
-      most = leb-true (length p.writes) 1024 e.0;
-      chips = chips_kept at p.writes (and_parts _ _ (and_parts _ _ right).1).0;
+      most = few_writes 12 write_at (are_right at) s.count s.entries (rule_of at s spells.right);
+      chips = own_chips p.writes (chips_kept key_of at (map saved_write_of p.writes) (and_parts _ _ (and_parts _ _ (spelled_right at bytes p spells)).1).0);
     }
 
 -- bytes spell one port
 pub spelled_once : (at : ℕ) (bytes : List ℕ) (p q : Port) → SpellsPort at bytes p → SpellsPort at bytes q → p ≡ q
-spelled_once at bytes p q a b =
-    sym (port_again p a.fit) ∙ ap port_from (same (port_fields at) bytes (only_one at bytes) (saved_port_of p) (saved_port_of q) a.keeps b.keeps) ∙ port_again q b.fit
+spelled_once at bytes p q a b = items.spelled_once (table at) saved_port_of port_from bytes p q (port_again p a.fit) (port_again q b.fit) a.keeps b.keeps
 
--- what is spelled is refused nowhere, and there is one place of a refusal
+-- what is spelled is refused nowhere
 pub right_nowhere : (at : ℕ) (bytes : List ℕ) (p : Port) → SpellsPort at bytes p → (place : ℕ) → PortInvalidAt at bytes place → ⊥
-right_nowhere at bytes p spells place invalid =
-    not_both (port_fields at) bytes (only_one at bytes) 12316 (saved_port_of p) place spells.keeps spells.right (port_size at (saved_port_of p)) invalid
-
-pub invalid_once : (at : ℕ) (bytes : List ℕ) (p q : ℕ) → PortInvalidAt at bytes p → PortInvalidAt at bytes q → p ≡ q
-invalid_once at bytes p q a b = one_place (port_fields at) bytes (only_one at bytes) 12316 (port_size at) p q a b
+right_nowhere at bytes p spells = not_refused (table at) bytes (saved_port_of p) spells.keeps spells.right
 
 -- ---- the bytes of a port
-
-pub entries_size : (ws : List FmWrite) → length (entries_bytes write_fields (map saved_write_of ws)) ≡ 12 * length ws
-unfolding spelling
-entries_size [] = omega arith
-entries_size (w ∷ ws) = omega (arith, entries_size ws, length-append (spelling (write_fields (saved_write_of w))) (entries_bytes write_fields (map saved_write_of ws)))
-
-pub list_are : (ws : List FmWrite) → to_be_bytes w16 (length ws) ++ (entries_bytes write_fields (map saved_write_of ws) ++ replicate (12 * (1024 - length ws)) 0)
-    ≡ to_be_bytes w16 (length ws) ++ (padded 12288 (entries_bytes write_fields (map saved_write_of ws)) ++ [])
-list_are ws =
-    ap (λ (l : List ℕ). to_be_bytes w16 (length ws) ++ l)
-    (ap (λ (n : ℕ). entries_bytes write_fields (map saved_write_of ws) ++ replicate n 0) (omega (arith, entries_size ws))
-    ∙ sym (append-nil (padded 12288 (entries_bytes write_fields (map saved_write_of ws)))))
 
 -- numbers, count, writes and zeros are its bytes
 pub parts_are : (at : ℕ) (p : Port)
@@ -459,7 +301,12 @@ pub parts_are : (at : ℕ) (p : Port)
     ≡ port_bytes p
 unfolding spelling
 parts_are at p =
-    ap (λ (l : List ℕ). spelling (number_fields at (saved_numbers p)) ++ l) (list_are p.writes)
+    let es : List SavedWrite = map saved_write_of p.writes in
+    let count : length es ≡ length p.writes = length-map p.writes saved_write_of in
+    ap (λ (l : List ℕ). spelling (number_fields at (saved_numbers p)) ++ l)
+    (ap (λ (n : ℕ). to_be_bytes w16 n ++ (entries_bytes write_fields es ++ replicate (12 * (1024 - n)) 0)) (sym count)
+    ∙ list_bytes write_layout room (are_writes 0 (length p.writes) (saved_port_of p).entries) es
+    ∙ ap (λ (n : ℕ). spelling (ports.list_fields 12288 (are_writes 0 (length p.writes) (saved_port_of p).entries) n (saved_port_of p).entries)) count)
     ∙ sym (spelling_append (number_fields 0 (saved_numbers p)) (list_fields 0 (saved_port_of p)))
 
 -- ---- a port whose rules hold is kept by its bytes
@@ -488,27 +335,24 @@ numbers_right at p timed =
     none_invalid 0 (number_fields at (saved_numbers p))
     (refl, (refl, (refl, (refl, (refl, (refl, (a.0, (a.1, (b.0, (b.1, (flag_small p.timers.a.flag, (flag_small p.timers.b.flag, tt))))))))))))
 
-keeps_own : (at : ℕ) (p : Port) → length p.writes ≤ 1024 → AreWithin (number_fields at (saved_numbers p)) → Keeps (port_fields at) (port_bytes p) (saved_port_of p)
-unfolding AreWithin spelling
-keeps_own at p few within = record {
-  within =
-      within_append (number_fields at (saved_numbers p)) (list_fields at (saved_port_of p)) within
-      (omega (arith, few), (padded_length 12288 (entries_bytes write_fields (map saved_write_of p.writes)) (omega (arith, entries_size p.writes, few)), tt));
-  all = refl;
-}
+-- the rules have no part in its bytes
+same_bytes : (at : ℕ) (p : Port) → port_bytes p ≡ spelling (port_fields at (saved_port_of p))
+unfolding spelling
+same_bytes at p = refl
 
 pub port_kept : (at : ℕ) (p : Port) → length p.writes ≤ 1024 → AreWithin (number_fields at (saved_numbers p)) → AreFit write_fields (map saved_write_of p.writes)
     → are_saved_timers at p.timers ≡ true → are_right at (map saved_write_of p.writes) ≡ true → SpellsPort at (port_bytes p) p
 port_kept at p few within fit timed right =
     let es : List SavedWrite = map saved_write_of p.writes in
-    let padding : List ℕ = padded 12288 (entries_bytes write_fields es) in
-    let again : writes_at (length p.writes) padding ≡ es =
-    ap (λ (n : ℕ). writes_at n padding) (sym (length-map p.writes saved_write_of))
-    ∙ entries.entries_read 12 write_fields write_at write_size write_stands write_only es [] (replicate (12288 - length (entries_bytes write_fields es)) 0) fit in
+    let s : SavedPort = saved_port_of p in
+    let count : length es ≡ length p.writes = length-map p.writes saved_write_of in
+    let zeros : are_zeros (drop (12 * length p.writes) s.entries) ≡ true = ap (λ (n : ℕ). are_zeros (drop (12 * n) s.entries)) (sym count) ∙ zeros_kept write_layout room es in
+    let holds : are_writes at s.count s.entries ≡ true = all_right 12 write_at (are_right at) s.count s.entries few (ap (are_right at) (numbers_again p.writes fit) ∙ right) zeros in
+    let list : AreWithin (list_fields at s) =
+    subst (λ (n : ℕ). AreWithin (ports.list_fields 12288 (are_writes at s.count s.entries) n s.entries)) count
+    (list_within write_layout room (are_writes at s.count s.entries) es (omega (arith, count, few))) in
     record {
-      keeps = keeps_own at p few within;
-      right = following at (saved_port_of p) (numbers_right at p timed)
-          ∙ none_by at (saved_port_of p) (all_right at (length p.writes) padding few (ap (are_right at) again ∙ right)
-          (ap (λ (n : ℕ). are_zeros (drop n padding)) (sym (entries_size p.writes)) ∙ padded_zeros 12288 (entries_bytes write_fields es)));
+      keeps = record { within = within_append (number_fields at (saved_numbers p)) (list_fields at s) within list; all = same_bytes at p };
+      right = following at s (numbers_right at p timed) ∙ list_right 26 12288 (are_writes at s.count s.entries) s.count s.entries holds;
       fit = fit;
     }

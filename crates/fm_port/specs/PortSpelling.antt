@@ -1,17 +1,18 @@
 -- The bytes of a saved state that keep the port: latches, timers settled below the state's cycle, how many
 -- writes it holds, the writes, and zeros in the places that are not used. This project's profile.
-use Rattle.std.specs.Prelude.{ℕ, ◌+◌, ◌-◌, ◌*◌, ◌/◌, ◌%◌, ◌==◌, ◌≤◌, nat_le, nat_lt, min, true, Bool, ◌&&◌, ◌||◌, if◌then◌else◌, List, [], ◌∷◌, ◌++◌, length, drop, map, slice_index}
+use Rattle.std.specs.Prelude.{ℕ, ◌+◌, ◌-◌, ◌/◌, ◌%◌, ◌==◌, ◌≤◌, nat_le, nat_lt, min, true, Bool, ◌&&◌, ◌||◌, if◌then◌else◌, List, [], ◌∷◌, ◌++◌, length, map, slice_index}
 use Rattle.std.specs.List.{list_all}
 use Rattle.std.specs.Int.{w64}
 use Rattle.std.proofs.Common.{arith}
 use Rattle.md_word.specs.Coding.{flag_number}
 use Rattle.md_word.specs.declared.key.Key.{Key}
-use Rattle.md_fields.specs.Fields.{Field, byte, word, quad, block, spelling}
+use Rattle.md_fields.specs.Fields.{Field, byte, quad, spelling}
 use Rattle.md_fields.specs.Items.{IsRefused, IsRight, Keeps}
-use Rattle.md_fields.specs.Padding.{are_zeros, padded}
+use Rattle.md_fields.specs.Padding.{padded}
 use Rattle.md_fields.specs.Places.{number_at}
 use Rattle.sound_writes.specs.Entries.{AreFit, entries_bytes, entries_from}
 use Rattle.sound_writes.specs.Keys.{are_kept}
+use Rattle.sound_writes.specs.Ports as ports
 use Rattle.fm_port.specs.Port.{Port}
 use Rattle.fm_port.specs.Timers.{both_settled}
 use Rattle.fm_port.specs.declared.saved_port.SavedPort.{SavedPort as Numbers}
@@ -89,8 +90,7 @@ are_right at ws = list_all is_write ws && are_kept at (map key_of ws)
 
 -- at most 1,024 writes, with keys that a port holds at the cycle, and zeros after them
 abbrev pub are_writes : ℕ → ℕ → List ℕ → Bool
-are_writes at count entries =
-    nat_le count 1024 && (are_right at (writes_at count entries) && are_zeros (drop (12 * count) entries))
+are_writes at count entries = ports.are_writes 12 write_at (are_right at) count entries
 
 -- the fields of latches and timers in their order, and their rules: a timer's run goes by register 27,
 -- and its next overflow by its run
@@ -112,7 +112,7 @@ number_fields at s =
 
 -- the fields of the writes: count and writes are one field, whose rule is at the first field
 abbrev pub list_fields : ℕ → SavedPort → List Field
-list_fields at s = word s.count (are_writes at s.count s.entries) ∷ block 12288 s.entries true ∷ []
+list_fields at s = ports.list_fields 12288 (are_writes at s.count s.entries) s.count s.entries
 
 -- all fields in their order, and their rules, by the cycle of the state
 abbrev pub port_fields : ℕ → SavedPort → List Field

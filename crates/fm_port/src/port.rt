@@ -7,10 +7,11 @@ ghost use Rattle.std.specs.List.{list_all};
 ghost use Rattle.md_word.specs.Clock.{cycle_limit};
 ghost use Rattle.sound_writes.specs.Keys.{is_before_next as before_next};
 
+use crate::saved_write::SavedWrite;
 use crate::timers::Timers;
 use crate::write::{FmList, FmWrite, RESET};
 use md_word::Key;
-use sound_writes::is_before_next;
+use sound_writes::{are_before_next, take_below};
 use std::marker::Model;
 
 /// The FM chip's port: two latches of register numbers, the timers, and the writes that the synthesis
@@ -139,9 +140,7 @@ impl FmPort {
     pub fn is_before_next(&self, main: u64, sub: u64) -> bool
         ensures { result ≡ list_all (λ w. before_next main sub w.key) self.now.writes }
     {
-        self.writes
-            .iter()
-            .all(|write| is_before_next(&write.key, main, sub))
+        are_before_next::<SavedWrite>(self.writes.as_slice(), main, sub)
     }
 
     /// Empties `into` and moves the writes stamped below `cycle` there, in their order; the others
@@ -153,22 +152,8 @@ impl FmPort {
         ensures order { (low high : ℕ) → IsInOrder low high self.old.writes → IsInOrder low cycle into.new.items }
         ensures left_order { (low high : ℕ) → IsInOrder low high self.old.writes → IsInOrder cycle high self.new.writes }
     {
-        move_below(&mut self.writes, cycle, into);
+        take_below::<SavedWrite>(&mut self.writes, cycle, into);
     }
-}
-
-/// Empties `into` and moves the writes stamped below `cycle` there.
-fn move_below(writes: &mut FmList, cycle: u64, into: &mut FmList)
-    ensures taken { into.new.items ≡ taken_below cycle writes.old.items }
-    ensures left { writes.new.items ≡ left_from cycle writes.old.items }
-{
-    into.clear();
-    for write in writes.as_slice() {
-        if write.key.cycle < cycle {
-            into.push(*write);
-        }
-    }
-    writes.retain(|write| write.key.cycle >= cycle);
 }
 
 /// Holds a write, which is lost where 1,024 are held.

@@ -1,10 +1,11 @@
-ghost use Rattle.std.specs.Prelude.{◌≡◌, ◌+◌, ◌≤◌, length, map};
+ghost use Rattle.std.specs.Prelude.{◌≡◌, map};
 ghost use Rattle.md_fields.specs.Fields.{seen};
 ghost use Rattle.fm_port.specs.PortSpelling as meaning;
 
 use crate::write::{FmWrite, RESET};
-use md_fields::{Field, u8_at, u64_at};
+use md_fields::{Field, are_zeros, put, u8_at, u64_at};
 use md_word::Key;
+use sound_writes::{MOST, WriteEntry};
 
 /// How many bytes keep a write.
 pub const WRITE: usize = 12;
@@ -19,48 +20,9 @@ pub struct SavedWrite {
     pub value: u8,
 }
 
-impl Default for SavedWrite {
-    fn default() -> SavedWrite {
-        SavedWrite {
-            cycle: 0,
-            chip: 0,
-            port: 0,
-            register: 0,
-            value: 0,
-        }
-    }
-}
-
 impl SavedWrite {
-    /// What is kept of a write.
-    pub fn of(write: &FmWrite) -> SavedWrite
-        ensures { result ≡ meaning.saved_write_of write.now }
-    {
-        SavedWrite {
-            cycle: write.key.cycle,
-            chip: write.key.chip,
-            port: write.port,
-            register: write.register,
-            value: write.value,
-        }
-    }
-
-    /// The numbers at an offset.
-    pub fn read(bytes: &[u8], place: usize) -> SavedWrite
-        requires { place + 12 ≤ length bytes.now }
-        ensures { result ≡ meaning.write_at place bytes.now }
-    {
-        SavedWrite {
-            cycle: u64_at(bytes, place),
-            chip: u8_at(bytes, place + 8),
-            port: u8_at(bytes, place + 9),
-            register: u8_at(bytes, place + 10),
-            value: u8_at(bytes, place + 11),
-        }
-    }
-
     /// The fields in their order.
-    pub fn fields(&self) -> [Field<'_>; 5]
+    fn fields(&self) -> [Field<'_>; 5]
         ensures { map seen result ≡ meaning.write_fields self.now }
     {
         [
@@ -71,34 +33,84 @@ impl SavedWrite {
             Field::Byte(self.value, true),
         ]
     }
+}
 
-    /// Whether this is a byte for one of the two ports, or a reset, which is the 68000's and has no
-    /// register and no value.
-    pub fn is_write(&self) -> bool
-        ensures { result ≡ meaning.is_write self.now }
-    {
-        self.port < RESET
-            || self.port == RESET && self.chip == 0 && self.register == 0 && self.value == 0
+impl WriteEntry for SavedWrite {
+    type Write = FmWrite;
+
+    ghost size = { 12 };
+
+    ghost fields = { meaning.write_fields };
+
+    ghost entry = { meaning.write_at };
+
+    ghost key_of = { meaning.key_of };
+
+    ghost is_right = { meaning.is_write };
+
+    ghost saved_of = { meaning.saved_write_of };
+
+    ghost write_of = { meaning.write_from };
+
+    fn of(write: &FmWrite) -> SavedWrite {
+        SavedWrite {
+            cycle: write.key.cycle,
+            chip: write.key.chip,
+            port: write.port,
+            register: write.register,
+            value: write.value,
+        }
     }
 
-    pub fn key(&self) -> Key
-        ensures { result ≡ meaning.key_of self.now }
-    {
+    fn read(entries: &[u8], index: usize) -> SavedWrite {
+        let place = WRITE * index;
+        SavedWrite {
+            cycle: u64_at(entries, place),
+            chip: u8_at(entries, place + 8),
+            port: u8_at(entries, place + 9),
+            register: u8_at(entries, place + 10),
+            value: u8_at(entries, place + 11),
+        }
+    }
+
+    fn are_unused(entries: &[u8], index: usize) -> bool {
+        are_zeros(&entries[WRITE * index..WRITE * MOST])
+    }
+
+    fn key(&self) -> Key {
         Key {
             cycle: self.cycle,
             chip: self.chip,
         }
     }
 
-    /// The write of which this is kept.
-    pub fn write(&self) -> FmWrite
-        ensures { result ≡ meaning.write_from self.now }
-    {
+    /// Whether this is a byte for one of the two ports, or a reset, which is the 68000's and has no
+    /// register and no value.
+    fn is_right(&self) -> bool {
+        self.port < RESET
+            || self.port == RESET && self.chip == 0 && self.register == 0 && self.value == 0
+    }
+
+    fn write(&self) -> FmWrite {
         FmWrite {
             key: self.key(),
             port: self.port.min(RESET),
             register: self.register,
             value: self.value,
         }
+    }
+
+    #[tactic(auto, unfolding(md_fields::specs::Fields::spelling))]
+    fn put(&self, into: &mut Vec<u8>) {
+        put(&self.fields(), into);
+    }
+
+    #[tactic(auto, unfolding(md_fields::specs::Fields::AreWithin))]
+    fn known(&self) {
+        let _cycle = self.cycle;
+        let _chip = self.chip;
+        let _port = self.port;
+        let _register = self.register;
+        let _value = self.value;
     }
 }

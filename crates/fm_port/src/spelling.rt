@@ -1,9 +1,5 @@
 ghost use Rattle.std.specs.Prelude.{◌≡◌, ◌≢◌, ◌↔◌, ◌+◌, ◌*◌, ◌^◌, ◌<◌, ◌≤◌, ◌++◌, ℕ, true, List, [], length, map, vec_len, vec_capacity, IfErr, IfOk, IsErrOf, Ok, Err};
-ghost use Rattle.std.specs.List.{list_all};
 ghost use Rattle.md_word.specs.Clock.{cycle_limit};
-ghost use Rattle.md_fields.specs.Fields.{AreWithin, spelling};
-ghost use Rattle.sound_writes.specs.Entries.{AreFit, entries_bytes};
-ghost use Rattle.sound_writes.specs.Keys.{are_kept};
 ghost use Rattle.fm_port.specs.Port.{IsPort, Port};
 ghost use Rattle.fm_port.specs.Timed.{AreTimed};
 ghost use Rattle.fm_port.specs.PortSpelling as meaning;
@@ -14,14 +10,11 @@ use crate::port::FmPort;
 use crate::saved_port::SavedPort;
 use crate::saved_write::{SavedWrite, WRITE};
 use crate::timers::Timers;
-use crate::write::{FmList, FmWrite};
-use md_fields::{are_zeros, first_invalid, put, u16_at};
+use crate::write::FmList;
+use md_fields::{first_invalid, put, u16_at};
 use md_word::Unspell;
-use sound_writes::{Earliest, put_count, put_zeros};
+use sound_writes::{MOST, are_saved, known_writes, put_count, put_writes, put_zeros, read_writes};
 use std::alloc::Global;
-
-/// How many writes a port holds, at most.
-const MOST: usize = 1_024;
 
 /// The offsets of the number of the writes and of the writes, and how many bytes keep a port.
 const COUNT: usize = 26;
@@ -50,7 +43,7 @@ impl FmPort {
         let numbers = numbers_of(self.first, self.second, &timers);
         put(&numbers.fields(at), into);
         put_count(count as u16, into);
-        put_writes(self.writes.as_slice(), into);
+        put_writes::<SavedWrite>(self.writes.as_slice(), into);
         put_zeros(WRITE * (MOST - count), into);
     }
 
@@ -65,7 +58,7 @@ impl FmPort {
         timers.settle(at);
         let numbers = numbers_of(self.first, self.second, &timers);
         known_numbers(&numbers);
-        known_writes(self.writes.as_slice());
+        known_writes::<SavedWrite>(self.writes.as_slice());
     }
 
     /// The port that the bytes of a saved state at a cycle, at most 2^50, keep. It takes no memory, and
@@ -135,68 +128,11 @@ fn parts_of(bytes: &[u8], at: u64, into: &mut FmList) -> Result<SavedPort, usize
     }
     let count = usize::from(u16_at(bytes, COUNT));
     let entries = &bytes[ENTRIES..LENGTH];
-    if !are_right(entries, count, at) {
+    if !are_saved::<SavedWrite>(entries, count, at) {
         return Err(COUNT);
     }
-    writes_at(entries, count, into);
+    read_writes::<SavedWrite>(entries, count, into);
     Ok(numbers)
-}
-
-/// Whether the rule of the first so many writes holds.
-fn are_right(entries: &[u8], count: usize, at: u64) -> bool
-    requires { length entries.now ≡ 12288 }
-    ensures { result ≡ meaning.are_writes at count entries.now }
-{
-    if count > MOST {
-        return false;
-    }
-    if !are_writes(entries, count) || !are_kept(entries, count, at) {
-        return false;
-    }
-    are_zeros(&entries[WRITE * count..WRITE * MOST])
-}
-
-/// Whether the first so many, at most 1,024, can be writes.
-fn are_writes(entries: &[u8], count: usize) -> bool
-    requires most { count ≤ 1024 }
-    requires there { length entries.now ≡ 12288 }
-    ensures { result ≡ list_all meaning.is_write (meaning.writes_at count entries.now) }
-{
-    for index in 0..count {
-        if !SavedWrite::read(entries, WRITE * index).is_write() {
-            return false;
-        }
-    }
-    true
-}
-
-/// Whether the first so many have keys that a port holds at a cycle.
-fn are_kept(entries: &[u8], count: usize, at: u64) -> bool
-    requires most { count ≤ 1024 }
-    requires there { length entries.now ≡ 12288 }
-    ensures { result ≡ are_kept at (map meaning.key_of (meaning.writes_at count entries.now)) }
-{
-    let mut earliest = Earliest::following_batch(at);
-    for index in 0..count {
-        let key = SavedWrite::read(entries, WRITE * index).key();
-        if !earliest.fits(&key, at) {
-            return false;
-        }
-        earliest = earliest.after(&key);
-    }
-    true
-}
-
-/// Makes a list the first so many writes.
-fn writes_at(entries: &[u8], count: usize, into: &mut FmList)
-    requires most { count ≤ 1024 }
-    requires there { length entries.now ≡ 12288 }
-    ensures { into.new.items ≡ meaning.writes_from count entries.now }
-{
-    into.clear();
-    for index in 0..count {
-        into.push(SavedWrite::read(entries, WRITE * index).write());
-    }
 }
 
 /// What is kept of latches and timers.
@@ -238,51 +174,4 @@ fn known_numbers(numbers: &SavedPort)
     let _control = numbers.control;
     let _next_a = numbers.next_a;
     let _next_b = numbers.next_b;
-}
-
-/// Each number of a write fits its field.
-#[tactic(auto, unfolding(md_fields::specs::Fields::AreWithin))]
-fn known_write(write: &FmWrite)
-    ensures { AreWithin (meaning.write_fields (meaning.saved_write_of write.now)) }
-{
-    let _cycle = write.key.cycle;
-    let _chip = write.key.chip;
-    let _port = write.port;
-    let _register = write.register;
-    let _value = write.value;
-}
-
-/// Each number of each write fits its field.
-fn known_writes(writes: &[FmWrite])
-    ensures { AreFit meaning.write_fields (map meaning.saved_write_of writes.now) }
-{
-    let mut rest = writes;
-    while let [write, after @ ..] = rest {
-        known_write(write);
-        rest = after;
-    }
-}
-
-#[tactic(auto, unfolding(md_fields::specs::Fields::spelling))]
-fn put_write(write: &FmWrite, into: &mut Vec<u8>)
-    requires { vec_len into.old + 12 ≤ vec_capacity into.old }
-    ensures bytes { into.new.items ≡ into.old.items ++ spelling (meaning.write_fields (meaning.saved_write_of write.now)) }
-    ensures length { vec_len into.new ≡ vec_len into.old + 12 }
-    ensures room { vec_capacity into.old ≤ vec_capacity into.new }
-{
-    put(&SavedWrite::of(write).fields(), into);
-}
-
-/// Appends the bytes of writes.
-fn put_writes(writes: &[FmWrite], into: &mut Vec<u8>)
-    requires { vec_len into.old + 12 * length writes.now ≤ vec_capacity into.old }
-    ensures bytes { into.new.items ≡ into.old.items ++ entries_bytes meaning.write_fields (map meaning.saved_write_of writes.now) }
-    ensures length { vec_len into.new ≡ vec_len into.old + 12 * length writes.now }
-    ensures room { vec_capacity into.old ≤ vec_capacity into.new }
-{
-    let mut rest = writes;
-    while let [write, after @ ..] = rest {
-        put_write(write, into);
-        rest = after;
-    }
 }

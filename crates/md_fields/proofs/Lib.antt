@@ -5,3 +5,4 @@ pub mod Padding
 pub mod Refusals
 pub mod Standing
 pub mod Tables
+pub mod Values

@@ -21,3 +21,12 @@ reported_invalid Invalid p invalid one place = (λ e. subst Invalid (same_rule p
 pub reported_right : {T : Type 0} (value : T) (Invalid : ℕ → Type 0) → ((q : ℕ) → Invalid q → ⊥)
     → (place : ℕ) → (Ok value ≡ failed (Rule place)) ↔ Invalid place
 reported_right value Invalid none place = (λ e. absurd cc, λ w. absurd (none place w))
+
+-- a refusal is of one fault, whatever it refuses
+pub same_fault : {T : Type 0} (f g : Unspell) → failed {T = T} f ≡ failed g → f ≡ g
+same_fault f g e = cc
+
+-- a refusal that is handed on reports the same, whatever it refuses
+pub reported_on : {S T : Type 0} (f : Unspell) (Invalid : ℕ → Type 0) → ((place : ℕ) → (failed {T = S} f ≡ failed (Rule place)) ↔ Invalid place)
+    → (place : ℕ) → (failed {T = T} f ≡ failed (Rule place)) ↔ Invalid place
+reported_on f Invalid reported place = (λ e. (reported place).0 (ap Err (same_fault f (Rule place) e)), λ w. ap Err (same_fault f (Rule place) ((reported place).1 w)))

@@ -1,6 +1,6 @@
 -- Tables of fields, one after another.
 use Rattle.std.proofs.Common.{◌≡◌, ℕ, ◌+◌, Bool, true, false, cond, List, [], ◌∷◌, ◌++◌, Option, Some, None, refl, sym, ap, ◌∙◌, append_assoc, arith}
-use Rattle.md_fields.specs.Fields.{AreWithin, Field, bytes_of, first_invalid, holds_of, or_else, size_of, sizes, spelling}
+use Rattle.md_fields.specs.Fields.{AllHold, AreWithin, Field, bytes_of, first_invalid, holds_of, or_else, size_of, sizes, spelling}
 
 -- the bytes of two tables are those of one after those of the other
 pub spelling_append : (xs ys : List Field) → spelling (xs ++ ys) ≡ spelling xs ++ spelling ys
@@ -13,6 +13,12 @@ pub within_both : (xs ys : List Field) → AreWithin (xs ++ ys) → AreWithin xs
 unfolding AreWithin
 within_both [] ys w = (tt, w)
 within_both (x ∷ xs) ys w = let p = within_both xs ys w.1 in ((w.0, p.0), p.1)
+
+-- where each rule of two tables holds each of either does
+pub holds_both : (xs ys : List Field) → AllHold (xs ++ ys) → AllHold xs × AllHold ys
+unfolding AllHold
+holds_both [] ys h = (tt, h)
+holds_both (x ∷ xs) ys h = let p = holds_both xs ys h.1 in ((h.0, p.0), p.1)
 
 pub within_append : (xs ys : List Field) → AreWithin xs → AreWithin ys → AreWithin (xs ++ ys)
 unfolding AreWithin

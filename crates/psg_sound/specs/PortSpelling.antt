@@ -1,14 +1,16 @@
 -- The bytes of a saved state that keep the port: how many writes it holds, the writes, and zeros in the
 -- places that are not used. This project's profile.
-use Rattle.std.specs.Prelude.{ℕ, ◌+◌, ◌*◌, nat_le, true, Bool, ◌&&◌, List, [], ◌∷◌, length, drop, map, slice_index}
+use Rattle.std.specs.Prelude.{ℕ, ◌+◌, true, Bool, List, [], ◌∷◌, length, map, slice_index}
 use Rattle.std.specs.Int.{w64}
 use Rattle.md_word.specs.declared.key.Key.{Key}
-use Rattle.md_fields.specs.Fields.{Field, byte, word, quad, block, spelling}
+use Rattle.md_fields.specs.Fields.{Field, byte, quad, spelling}
 use Rattle.md_fields.specs.Items.{IsRefused, IsRight, Keeps}
-use Rattle.md_fields.specs.Padding.{are_zeros, padded}
+use Rattle.md_fields.specs.Padding.{padded}
 use Rattle.md_fields.specs.Places.{number_at}
 use Rattle.sound_writes.specs.Entries.{AreFit, entries_bytes, entries_from}
 use Rattle.sound_writes.specs.Keys.{are_kept}
+use Rattle.sound_writes.specs.Ports as ports
+use Rattle.sound_writes.specs.Ports.{list_fields}
 use Rattle.psg_sound.specs.declared.write.PsgWrite.{PsgWrite}
 
 -- what is kept, whatever it is: the number of the writes, and the bytes of 1,024 of ten bytes each
@@ -35,14 +37,17 @@ writes_at count entries = entries_from 10 write_at count 0 entries
 abbrev pub key_of : PsgWrite → Key
 key_of w = w.key
 
+-- the writes have keys that a port holds at a cycle
+abbrev pub are_right : ℕ → List PsgWrite → Bool
+are_right at writes = are_kept at (map key_of writes)
+
 -- at most 1,024 writes, with keys that a port holds at the cycle, and zeros after them
 abbrev pub are_writes : ℕ → SavedPort → Bool
-are_writes at s =
-    nat_le s.count 1024 && (are_kept at (map key_of (writes_at s.count s.entries)) && are_zeros (drop (10 * s.count) s.entries))
+are_writes at s = ports.are_writes 10 write_at (are_right at) s.count s.entries
 
 -- the fields in their order, and their rules; count and writes are one, whose rule is at the first field
 abbrev pub port_fields : ℕ → SavedPort → List Field
-port_fields at s = word s.count (are_writes at s) ∷ block 10240 s.entries true ∷ []
+port_fields at s = list_fields 10240 (are_writes at s) s.count s.entries
 
 -- what is kept of a port
 abbrev pub saved_port_of : List PsgWrite → SavedPort

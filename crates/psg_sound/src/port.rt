@@ -5,7 +5,7 @@ ghost use Rattle.sound_writes.specs.Keys.{is_before_next as before_next};
 
 use crate::write::{PsgList, PsgWrite};
 use md_word::Key;
-use sound_writes::is_before_next;
+use sound_writes::{are_before_next, take_below};
 use std::marker::Model;
 
 /// The PSG's port: the writes that its synthesis has not taken. Contracts see their list, at most
@@ -58,9 +58,7 @@ impl PsgPort {
     pub fn is_before_next(&self, main: u64, sub: u64) -> bool
         ensures { result ≡ list_all (λ w. before_next main sub w.key) self.now }
     {
-        self.writes
-            .iter()
-            .all(|write| is_before_next(&write.key, main, sub))
+        are_before_next::<PsgWrite>(self.writes.as_slice(), main, sub)
     }
 
     /// Empties `into` and moves the writes stamped below `cycle` there, in their order; the others
@@ -71,12 +69,6 @@ impl PsgPort {
         ensures port { IsPort self.new }
         ensures list { IsPort into.new.items }
     {
-        into.clear();
-        for write in self.writes.as_slice() {
-            if write.key.cycle < cycle {
-                into.push(*write);
-            }
-        }
-        self.writes.retain(|write| write.key.cycle >= cycle);
+        take_below::<PsgWrite>(&mut self.writes, cycle, into);
     }
 }

@@ -8,13 +8,13 @@ ghost use Rattle.psg_sound.specs.Synth.{Synth};
 ghost use Rattle.psg_sound.specs.declared.write.PsgWrite.{PsgWrite as Write};
 
 use crate::port::PsgPort;
-use crate::saved_port::{MOST, WRITE, are_kept, known_writes, put_writes, writes_at};
+use crate::saved_port::WRITE;
 use crate::saved_synth::{SavedSynth, tone_from};
 use crate::synth::PsgSynth;
-use crate::write::PsgList;
-use md_fields::{are_zeros, first_invalid, put, u16_at};
+use crate::write::{PsgList, PsgWrite};
+use md_fields::{first_invalid, put, u16_at};
 use md_word::Unspell;
-use sound_writes::{put_count, put_zeros};
+use sound_writes::{MOST, are_saved, known_writes, put_count, put_writes, put_zeros, read_writes};
 use std::alloc::Global;
 
 /// How many bytes keep a port, and how many a synthesis.
@@ -32,9 +32,10 @@ impl PsgPort {
         ensures room { vec_capacity into.old ≤ vec_capacity into.new }
         ensures kept { (at : ℕ) → are_kept at (map key_of self.now) ≡ true → SpellsPort at (port_bytes self.now) self.now }
     {
+        self.is_read_again();
         let count = self.writes.len();
         put_count(count as u16, into);
-        put_writes(self.writes.as_slice(), into);
+        put_writes::<PsgWrite>(self.writes.as_slice(), into);
         put_zeros(WRITE * (MOST - count), into);
     }
 
@@ -42,7 +43,7 @@ impl PsgPort {
     pub fn is_read_again(&self)
         ensures { (at : ℕ) → are_kept at (map key_of self.now) ≡ true → SpellsPort at (port_bytes self.now) self.now }
     {
-        known_writes(self.writes.as_slice());
+        known_writes::<PsgWrite>(self.writes.as_slice());
     }
 
     /// The port that the bytes of a saved state at a cycle keep. It takes no memory, and fails with `Rule`
@@ -95,14 +96,11 @@ fn port_of(bytes: &[u8], at: u64, into: &mut PsgList) -> Result<(), usize>
         return Err(bytes.len().min(PORT));
     }
     let count = usize::from(u16_at(bytes, 0));
-    if count > MOST {
-        return Err(0);
-    }
     let entries = &bytes[2..PORT];
-    writes_at(entries, count, into);
-    if !are_kept(into.as_slice(), at) || !are_zeros(&entries[WRITE * count..WRITE * MOST]) {
+    if !are_saved::<PsgWrite>(entries, count, at) {
         return Err(0);
     }
+    read_writes::<PsgWrite>(entries, count, into);
     Ok(())
 }
 

@@ -27,14 +27,14 @@ use Rattle.fm_port.specs.Port.{Port}
 use Rattle.fm_port.specs.PortSpelling as fm_port
 use Rattle.fm_chip.specs.Synth as fm_synths
 use Rattle.fm_chip.specs.SynthSpelling as fm
-use Rattle.fm_port.proofs.PortBytes as fm_port_laws
-use Rattle.fm_chip.proofs.SynthBytes as fm_laws
+use Rattle.fm_port.proofs.PortBytes.{table as fm_port_table}
+use Rattle.fm_chip.proofs.SynthBytes.{table as fm_table}
 use Rattle.psg_sound.specs.PortSpelling as psg_port
 use Rattle.psg_sound.specs.Synth as psg_synths
 use Rattle.psg_sound.specs.SynthSpelling as psg
 use Rattle.psg_sound.specs.declared.write.PsgWrite.{PsgWrite}
-use Rattle.psg_sound.proofs.PortBytes as psg_port_laws
-use Rattle.psg_sound.proofs.SynthBytes as psg_laws
+use Rattle.psg_sound.proofs.PortBytes.{table as psg_port_table}
+use Rattle.psg_sound.proofs.SynthBytes.{table as psg_table}
 use Rattle.bus_shared.specs.Board.{Board}
 use Rattle.bus_shared.specs.Saved.{lines_of, lines_fields}
 use Rattle.bus_shared.specs.Spelling as shared
@@ -75,16 +75,16 @@ pub renderer_state_long : (at : ℕ) (pal : Bool) (bytes : List ℕ) (d : Render
 renderer_state_long at pal bytes d p = ap length p.keeps.all ∙ long_as (saved_renderer_state.renderer_state_fields at pal (saved_renderer_state.numbers_of d)) p.keeps.within ∙ renderer_state_laws.fields_size at pal (saved_renderer_state.numbers_of d)
 
 pub fm_port_long : (at : ℕ) (bytes : List ℕ) (p : Port) → fm_port.SpellsPort at bytes p → length bytes ≡ 12316
-fm_port_long at bytes p s = ap length s.keeps.all ∙ long_as (fm_port.port_fields at (fm_port.saved_port_of p)) s.keeps.within ∙ fm_port_laws.port_size at (fm_port.saved_port_of p)
+fm_port_long at bytes p s = ap length s.keeps.all ∙ long_as (fm_port.port_fields at (fm_port.saved_port_of p)) s.keeps.within ∙ (fm_port_table at).sized (fm_port.saved_port_of p)
 
 pub psg_port_long : (at : ℕ) (bytes : List ℕ) (ws : List PsgWrite) → psg_port.SpellsPort at bytes ws → length bytes ≡ 10242
-psg_port_long at bytes ws s = ap length s.keeps.all ∙ long_as (psg_port.port_fields at (psg_port.saved_port_of ws)) s.keeps.within ∙ psg_port_laws.port_size at (psg_port.saved_port_of ws)
+psg_port_long at bytes ws s = ap length s.keeps.all ∙ long_as (psg_port.port_fields at (psg_port.saved_port_of ws)) s.keeps.within ∙ (psg_port_table at).sized (psg_port.saved_port_of ws)
 
 pub fm_long : (bytes : List ℕ) (s : fm_synths.Synth) → fm.SpellsSynth bytes s → length bytes ≡ 741
-fm_long bytes s p = ap length p.keeps.all ∙ long_as (fm.synth_fields (fm.saved_synth_of s)) p.keeps.within ∙ fm_laws.synth_size (fm.saved_synth_of s)
+fm_long bytes s p = ap length p.keeps.all ∙ long_as (fm.synth_fields (fm.saved_synth_of s)) p.keeps.within ∙ fm_table.sized (fm.saved_synth_of s)
 
 pub psg_long : (bytes : List ℕ) (s : psg_synths.Synth) → psg.SpellsSynth bytes s → length bytes ≡ 26
-psg_long bytes s p = ap length p.keeps.all ∙ long_as (psg.synth_fields (psg.saved_synth_of s)) p.keeps.within ∙ psg_laws.synth_size (psg.saved_synth_of s)
+psg_long bytes s p = ap length p.keeps.all ∙ long_as (psg.synth_fields (psg.saved_synth_of s)) p.keeps.within ∙ psg_table.sized (psg.saved_synth_of s)
 
 pub lines_long : (at : ℕ) (pal : Bool) (bytes : List ℕ) (b : Board) → shared.Spells at pal bytes b → length (shared.lines_bytes (lines_of b)) ≡ 36
 lines_long at pal bytes b p = ap length p.lines.all ∙ long_as (lines_fields at (lines_of b)) p.lines.within ∙ lines_laws.lines_size at (lines_of b)

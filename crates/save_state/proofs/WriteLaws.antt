@@ -6,9 +6,7 @@ use mir.Val.{bool_byte}
 use Rattle.sha2.specs.Sha256.{sha256}
 use Rattle.md_word.specs.Coding.{flag_number}
 use Rattle.md_fields.specs.Fields.{AreSized, spelling}
-use Rattle.md_fields.proofs.Padding.{padded_length}
 use Rattle.md_fields.proofs.Standing.{long_as_sized}
-use Rattle.sound_writes.specs.Entries.{entries_bytes}
 use Rattle.m68k_chip.specs.Spelling as main
 use Rattle.z80_chip.specs.Spelling as sub
 use Rattle.z80_chip.specs.States.{State80}
@@ -19,13 +17,14 @@ use Rattle.vdp_chip.specs.RendererState.{RendererState}
 use Rattle.vdp_chip.specs.Saved as saved_renderer_state
 use Rattle.vdp_chip.specs.Spelling as renderer_state
 use Rattle.fm_port.specs.Port.{Port}
+use Rattle.sound_writes.proofs.Ports.{entries_whole}
 use Rattle.fm_port.specs.PortSpelling as fm_port
 use Rattle.fm_chip.specs.SynthSpelling as fm
-use Rattle.fm_port.proofs.PortBytes as fm_port_laws
+use Rattle.fm_port.proofs.PortBytes.{room as fm_port_room, table as fm_port_table, write_layout as fm_write_layout}
 use Rattle.psg_sound.specs.PortSpelling as psg_port
 use Rattle.psg_sound.specs.SynthSpelling as psg
 use Rattle.psg_sound.specs.declared.write.PsgWrite.{PsgWrite}
-use Rattle.psg_sound.proofs.PortBytes as psg_port_laws
+use Rattle.psg_sound.proofs.PortBytes.{room as psg_port_room, table as psg_port_table, write_layout as psg_write_layout}
 use Rattle.bus_shared.specs.Board.{Board, IsBoard}
 use Rattle.bus_shared.specs.Saved.{lines_of, lines_fields}
 use Rattle.bus_shared.specs.Spelling as shared
@@ -46,14 +45,14 @@ fm_port_full : (at : ℕ) (p : Port) → length p.writes ≤ 1024 → length (fm
 unfolding AreSized
 fm_port_full at p few =
     long_as_sized (fm_port.port_fields 0 (fm_port.saved_port_of (fm_port.settled_port at p)))
-    (tt, (tt, (tt, (tt, (tt, (tt, (tt, (tt, (tt, (tt, (tt, (tt, (tt, (padded_length 12288 (entries_bytes fm_port.write_fields (map fm_port.saved_write_of p.writes)) (omega (arith, few, fm_port_laws.entries_size p.writes)), tt))))))))))))))
-    ∙ fm_port_laws.port_size 0 (fm_port.saved_port_of (fm_port.settled_port at p))
+    (tt, (tt, (tt, (tt, (tt, (tt, (tt, (tt, (tt, (tt, (tt, (tt, (tt, (entries_whole fm_write_layout fm_port_room (map fm_port.saved_write_of p.writes) (omega (arith, few, length-map p.writes fm_port.saved_write_of)), tt))))))))))))))
+    ∙ (fm_port_table 0).sized (fm_port.saved_port_of (fm_port.settled_port at p))
 
 psg_port_full : (ws : List PsgWrite) → length ws ≤ 1024 → length (psg_port.port_bytes ws) ≡ 10242
 unfolding AreSized
 psg_port_full ws few =
-    long_as_sized (psg_port.port_fields 0 (psg_port.saved_port_of ws)) (tt, (padded_length 10240 (entries_bytes psg_port.write_fields ws) (omega (arith, few, psg_port_laws.entries_size ws)), tt))
-    ∙ psg_port_laws.port_size 0 (psg_port.saved_port_of ws)
+    long_as_sized (psg_port.port_fields 0 (psg_port.saved_port_of ws)) (tt, (entries_whole psg_write_layout psg_port_room ws few, tt))
+    ∙ (psg_port_table 0).sized (psg_port.saved_port_of ws)
 
 lines_full : (n : SavedLines) → length (shared.lines_bytes n) ≡ 36
 unfolding AreSized

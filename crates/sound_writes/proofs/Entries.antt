@@ -1,11 +1,10 @@
 -- Entries in bytes are those that are spelled there.
-use Rattle.std.proofs.Common.{◌≡◌, ℕ, zero, suc, ◌+◌, ◌*◌, ◌-◌, ◌<◌, ◌≤◌, Bool, true, false, List, [], ◌∷◌, ◌++◌, length, take, drop, refl, sym, ap, subst, ◌∙◌, append_assoc, arith}
-use Rattle.std.specs.Prelude.{◌&&◌}
+use Rattle.std.proofs.Common.{◌≡◌, ℕ, zero, suc, ◌+◌, ◌*◌, ◌-◌, ◌<◌, ◌≤◌, true, List, [], ◌∷◌, ◌++◌, length, take, drop, refl, sym, ap, subst, ◌∙◌, append_assoc, arith}
 use Rattle.std.proofs.lemmas.List.{take_at, length-append, append-nil, length-drop}
 use Rattle.md_fields.specs.Fields.{AreWithin, Field, block, sizes, spelling}
 use Rattle.md_fields.specs.Places.{IsBytes, Stand}
 use Rattle.md_fields.proofs.Items.{within_there}
-use Rattle.md_fields.proofs.Standing.{long_as, spelled_from, stand_after}
+use Rattle.md_fields.proofs.Standing.{spelled_from, stand_after}
 use Rattle.sound_writes.specs.Entries.{AreFit, entries_bytes, entries_from}
 use Rattle.md_fields.proofs.Tables.{spelling_append, within_append, within_both}
 
@@ -26,29 +25,35 @@ unfolding Stand
 left_stands place bytes le =
     (sym (take_at (drop place bytes) [] (length (drop place bytes)) refl) ∙ ap (take (length (drop place bytes))) (append-nil (drop place bytes)), omega (arith, length-drop place bytes))
 
--- of three tests the second fails, or the third
-pub second_fails : (a b : Bool) → (a && (false && b)) ≡ false
-second_fails true b = refl
-second_fails false b = refl
-
-pub third_fails : (a b : Bool) → (a && (b && false)) ≡ false
-third_fails true true = refl
-third_fails true false = refl
-third_fails false b = refl
-
 -- one entry more
-pub entries_more : {E : Type 0} (size : ℕ) (entry : ℕ → List ℕ → E) (count index place : ℕ) (bytes : List ℕ) → index < count
+entries_more : {E : Type 0} (size : ℕ) (entry : ℕ → List ℕ → E) (count index place : ℕ) (bytes : List ℕ) → index < count
     → entries_from size entry (count - index) place bytes ≡ entry place bytes ∷ entries_from size entry (count - (index + 1)) (place + size) bytes
 entries_more size entry count index place bytes below =
     let more : count - index ≡ suc (count - (index + 1)) = omega (arith, below) in
     ap (λ (n : ℕ). entries_from size entry n place bytes) more
 
--- entries of a size; the fields of one are where it is read, and what is there is read
-module _ {E : Type 0} (size : ℕ) (fields : E → List Field) (entry : ℕ → List ℕ → E) (sized : (e : E) → sizes (fields e) ≡ size)
-    (stands : (place : ℕ) (bytes : List ℕ) (rest : List Field) → Stand (place + size) rest bytes → Stand place (fields (entry place bytes) ++ rest) bytes)
-    (only : (place : ℕ) (bytes : List ℕ) (e : E) (rest : List Field) → Stand place (fields e ++ rest) bytes → e ≡ entry place bytes) where
+-- the entries from an index on: one, and those from the next on; or none
+pub entries_next : {E : Type 0} (size : ℕ) (entry : ℕ → List ℕ → E) (count index : ℕ) (bytes : List ℕ) → index < count
+    → entries_from size entry (count - index) (size * index) bytes ≡ entry (size * index) bytes ∷ entries_from size entry (count - (index + 1)) (size * (index + 1)) bytes
+entries_next size entry count index bytes below =
+    let place : size * index + size ≡ size * (index + 1) = omega arith in
+    entries_more size entry count index (size * index) bytes below
+    ∙ ap (λ (n : ℕ). entry (size * index) bytes ∷ entries_from size entry (count - (index + 1)) n bytes) place
+
+pub entries_none : {E : Type 0} (size : ℕ) (entry : ℕ → List ℕ → E) (count index : ℕ) (bytes : List ℕ) → count ≤ index → entries_from size entry (count - index) (size * index) bytes ≡ []
+entries_none size entry count index bytes past =
+    let none : count - index ≡ 0 = omega (arith, past) in ap (λ (n : ℕ). entries_from size entry n (size * index) bytes) none
+
+-- the layout of entries of one size: the fields of one are where it is read, and what is there is read
+pub record Layout {E : Type 0} (size : ℕ) (fields : E → List Field) (entry : ℕ → List ℕ → E) : Type 0 where
+  pub sized : (e : E) → sizes (fields e) ≡ size
+  pub long : (e : E) → length (spelling (fields e)) ≡ size
+  pub stands : (place : ℕ) (bytes : List ℕ) (rest : List Field) → Stand (place + size) rest bytes → Stand place (fields (entry place bytes) ++ rest) bytes
+  pub only : (place : ℕ) (bytes : List ℕ) (e : E) (rest : List Field) → Stand place (fields e ++ rest) bytes → e ≡ entry place bytes
+
+module _ {E : Type 0} {size : ℕ} {fields : E → List Field} {entry : ℕ → List ℕ → E} (layout : Layout size fields entry) where
   there : (place : ℕ) (bytes : List ℕ) → place + size ≤ length bytes → Stand place (fields (entry place bytes) ++ left (drop (place + size) bytes)) bytes
-  there place bytes room = stands place bytes (left (drop (place + size) bytes)) (left_stands (place + size) bytes room)
+  there place bytes room = layout.stands place bytes (left (drop (place + size) bytes)) (left_stands (place + size) bytes room)
 
   fit_one : (place : ℕ) (bytes : List ℕ) → IsBytes bytes → place + size ≤ length bytes → AreWithin (fields (entry place bytes))
   fit_one place bytes fits room =
@@ -81,16 +86,15 @@ module _ {E : Type 0} (size : ℕ) (fields : E → List Field) (entry : ℕ → 
   entries_count zero place bytes = refl
   entries_count (suc count) place bytes = omega (arith, entries_count count (place + size) bytes)
 
-  pub entries_length : (es : List E) → AreFit fields es → length (entries_bytes fields es) ≡ size * length es
-  entries_length [] fit = omega arith
-  entries_length (e ∷ es) fit =
-      omega (arith, length-append (spelling (fields e)) (entries_bytes fields es), long_as (fields e) fit.0, sized e, entries_length es fit.1)
+  pub entries_length : (es : List E) → length (entries_bytes fields es) ≡ size * length es
+  entries_length [] = omega arith
+  entries_length (e ∷ es) = omega (arith, length-append (spelling (fields e)) (entries_bytes fields es), layout.long e, entries_length es)
 
   read_one : (front rest : List ℕ) (e : E) → AreWithin (fields e) → entry (length front) (front ++ (spelling (fields e) ++ rest)) ≡ e
   read_one front rest e fit =
       let whole : spelling (fields e ++ left rest) ≡ spelling (fields e) ++ rest =
       spelling_append (fields e) (left rest) ∙ ap (λ (l : List ℕ). spelling (fields e) ++ l) (left_bytes rest) in
-      sym (only (length front) (front ++ (spelling (fields e) ++ rest)) e (left rest)
+      sym (layout.only (length front) (front ++ (spelling (fields e) ++ rest)) e (left rest)
       (subst (λ (l : List ℕ). Stand (length front) (fields e ++ left rest) (front ++ l)) whole
       (stand_after front (fields e ++ left rest) (within_append (fields e) (left rest) fit (left_within rest)))))
 
@@ -105,7 +109,7 @@ module _ {E : Type 0} (size : ℕ) (fields : E → List Field) (entry : ℕ → 
       let one : entry (length front) bytes ≡ e =
       ap (λ (l : List ℕ). entry (length front) (front ++ l)) parts ∙ read_one front (entries_bytes fields es ++ rest) e fit.0 in
       let next : length (front ++ spelling (fields e)) ≡ length front + size =
-      omega (arith, length-append front (spelling (fields e)), long_as (fields e) fit.0, sized e) in
+      omega (arith, length-append front (spelling (fields e)), layout.long e) in
       let others : entries_from size entry (length es) (length front + size) bytes ≡ es =
       ap (λ (n : ℕ). entries_from size entry (length es) n bytes) (sym next)
       ∙ ap (λ (l : List ℕ). entries_from size entry (length es) (length (front ++ spelling (fields e))) l)

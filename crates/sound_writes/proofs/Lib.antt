@@ -3,5 +3,7 @@ pub mod Entries
 pub mod Filters
 pub mod Helds
 pub mod Orders
+pub mod Ports
+pub mod Rest
 pub mod Spaced
 pub mod Splits

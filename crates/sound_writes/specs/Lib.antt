@@ -3,3 +3,4 @@ pub mod Entries
 pub mod Held
 pub mod Keys
 pub mod Order
+pub mod Ports

@@ -4,6 +4,10 @@
 
 mod earliest;
 mod padding;
+mod saved;
 
 pub use earliest::{Earliest, is_before_next};
 pub use padding::{put_count, put_zeros};
+pub use saved::{
+    MOST, WriteEntry, are_before_next, are_saved, known_writes, put_writes, read_writes, take_below,
+};

@@ -93,7 +93,7 @@ fm_port_by : (at : ℕ) (bytes : List ℕ) (n : FmNumbers) → IsBytes bytes →
     → Verdict (fm_port.SpellsPort at bytes) (fm_port.PortInvalidAt at bytes)
 fm_port_by at bytes n fits long head (Some place) e right f = inr (place, fm_port_laws.breaks_number at bytes n place fits long head e)
 fm_port_by at bytes n fits long head None e true f =
-    inl (fm_port.port_with n (fm_port.writes_from (fm_port_laws.count_in bytes) (fm_port_laws.entries_in bytes)), fm_port_laws.read_spells at bytes n fits long head e f)
+    inl (fm_port.port_with n (fm_port.writes_from (fm_port_laws.count_in bytes) (fm_port_laws.entries_in bytes)), fm_port_laws.port_read at bytes n fits long head e f)
 fm_port_by at bytes n fits long head None e false f = inr (26, fm_port_laws.breaks_writes at bytes n fits long head e f)
 
 pub fm_port_verdict : (at : ℕ) (bytes : List ℕ) → IsBytes bytes → Verdict (fm_port.SpellsPort at bytes) (fm_port.PortInvalidAt at bytes)
@@ -106,7 +106,7 @@ fm_port_verdict at bytes fits = elim (cases_eq (length bytes) 12316) [
 
 psg_port_by : (at : ℕ) (bytes : List ℕ) → IsBytes bytes → length bytes ≡ 10242 → (right : Bool) → psg_port.are_writes at (psg_port_laws.read_port bytes) ≡ right
     → Verdict (psg_port.SpellsPort at bytes) (psg_port.PortInvalidAt at bytes)
-psg_port_by at bytes fits long true e = inl (psg_port.writes_at (number_at w16 0 bytes) (take 10240 (drop 2 bytes)), psg_port_laws.read_spells at bytes fits long e)
+psg_port_by at bytes fits long true e = inl (psg_port.writes_at (number_at w16 0 bytes) (take 10240 (drop 2 bytes)), psg_port_laws.port_read at bytes fits long e)
 psg_port_by at bytes fits long false e = inr (0, psg_port_laws.breaks_port at bytes fits long e)
 
 pub psg_port_verdict : (at : ℕ) (bytes : List ℕ) → IsBytes bytes → Verdict (psg_port.SpellsPort at bytes) (psg_port.PortInvalidAt at bytes)
@@ -119,13 +119,13 @@ pub fm_verdict : (bytes : List ℕ) → IsBytes bytes → Verdict (fm.SpellsSynt
 fm_verdict bytes fits =
     sized 741 fm.synth_fields (fm.SpellsSynth bytes) bytes fits
     (λ long. (fm.synth_at bytes, fm_laws.synth_stands bytes long))
-    (λ long s keeps right. (fm.synth_from s, fm_laws.read_spells bytes s keeps right))
+    (λ long s keeps right. (fm.synth_from s, fm_laws.synth_read bytes s keeps right))
 
 pub psg_verdict : (bytes : List ℕ) → IsBytes bytes → Verdict (psg.SpellsSynth bytes) (psg.SynthInvalidAt bytes)
 psg_verdict bytes fits =
     sized 26 psg.synth_fields (psg.SpellsSynth bytes) bytes fits
     (λ long. psg_there bytes long)
-    (λ long s keeps right. (psg.synth_from s, psg_laws.read_spells bytes s keeps right))
+    (λ long s keeps right. (psg.synth_from s, psg_laws.synth_read bytes s keeps right))
 
 -- ---- the board
 

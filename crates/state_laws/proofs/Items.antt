@@ -19,9 +19,12 @@ use Rattle.vdp_chip.specs.Saved.{numbers_of}
 use Rattle.vdp_chip.specs.Spelling as renderer_state
 use Rattle.vdp_chip.proofs.SavedLaws as renderer_state_laws
 use Rattle.fm_chip.specs.SynthSpelling as fm
+use Rattle.md_fields.proofs.Values.{not_refused, refused_once, spelled_once}
 use Rattle.fm_chip.proofs.SynthBytes as fm_laws
+use Rattle.fm_chip.proofs.SynthBytes.{table as fm_table}
 use Rattle.psg_sound.specs.SynthSpelling as psg
 use Rattle.psg_sound.proofs.SynthBytes as psg_laws
+use Rattle.psg_sound.proofs.SynthBytes.{table as psg_table}
 use Rattle.bus_shared.specs.Spelling as shared
 use Rattle.bus_shared.proofs.SpellingLaws as shared_laws
 use Rattle.md_machine.specs.Starts.{first_batch}
@@ -165,9 +168,9 @@ early_of (inr none) = (true, (λ e. absurd cc, λ l. absurd (none l)))
 fm_decided : (bytes : List ℕ) → Verdict (fm.SpellsSynth bytes) (fm.SynthInvalidAt bytes) → Decided (fm.SpellsSynth bytes) (fm.SynthInvalidAt bytes)
 fm_decided bytes v =
     decided_by (fm.SpellsSynth bytes) (fm.SynthInvalidAt bytes)
-    (λ x y p q. sym (fm_laws.read_only bytes (fm.saved_synth_of x) x p.keeps p) ∙ fm_laws.read_only bytes (fm.saved_synth_of x) y p.keeps q)
-    (λ x p place invalid. fm_laws.right_nowhere bytes (fm.saved_synth_of x) p.keeps p.right place invalid)
-    (fm_laws.invalid_once bytes) v
+    (λ x y p q. spelled_once fm_table fm.saved_synth_of fm.synth_from bytes x y (fm_laws.synth_again x p.synth) (fm_laws.synth_again y q.synth) p.keeps q.keeps)
+    (λ x p. not_refused fm_table bytes (fm.saved_synth_of x) p.keeps p.right)
+    (refused_once fm_table bytes) v
 
 pub fm_answered : (bytes : List ℕ) → Verdict (fm.SpellsSynth (part_of fm_part bytes)) (fm.SynthInvalidAt (part_of fm_part bytes)) → HasLateFm bytes ⊎ (HasLateFm bytes → ⊥) → Answered (IsFm bytes) (FmFails bytes)
 fm_answered bytes v late =
@@ -187,9 +190,9 @@ fm_answered bytes v late =
 psg_decided : (bytes : List ℕ) → Verdict (psg.SpellsSynth bytes) (psg.SynthInvalidAt bytes) → Decided (psg.SpellsSynth bytes) (psg.SynthInvalidAt bytes)
 psg_decided bytes v =
     decided_by (psg.SpellsSynth bytes) (psg.SynthInvalidAt bytes)
-    (λ x y p q. sym (psg_laws.read_only bytes (psg.saved_synth_of x) x p.keeps p) ∙ psg_laws.read_only bytes (psg.saved_synth_of x) y p.keeps q)
-    (λ x p place invalid. psg_laws.right_nowhere bytes (psg.saved_synth_of x) p.keeps p.right place invalid)
-    (psg_laws.invalid_once bytes) v
+    (λ x y p q. spelled_once psg_table psg.saved_synth_of psg.synth_from bytes x y (psg_laws.synth_again x) (psg_laws.synth_again y) p.keeps q.keeps)
+    (λ x p. not_refused psg_table bytes (psg.saved_synth_of x) p.keeps p.right)
+    (refused_once psg_table bytes) v
 
 pub psg_answered : (bytes : List ℕ) → Verdict (psg.SpellsSynth (part_of psg_part bytes)) (psg.SynthInvalidAt (part_of psg_part bytes)) → HasLatePsg bytes ⊎ (HasLatePsg bytes → ⊥) → Answered (IsPsg bytes) (PsgFails bytes)
 psg_answered bytes v late =

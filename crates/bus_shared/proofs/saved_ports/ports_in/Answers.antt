@@ -3,10 +3,11 @@ use Rattle.md_word.specs.declared.unspell.Unspell.TheVariants.{Rule}
 use Rattle.md_fields.proofs.Items.{refused_within}
 use Rattle.fm_port.specs.PortSpelling.{PortInvalidAt}
 use Rattle.psg_sound.specs.PortSpelling as psg_spelling
+use Rattle.md_fields.proofs.Refusals.{same_fault}
 use Rattle.bus_shared.specs.Saved.{lines_fields}
 use Rattle.bus_shared.specs.Spelling.{LinesInvalidAt}
 use Rattle.bus_shared.proofs.SavedLaws.{lines_size}
-use Rattle.bus_shared.proofs.SpellingLaws.{after_rule, place_is, psg_near, same_fault}
+use Rattle.bus_shared.proofs.SpellingLaws.{after_rule, place_is, psg_near}
 use Rattle.bus_shared.proofs.saved_ports.ports_in.Goals as goal
 
 pub returns-in-Err-clause-rule : goal.returns-in-Err-clause-rule

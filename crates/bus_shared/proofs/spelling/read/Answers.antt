@@ -4,7 +4,7 @@ use Rattle.std.specs.Prelude.{option_map}
 use Rattle.std.specs.Arc.{arc_value}
 use Rattle.md_word.specs.declared.unspell.Unspell.TheVariants.{Rule}
 use Rattle.md_fields.specs.Items.{Keeps}
-use Rattle.md_fields.proofs.Refusals.{no_rule}
+use Rattle.md_fields.proofs.Refusals.{no_rule, same_fault}
 use Rattle.fm_port.specs.PortSpelling as fm_spelling
 use Rattle.psg_sound.specs.PortSpelling as psg_spelling
 use Rattle.vdp_ports.specs.Spelling as vdp_spelling
@@ -14,7 +14,7 @@ use Rattle.bus_shared.specs.Board.{Board}
 use Rattle.bus_shared.specs.Saved.{lines_fields}
 use Rattle.bus_shared.specs.Spelling.{IsLength, Spells, StoreInvalidAt, cut, store_length}
 use Rattle.bus_shared.proofs.SavedLaws.{falls_of}
-use Rattle.bus_shared.proofs.SpellingLaws.{PortsIn, after_rule, ok_not, ports_exit, ports_near, same_fault, vdp_exit, vdp_near, whole}
+use Rattle.bus_shared.proofs.SpellingLaws.{PortsIn, after_rule, ok_not, ports_exit, ports_near, vdp_exit, vdp_near, whole}
 use Rattle.bus_shared.proofs.spelling.read.Goals as goal
 use Rattle.bus_shared.proofs.spelling.read.Goals.{else-bytes-ne-SHORT-via-then-bytes-ne-SHORT+else-bytes-ne-LONG, else-bytes-ne-SHORT-via-else-bytes-ne-SHORT}
 

@@ -2,11 +2,11 @@ use Rattle.std.proofs.Common.{◌∙◌, ap, sym, inr, arith}
 use Rattle.md_fields.specs.Fields.{first_invalid, sizes}
 use Rattle.md_fields.proofs.Items.{kept}
 use Rattle.psg_sound.specs.SynthSpelling.{synth_fields}
-use Rattle.psg_sound.proofs.SynthBytes.{synth_size}
+use Rattle.psg_sound.proofs.SynthBytes.{table}
 use Rattle.psg_sound.proofs.spelling.saved_of.Goals as goal
 
 pub first_invalid-requires : goal.first_invalid-requires
-first_invalid-requires c = omega (arith, ap sizes c.fields.ensures.fields ∙ synth_size c.read-saved.result)
+first_invalid-requires c = omega (arith, ap sizes c.fields.ensures.fields ∙ table.sized c.read-saved.result)
 
 pub returns-in-Some-clause-refused : goal.returns-in-Some-clause-refused
 returns-in-Some-clause-refused c = inr (record {

@@ -1,10 +1,9 @@
-use Rattle.std.proofs.Common.{◌≡◌, ◌∙◌, ◌++◌, ◌*◌, ◌-◌, List, ℕ, length, map, replicate, subst, true, ap, append_assoc}
+use Rattle.std.proofs.Common.{◌≡◌, ◌∙◌, ◌++◌, ◌*◌, ◌-◌, List, ℕ, length, replicate, ap, append_assoc}
 use Rattle.std.specs.Int.{w16, to_be_bytes}
-use Rattle.sound_writes.specs.Entries.{AreFit, entries_bytes}
-use Rattle.sound_writes.specs.Keys.{are_kept}
-use Rattle.psg_sound.specs.PortSpelling.{SpellsPort, key_of, port_bytes, write_fields}
+use Rattle.sound_writes.specs.Entries.{entries_bytes}
+use Rattle.psg_sound.specs.PortSpelling.{port_bytes, write_fields}
 use Rattle.psg_sound.specs.declared.write.PsgWrite.{PsgWrite}
-use Rattle.psg_sound.proofs.PortBytes.{entries_size, parts_are, port_kept}
+use Rattle.psg_sound.proofs.PortBytes.{map_same, parts_are}
 use Rattle.psg_sound.proofs.port.PsgPort.spell.Goals as goal
 
 -- three parts after what was there
@@ -19,12 +18,9 @@ returns-clause-bytes c =
     let ws : List PsgWrite = c.self.inside.writes.items in
     parts c.args.into.now.items _ _ _ _ (to_be_bytes w16 (length ws)) (entries_bytes write_fields ws) (replicate (10 * (1024 - length ws)) 0)
     (c.put_count.ensures.bytes ∙ ap (λ (n : ℕ). c.args.into.now.items ++ to_be_bytes w16 n) c.len-count.ensures.value)
-    (c.put_writes.ensures.bytes ∙ ap (λ (l : List PsgWrite). c.put_count.new.into.items ++ entries_bytes write_fields l) c.as_slice.ensures.value)
+    (c.put_writes.ensures.bytes ∙ ap (λ (l : List PsgWrite). c.put_count.new.into.items ++ entries_bytes write_fields l) (map_same _ ∙ c.as_slice.ensures.value))
     (c.put_zeros.ensures.bytes ∙ ap (λ (n : ℕ). c.put_writes.new.into.items ++ replicate (10 * (1024 - n)) 0) c.len-count.ensures.value)
-    (parts_are ws (entries_size ws) ∙ ap port_bytes c.self.view_is)
+    (parts_are ws ∙ ap port_bytes c.self.view_is)
 
 pub returns-clause-kept : goal.returns-clause-kept
-returns-clause-kept c =
-    let ws : List PsgWrite = c.self.inside.writes.items in
-    let fit : AreFit write_fields ws = subst (AreFit write_fields) c.as_slice.ensures.value c.put_writes.ensures.fit in
-    subst (λ (l : List PsgWrite). (at : ℕ) → are_kept at (map key_of l) ≡ true → SpellsPort at (port_bytes l) l) c.self.view_is (λ at kept. port_kept at ws c.self.invariant fit kept)
+returns-clause-kept c = c.is_read_again.ensures

@@ -3,11 +3,11 @@ use Rattle.md_fields.specs.Fields.{sizes, spelling}
 use Rattle.md_fields.proofs.Standing.{long_as_sized}
 use Rattle.psg_sound.specs.SynthSpelling.{synth_fields}
 use Rattle.psg_sound.specs.declared.saved_synth.SavedSynth.{SavedSynth}
-use Rattle.psg_sound.proofs.SynthBytes.{synth_size}
+use Rattle.psg_sound.proofs.SynthBytes.{table}
 use Rattle.psg_sound.proofs.synth.PsgSynth.spell.Goals as goal
 
 pub put-requires : goal.put-requires
-put-requires c = omega (arith, long_as_sized _ c.fields.ensures.sizes ∙ ap sizes c.fields.ensures.fields ∙ synth_size c.saved.result, c.requires)
+put-requires c = omega (arith, long_as_sized _ c.fields.ensures.sizes ∙ ap sizes c.fields.ensures.fields ∙ table.sized c.saved.result, c.requires)
 
 pub returns-clause-bytes : goal.returns-clause-bytes
 returns-clause-bytes c =
@@ -16,4 +16,4 @@ returns-clause-bytes c =
 
 pub returns-clause-length : goal.returns-clause-length
 returns-clause-length c =
-    omega (arith, long_as_sized _ c.fields.ensures.sizes ∙ ap sizes c.fields.ensures.fields ∙ synth_size c.saved.result, c.put.ensures.length)
+    omega (arith, long_as_sized _ c.fields.ensures.sizes ∙ ap sizes c.fields.ensures.fields ∙ table.sized c.saved.result, c.put.ensures.length)
