@@ -1,10 +1,10 @@
 -- Laws of the writes of a port as a saved state keeps them.
-use Rattle.std.proofs.Common.{◌≡◌, ℕ, ◌+◌, ◌*◌, ◌-◌, ◌<◌, ◌≤◌, Bool, true, false, List, [], ◌∷◌, ◌++◌, length, map, take, drop, replicate, take_all, None, Some, refl, sym, ap, ◌∙◌, arith}
+use Rattle.std.proofs.Common.{◌≡◌, ℕ, ◌+◌, ◌*◌, ◌-◌, ◌<◌, ◌≤◌, Bool, true, false, List, [], ◌∷◌, ◌++◌, length, map, take, drop, replicate, None, Some, refl, sym, ap, ◌∙◌, arith}
 use Rattle.std.specs.Prelude.{All, ◌&&◌, nat_le}
 use Rattle.std.specs.Int.{w16, to_be_bytes}
 use Rattle.std.specs.List.{list_all}
 use Rattle.std.proofs.lemmas.Bool.{and_parts, le-leb, leb-true, lt-leb, ltb-true}
-use Rattle.std.proofs.lemmas.List.{append-nil, length-drop, take_at}
+use Rattle.std.proofs.lemmas.List.{append-nil, take_at}
 use Rattle.std.proofs.lemmas.List.Elements.{All-cons, All-nil}
 use Rattle.md_word.specs.declared.key.Key.{Key}
 use Rattle.md_fields.specs.Fields.{AreWithin, Field, first_invalid, spelling}
@@ -76,10 +76,6 @@ list_right place total holds count entries e = rw e refl
 pub record Room (size total : ℕ) : Type 0 where
   pub few : (count : ℕ) → count ≤ limit → size * count ≤ total
   pub unused : (count : ℕ) → size * (limit - count) ≡ total - size * count
-
--- what is after so many writes
-pub left_there : (past total : ℕ) (entries : List ℕ) → length entries ≡ total → take (total - past) (drop past entries) ≡ drop past entries
-left_there past total entries long = take_all (total - past) (drop past entries) (omega (arith, long, length-drop past entries))
 
 module _ {E : Type 0} {size total : ℕ} {fields : E → List Field} {entry : ℕ → List ℕ → E} (layout : Layout size fields entry) (room : Room size total) where
   -- the entries that are read, where there are few and zeros after them, are kept so

@@ -1,5 +1,5 @@
 -- Keys looked at one by one are those that a port holds.
-use Rattle.std.proofs.Common.{◌≡◌, ℕ, zero, suc, ◌+◌, ◌<◌, ◌^◌, Bool, true, false, cond, eqb, List, [], ◌∷◌, refl, sym, ap, ◌∙◌, arith, ◌≤◌, ◌-◌, length, get_or, map, take, drop, take_all}
+use Rattle.std.proofs.Common.{◌≡◌, ℕ, zero, suc, ◌+◌, ◌<◌, ◌^◌, Bool, true, false, cond, eqb, List, [], ◌∷◌, refl, sym, ap, ◌∙◌, arith}
 use Rattle.std.specs.Prelude.{◌&&◌, ◌||◌, nat_le, nat_lt, max}
 use Rattle.std.specs.List.{list_all}
 use Rattle.std.proofs.lemmas.Bool.{and_parts, le-ltb, ltb-true}
@@ -82,33 +82,3 @@ pub all_kept : (at : ℕ) (keys : List Key) → at < 2 ^ 64 → all_fit at (foll
 all_kept at keys few =
     all_fit_is at few (following_batch at) keys
     ∙ ap (λ (b : Bool). b && are_spaced keys) (all_same (fits at (following_batch at)) (is_kept at) keys (first_fits at))
-
--- one key more, and none
-all_fit_more : (at : ℕ) (e : Earliest) (key : Key) (rest : List Key) → fits at e key ≡ true → all_fit at e (key ∷ rest) ≡ all_fit at (after key e) rest
-unfolding all_fit
-all_fit_more at e key rest fit = ap (λ (b : Bool). b && all_fit at (after key e) rest) fit
-
-all_fit_not : (at : ℕ) (e : Earliest) (key : Key) (rest : List Key) → fits at e key ≡ false → all_fit at e (key ∷ rest) ≡ false
-unfolding all_fit
-all_fit_not at e key rest fit = ap (λ (b : Bool). b && all_fit at (after key e) rest) fit
-
--- ---- the keys of writes that are left of a list
-
-all_there : {W : Type 0} (ws : List W) (n : ℕ) → n ≡ length ws → take n ws ≡ ws
-all_there {W = W} ws n e = ap (λ (k : ℕ). take {A = W} k ws) e ∙ take_all (length ws) ws (omega arith)
-
-pub fits_next : {W : Type 0} (key_of : W → Key) (at : ℕ) (e : Earliest) (ws : List W) (d : W) (n : ℕ) → 1 ≤ length ws → n ≡ length ws - 1
-    → fits at e (key_of (get_or ws 0 d)) ≡ true → all_fit at (after (key_of (get_or ws 0 d)) e) (map key_of (take n (drop 1 ws))) ≡ all_fit at e (map key_of ws)
-fits_next key_of at e [] d n more same fit = absurd (omega (arith, more))
-fits_next {W = W} key_of at e (w ∷ ws) d n more same fit =
-    ap (λ (l : List W). all_fit at (after (key_of w) e) (map key_of l)) (all_there ws n (omega (arith, same))) ∙ sym (all_fit_more at e (key_of w) (map key_of ws) fit)
-
-pub fits_not : {W : Type 0} (key_of : W → Key) (at : ℕ) (e : Earliest) (ws : List W) (d : W) → 1 ≤ length ws → fits at e (key_of (get_or ws 0 d)) ≡ false
-    → all_fit at e (map key_of ws) ≡ false
-fits_not key_of at e [] d more fit = absurd (omega (arith, more))
-fits_not key_of at e (w ∷ ws) d more fit = all_fit_not at e (key_of w) (map key_of ws) fit
-
-pub fits_all : {W : Type 0} (key_of : W → Key) (at : ℕ) (e : Earliest) (ws : List W) → length ws < 1 → all_fit at e (map key_of ws) ≡ true
-unfolding all_fit
-fits_all key_of at e [] none = refl
-fits_all key_of at e (w ∷ ws) none = absurd (omega (arith, none))
