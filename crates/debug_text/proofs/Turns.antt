@@ -1,7 +1,7 @@
 -- One more item of a reply.
 use Rattle.std.proofs.Common.{◌≡◌, ℕ, suc, ◌+◌, ◌-◌, ◌<◌, ◌==◌, if◌then◌else◌, List, [], ◌++◌, codes, refl, sym, ap, ◌∙◌, append_assoc, add-one, arith}
 use Rattle.md_word.specs.declared.regs.Regs.{Regs}
-use Rattle.m68k_exec.specs.Access.Memory.{bus_address, byte_at}
+use Rattle.m68k_access.specs.Memory.{bus_address, byte_at}
 use Rattle.md_disasm.specs.Digits.{marked_byte}
 use Rattle.debug_text.specs.Replies.{bytes_text, instruction_at, instruction_line, instruction_reply, register_text, registers_text}
 

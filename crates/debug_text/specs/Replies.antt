@@ -4,7 +4,7 @@ use Rattle.md_word.specs.declared.regs.Regs.{Regs}
 use Rattle.md_word.specs.Fields.{register_of}
 use Rattle.m68k_decode.specs.Instructions.{instruction_of}
 use Rattle.m68k_decode.specs.declared.decoded.Decoded.{Decoded}
-use Rattle.m68k_exec.specs.Access.Memory.{Memory, bus_address, byte_at, instruction_words}
+use Rattle.m68k_access.specs.Memory.{Memory, bus_address, byte_at, instruction_words}
 use Rattle.md_disasm.specs.Digits.{marked_byte, marked_digit, marked_long, marked_word}
 use Rattle.md_disasm.specs.Texts68.{text_of}
 

@@ -1,10 +1,10 @@
 ghost use Rattle.std.specs.Prelude.{◌≡◌, ◌<◌, ◌≤◌, ◌%◌, ◌^◌, ◌==◌, if◌then◌else◌, [], codes, string_bytes, IfOk};
-ghost use Rattle.m68k_exec.specs.Access.Memory as seen;
+ghost use Rattle.m68k_access.specs.Memory as seen;
 ghost use Rattle.md_disasm.specs.Appends.{Appends};
 ghost use Rattle.debug_text.specs.Replies as replies;
 
+use m68k_access::memory::word_at;
 use m68k_decode::{Decoded, decode};
-use m68k_exec::word_at;
 use md_disasm::{put_marked_byte, put_marked_long, text68};
 use md_word::NoMemory;
 use std::alloc::Global;
@@ -20,7 +20,7 @@ const OPEN_BUS: u8 = 0xff;
 
 /// The byte that the 68000 sees at an address without an access that it shares: of the cartridge or
 /// of work RAM, and FFh elsewhere.
-#[tactic(auto, unfolding(m68k_exec::specs::Access::Memory::byte_at))]
+#[tactic(auto, unfolding(m68k_access::specs::Memory::byte_at))]
 fn byte_at(rom: &[u8], ram: &[u8; 65536], address: u32) -> u8
     ensures { result ≡ seen.byte_at rom.now ram.now (seen.bus_address address) }
 {
@@ -35,7 +35,7 @@ fn byte_at(rom: &[u8], ram: &[u8; 65536], address: u32) -> u8
 }
 
 /// The word of an instruction at an even address.
-#[tactic(auto, unfolding(m68k_exec::specs::Access::Memory::instruction_word))]
+#[tactic(auto, unfolding(m68k_access::specs::Memory::instruction_word))]
 fn instruction_word(rom: &[u8], ram: &[u8; 65536], address: u32) -> u16
     requires { address % 2 ≡ 0 }
     ensures { result ≡ seen.instruction_word address (replies.memory_of rom.now ram.now) }
@@ -44,7 +44,7 @@ fn instruction_word(rom: &[u8], ram: &[u8; 65536], address: u32) -> u16
 }
 
 /// The instruction at an even address.
-#[tactic(auto, unfolding(m68k_exec::specs::Access::Memory::instruction_words))]
+#[tactic(auto, unfolding(m68k_access::specs::Memory::instruction_words))]
 fn instruction_at(rom: &[u8], ram: &[u8; 65536], at: u32) -> Decoded
     requires even { at % 2 ≡ 0 }
     requires bus { at < 2 ^ 24 }

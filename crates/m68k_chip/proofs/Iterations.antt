@@ -9,7 +9,7 @@ use Rattle.md_word.specs.declared.main_bus.Request68.{Request68}
 use Rattle.md_word.specs.declared.main_bus.Transfer.{Transfer}
 use Rattle.md_word.specs.declared.regs.Regs.{Regs}
 use Rattle.m68k_exec.specs.Sample.Samples.{Ended}
-use Rattle.m68k_exec.specs.declared.access.stop.Stop.{Stop}
+use Rattle.m68k_access.specs.declared.stop.Stop.{Stop}
 use Rattle.m68k_exec.specs.declared.sample.step.Predicted.{Predicted}
 use Rattle.m68k_chip.specs.Cases.{case_of, cause_of, mask_of}
 use Rattle.m68k_chip.specs.Events.{WentAhead, answered, asking, at_sample, at_word, begun, begun_after, begun_with, came_to, carried_out, end_of, finished, left_by, rested, step, waited, went_on}

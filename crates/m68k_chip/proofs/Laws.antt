@@ -9,12 +9,12 @@ use Rattle.md_word.specs.declared.main_bus.Answer68.{Answer68}
 use Rattle.md_word.specs.declared.main_bus.Request68.{Request68}
 use Rattle.md_word.specs.declared.main_bus.Transfer.{Transfer}
 use Rattle.rom_header.specs.Cartridge.{IsImage}
-use Rattle.m68k_exec.specs.Access.Memory.{ram_after, stored}
-use Rattle.m68k_exec.specs.Laws.{SameBelow}
+use Rattle.m68k_access.specs.Memory.{ram_after, stored}
+use Rattle.m68k_access.specs.Laws.{SameBelow}
 use Rattle.m68k_exec.specs.Sample.Bounds.{IsStatus}
 use Rattle.m68k_exec.specs.Sample.Samples.{Ended}
-use Rattle.m68k_exec.specs.declared.access.stop.Stop.{Stop}
-use Rattle.m68k_exec.specs.declared.access.stop.Stop.TheVariants.{Ask, Odd}
+use Rattle.m68k_access.specs.declared.stop.Stop.{Stop}
+use Rattle.m68k_access.specs.declared.stop.Stop.TheVariants.{Ask, Odd}
 use Rattle.m68k_exec.proofs.Bounds.KeepsSamples.{status_kept}
 use Rattle.m68k_exec.proofs.Bounds.Spends.{never_odd, waits}
 use Rattle.m68k_exec.proofs.Later.Samples as later
@@ -266,7 +266,7 @@ answered-ok v answer ok kind fits = answered-by v.state.stage v answer ok ok.sta
 -- what waited takes more than the answers that it had: with no more it would wait again
 answers-same : (cart ram answers : List ℕ) (x count : ℕ) → count ≤ length answers
     → SameBelow count (record { rom = cart; ram = ram; answers = answers ++ x ∷ [] }) (record { rom = cart; ram = ram; answers = answers })
-answers-same cart ram answers x count few = record { rom = refl; ram = refl; enough = few; answers = λ k less. sym (get_or_append_left answers (x ∷ []) 0 k (omega (arith, less, few))) }
+answers-same cart ram answers x count few = record { same = refl; enough = few; answers = λ k less. sym (get_or_append_left answers (x ∷ []) 0 k (omega (arith, less, few))) }
 
 different : (ended : Ended) (stop : Stop) → Ok ended ≡ Err stop → ⊥
 different ended stop e = cc

@@ -9,7 +9,7 @@ use Rattle.m68k_time.specs.Clocks.{clocks_of}
 use Rattle.m68k_exec.specs.Sample.Bounds.{Fits}
 use Rattle.m68k_exec.proofs.Bounds.CountsFew.{row_counted}
 use Rattle.m68k_exec.proofs.Bounds.Spends.{names, spends}
-use Rattle.m68k_exec.specs.Access.Memory.{Memory, instruction_words}
+use Rattle.m68k_access.specs.Memory.{Memory, instruction_words}
 use Rattle.m68k_exec.specs.Sample.Samples.{Ended, sampled}
 
 -- four clocks for each access, and four more

@@ -9,8 +9,8 @@ use Rattle.md_word.specs.declared.main_bus.Request68.{Request68}
 use Rattle.md_word.specs.declared.main_bus.Request68.TheVariants.{Read8, Read16, Write8, Write16, Ack, Word as TransferWord}
 use Rattle.rom_header.specs.Cartridge.{IsImage}
 use Rattle.m68k_exec.specs.Sample.Samples.{Ended}
-use Rattle.m68k_exec.specs.declared.access.stop.Stop.{Stop}
-use Rattle.m68k_exec.specs.declared.access.stop.Stop.TheVariants.{Ask, Odd}
+use Rattle.m68k_access.specs.declared.stop.Stop.{Stop}
+use Rattle.m68k_access.specs.declared.stop.Stop.TheVariants.{Ask, Odd}
 use Rattle.m68k_chip.specs.Events.{carried_out, step}
 use Rattle.m68k_chip.specs.Numbers.{Numbers68, stage_of, state_from}
 use Rattle.m68k_chip.specs.Resuming.{are_answered, asked_after, asked_in, asks_at, asks_more, is_answer_to, is_answer}

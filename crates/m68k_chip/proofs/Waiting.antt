@@ -5,8 +5,8 @@ use Rattle.md_word.specs.declared.main_bus.Request68.{Request68}
 use Rattle.md_word.specs.declared.main_bus.Transfer.{Transfer}
 use Rattle.m68k_exec.specs.Sample.Samples.{Ended}
 use Rattle.m68k_exec.specs.declared.sample.step.Predicted.{Predicted}
-use Rattle.m68k_exec.specs.declared.access.stop.Stop.{Stop}
-use Rattle.m68k_exec.specs.declared.access.stop.Stop.TheVariants.{Ask, Odd}
+use Rattle.m68k_access.specs.declared.stop.Stop.{Stop}
+use Rattle.m68k_access.specs.declared.stop.Stop.TheVariants.{Ask, Odd}
 use Rattle.m68k_exec.proofs.Bounds.Spends.{never_odd}
 use Rattle.m68k_chip.specs.Events.{at_sample, at_word, came_to, carried_out, finished, left_by, next_source, waited, went_on, with_started, word_moved}
 use Rattle.m68k_chip.specs.Held.{PredictsEnd, IsPredicted, WaitsFor}

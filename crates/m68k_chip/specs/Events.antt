@@ -6,10 +6,10 @@ use Rattle.md_word.specs.declared.main_bus.Request68.{Request68}
 use Rattle.md_word.specs.declared.main_bus.Request68.TheVariants as requests
 use Rattle.md_word.specs.declared.main_bus.Transfer.{Transfer}
 use Rattle.m68k_time.specs.Clocks.{clocks_of}
-use Rattle.m68k_exec.specs.Access.Memory.{ram_after, word_at}
+use Rattle.m68k_access.specs.Memory.{ram_after, word_at}
 use Rattle.m68k_exec.specs.Sample.Samples.{Ended, sampled}
-use Rattle.m68k_exec.specs.declared.access.stop.Stop.{Stop}
-use Rattle.m68k_exec.specs.declared.access.stop.Stop.TheVariants.{Ask}
+use Rattle.m68k_access.specs.declared.stop.Stop.{Stop}
+use Rattle.m68k_access.specs.declared.stop.Stop.TheVariants.{Ask}
 use Rattle.m68k_chip.specs.Cases.{case_of, cause_of}
 use Rattle.m68k_chip.specs.States.{State68, next_of, none_left}
 use Rattle.m68k_chip.specs.declared.stage.Stage.{Stage}

@@ -3,8 +3,8 @@ use Rattle.std.specs.Prelude.{◌≡◌, ℕ, List, Option, Some, Result, Ok, Er
 use Rattle.md_word.specs.declared.main_bus.Request68.{Request68}
 use Rattle.md_word.specs.declared.regs.Regs.{Regs}
 use Rattle.m68k_exec.specs.Sample.Samples.{Ended}
-use Rattle.m68k_exec.specs.declared.access.stop.Stop.{Stop}
-use Rattle.m68k_exec.specs.declared.access.stop.Stop.TheVariants.{Ask, Odd}
+use Rattle.m68k_access.specs.declared.stop.Stop.{Stop}
+use Rattle.m68k_access.specs.declared.stop.Stop.TheVariants.{Ask, Odd}
 use Rattle.m68k_exec.specs.declared.sample.step.Finish.{Finish}
 use Rattle.m68k_exec.specs.declared.sample.step.Predicted.{Predicted}
 use Rattle.m68k_chip.specs.Held.{PredictsEnd}

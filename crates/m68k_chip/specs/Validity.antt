@@ -6,7 +6,7 @@ use Rattle.md_word.specs.declared.main_bus.Request68.TheVariants.{Read8, Read16,
 use Rattle.md_word.specs.declared.main_bus.Transfer.{Transfer}
 use Rattle.rom_header.specs.Cartridge.{IsImage}
 use Rattle.m68k_exec.specs.Sample.Bounds.{IsStatus}
-use Rattle.m68k_exec.specs.declared.access.stop.Stop.TheVariants.{Ask}
+use Rattle.m68k_access.specs.declared.stop.Stop.TheVariants.{Ask}
 use Rattle.m68k_chip.specs.Events.{carried_out, step}
 use Rattle.m68k_chip.specs.States.{State68, none_left}
 use Rattle.m68k_chip.specs.declared.stage.Stage.{Stage}

@@ -1,7 +1,7 @@
 //! The accesses of the 68000: what each asks for, and what its answer leads to.
 ghost use Rattle.std.specs.Prelude.{◌≡◌, ◌^◌, ◌<◌, ℕ, List, [], false};
 ghost use Rattle.arrayvec.specs.ArrayVec.{array_vec_len};
-ghost use Rattle.m68k_exec.specs.Access.Memory.{word_at};
+ghost use Rattle.m68k_access.specs.Memory.{word_at};
 ghost use Rattle.m68k_exec.specs.Sample.Caches.{IsCacheOf};
 ghost use Rattle.m68k_chip.specs.Events as events;
 ghost use Rattle.m68k_chip.specs.Events.{answered, answered_at, request_at};

@@ -1,7 +1,7 @@
 //! What the 68000 carries out: an instruction, a trace or an interrupt, up to its end or to an access.
 ghost use Rattle.std.specs.Prelude.{◌≡◌, ◌^◌, ◌<◌, ℕ, List, [], Some, length};
 ghost use Rattle.m68k_time.specs.Clocks.{clocks_of};
-ghost use Rattle.m68k_exec.specs.Access.Memory.{ram_after};
+ghost use Rattle.m68k_access.specs.Memory.{ram_after};
 ghost use Rattle.m68k_exec.specs.Sample.Caches.{IsCacheOf};
 ghost use Rattle.m68k_chip.specs.Events as events;
 ghost use Rattle.m68k_chip.specs.Events.{carried_out, end_of, went_on};

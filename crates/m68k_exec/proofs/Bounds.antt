@@ -1,4 +1,3 @@
-pub mod Aligned
 pub mod CountsFew
 pub mod Early
 pub mod Keeps

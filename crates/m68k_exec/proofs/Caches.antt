@@ -5,7 +5,7 @@ use Rattle.std.specs.List.{All}
 use Rattle.std.proofs.lemmas.List.Elements.{All-get_or}
 use Rattle.m68k_decode.specs.Fields.{opcode}
 use Rattle.m68k_decode.specs.Instructions.{instruction_of}
-use Rattle.m68k_exec.specs.Access.Memory.{Memory, bus_address, byte_at, instruction_word, instruction_words, word_at}
+use Rattle.m68k_access.specs.Memory.{Memory, bus_address, byte_at, instruction_word, instruction_words, word_at}
 use Rattle.m68k_exec.specs.Sample.Caches.{IsCacheOf, IsEntryOf, IsFixed, IsInstructionAt, entry_of, place_of}
 use Rattle.m68k_exec.specs.declared.sample.cache.CachedInstruction.{CachedInstruction}
 use Rattle.m68k_exec.specs.declared.sample.cache.DecodeCache.{DecodeCache}

@@ -1,6 +1,4 @@
-pub mod Accesses
 pub mod First
 pub mod Operations
 pub mod Rows
 pub mod Samples
-pub mod Shapes

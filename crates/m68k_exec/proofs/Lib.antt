@@ -1,10 +1,6 @@
 pub mod Bounds
 pub mod Caches
-pub mod Compares
-pub mod Prediction
 pub mod Later
+pub mod Prediction
 pub mod Pushes
-pub mod Stack
-pub mod Taken
-pub mod Touches
 pub mod Turns

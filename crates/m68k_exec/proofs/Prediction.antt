@@ -1,7 +1,6 @@
 -- What follows a write that waits for its answer.
-use Rattle.std.proofs.Common.{◌≡◌, ℕ, ◌+◌, ◌%◌, ◌/◌, ◌^◌, ◌<◌, ◌≤◌, ◌∙◌, Bool, true, false, nat_lt, List, [], ◌∷◌, length, length-append, Result, Ok, Err, refl, sym, ap, subst, arith}
+use Rattle.std.proofs.Common.{◌≡◌, ℕ, ◌+◌, ◌%◌, ◌/◌, ◌^◌, ◌<◌, ◌≤◌, ◌∙◌, Bool, true, false, nat_lt, List, [], length, Result, Ok, Err, refl, sym, ap, subst, arith}
 use Rattle.std.proofs.lemmas.Bool.Decides.{nat_tests}
-use Rattle.std.proofs.lemmas.List.{get_or_append_left}
 use Rattle.md_word.specs.Fields.{flags_of, with_flags}
 use Rattle.md_word.specs.declared.main_bus.Request68.{Request68}
 use Rattle.md_word.specs.declared.main_bus.Request68.TheVariants.{Write8, Write16}
@@ -19,27 +18,29 @@ use Rattle.m68k_decode.specs.Ops.{moves_of}
 use Rattle.m68k_decode.specs.declared.decoded.Decoded.{Decoded}
 use Rattle.m68k_decode.specs.declared.op.Op.{Op}
 use Rattle.m68k_ea.specs.Steps.{stepped}
-use Rattle.m68k_exec.specs.Access.Actions as actions
-use Rattle.m68k_exec.specs.Access.Actions.{Act, Done, is_odd}
-use Rattle.m68k_exec.specs.Access.Memory.{Memory, bus_address, instruction_word, instruction_words}
-use Rattle.m68k_exec.specs.Access.Operands as operands
-use Rattle.m68k_exec.specs.Access.Operands.{Operand}
-use Rattle.m68k_exec.specs.Access.Outcomes.{Outcome, plain}
-use Rattle.m68k_exec.specs.Access.Shapes.{following}
-use Rattle.m68k_exec.specs.Laws.{SameBelow}
+use Rattle.m68k_access.specs.Actions as actions
+use Rattle.md_word.specs.Answers.{Done}
+use Rattle.m68k_access.specs.Actions.{Act, is_odd}
+use Rattle.m68k_access.specs.Memory.{Memory, bus_address, instruction_word, instruction_words}
+use Rattle.m68k_access.specs.Operands as operands
+use Rattle.m68k_access.specs.Operands.{Operand}
+use Rattle.m68k_access.specs.Outcomes.{Outcome, plain}
+use Rattle.m68k_access.specs.Shapes.{following}
+use Rattle.m68k_access.specs.Laws.{answers_of, private_of}
+use Rattle.md_word.proofs.Answered.{answered-same, as-last, one-longer}
 use Rattle.m68k_exec.specs.Rows.Moves as moves
 use Rattle.m68k_exec.specs.Rows.Moves.{after_source}
 use Rattle.m68k_exec.specs.Sample.Execution.{row}
 use Rattle.m68k_exec.specs.Sample.Prediction.{EndsPredicted, FinishesPredicted, Predicts, WaitsForLast, all_answered, answered_with}
 use Rattle.m68k_exec.specs.Sample.Samples as samples
 use Rattle.m68k_exec.specs.Sample.Samples.{nothing, reported_by}
-use Rattle.m68k_exec.specs.declared.access.stop.Stop.{Stop}
-use Rattle.m68k_exec.specs.declared.access.stop.Stop.TheVariants.{Ask, Odd}
+use Rattle.m68k_access.specs.declared.stop.Stop.{Stop}
+use Rattle.m68k_access.specs.declared.stop.Stop.TheVariants.{Ask, Odd}
 use Rattle.m68k_exec.specs.declared.sample.step.Predicted.{Predicted}
 use Rattle.m68k_exec.specs.declared.sample.step.Step.{Step}
 use Rattle.m68k_exec.specs.declared.sample.step.Step.TheVariants as steps
-use Rattle.m68k_exec.proofs.Later.Accesses as later
-use Rattle.m68k_exec.proofs.Taken.{answered, with_word-used}
+use Rattle.m68k_access.proofs.Later.Accesses as later
+use Rattle.m68k_access.proofs.Taken.{answered, with_word-used}
 
 -- where nothing is known nothing is predicted
 pub nothing_predicted : {A : Type 0} (result : Result A Stop) (predicted : Predicted) (act : Act Outcome) (memory : Memory) (done : Done) → predicted.known ≡ false → Predicts result predicted act memory done
@@ -52,26 +53,12 @@ nothing_waits (Ok x) predicted regs act given memory done none = none
 nothing_waits (Err (Ask request)) predicted regs act given memory done none = λ known. absurd (let no_way = sym none ∙ known in cc)
 nothing_waits (Err (Odd address read used)) predicted regs act given memory done none = none
 
--- ---- one answer more
-
-one-longer : (value : ℕ) (memory : Memory) → length (answered_with value memory).answers ≡ length memory.answers + 1
-one-longer value memory = length-append memory.answers (value ∷ [])
-
--- what was taken is the same
-answered-same : (count value : ℕ) (memory : Memory) → count ≤ length memory.answers → SameBelow count memory (answered_with value memory)
-answered-same count value memory few = record {
-  rom = refl;
-  ram = refl;
-  enough = (let e = one-longer value memory in omega (arith, e, few));
-  answers = λ k below. get_or_append_left memory.answers (value ∷ []) 0 k (omega (arith, below, few));
-}
-
 -- ---- a write that waits
 
 reported-following : (request : Request68) (memory : Memory) (done : Done) (value : ℕ) → done.used ≡ length memory.answers → actions.reported request (answered_with value memory) done ≡ Ok (tt, record done { used = length memory.answers + 1 })
 unfolding actions.reported
 reported-following request memory done value last =
-    let e = one-longer value memory in
+    let e = one-longer value memory.answers in
     let more : nat_lt done.used (length (answered_with value memory).answers) ≡ true = grind (arith, nat_tests, e, last) in
     rw (answered request (answered_with value memory) done more) (rw last refl)
 
@@ -143,24 +130,21 @@ long-by address written memory done request value (Ok x) e g last =
       | one is ↦
           let used : x.1.used ≡ done.used + 1 = ap (λ (d : Done). d.used) is in
           let all : x.1.used ≡ length memory.answers = omega (arith, used, last) in
-          let again = (later.write_word address (written / 0x1_0000)).value memory (answered_with value memory) done x.0 x.1 e (answered-same x.1.used value memory (omega (arith, all))) in
+          let again = (later.write_word address (written / 0x1_0000)).value memory (answered_with value memory) done x.0 x.1 e (answered-same private_of answers_of x.1.used value memory (answered_with value memory) refl refl (omega (arith, all))) in
           let following = word-following ((address + 2) % 2 ^ 32) (written % 0x1_0000) memory x.1 request value g all in
           rw again (rw following (ap (λ (d : Done). Ok (tt, record d { used = length memory.answers + 1 })) is))
       | none same ↦ absurd (omega (arith, same, late, last))
     ]
 
-as-last : (memory : Memory) (done : Done) → done.writes ≡ [] → record done { used = length memory.answers + 1 } ≡ all_answered memory
-as-last memory done empty = ap (λ (w : List (ℕ × ℕ)). record { used = length memory.answers + 1; writes = w }) empty
-
 pub write-following : (size : Size) (address written : ℕ) (memory : Memory) (done : Done) (request : Request68) → actions.write size address written memory done ≡ Err (Ask request) → done.used + moves_of size ≡ length memory.answers + 1 → done.writes ≡ []
     → (value : ℕ) → actions.write size address written (answered_with value memory) done ≡ Ok (tt, all_answered memory)
 unfolding actions.write actions.write_long
 write-following Byte address written memory done request e last empty value =
-    byte-following address written memory done request value e (omega (arith, last)) ∙ ap (λ (d : Done). Ok (tt, d)) (as-last memory done empty)
+    byte-following address written memory done request value e (omega (arith, last)) ∙ ap (λ (d : Done). Ok (tt, d)) (as-last (length memory.answers + 1) done empty)
 write-following Word address written memory done request e last empty value =
-    word-following address written memory done request value e (omega (arith, last)) ∙ ap (λ (d : Done). Ok (tt, d)) (as-last memory done empty)
+    word-following address written memory done request value e (omega (arith, last)) ∙ ap (λ (d : Done). Ok (tt, d)) (as-last (length memory.answers + 1) done empty)
 write-following Long address written memory done request e last empty value =
-    long-by address written memory done request value (actions.write_word address (written / 0x1_0000) memory done) refl e last ∙ ap (λ (d : Done). Ok (tt, d)) (as-last memory done empty)
+    long-by address written memory done request value (actions.write_word address (written / 0x1_0000) memory done) refl e last ∙ ap (λ (d : Done). Ok (tt, d)) (as-last (length memory.answers + 1) done empty)
 
 pub few-taken : (size : Size) (used count : ℕ) → used + moves_of size ≡ count + 1 → used ≤ count
 few-taken Byte used count e = omega (arith, e)
@@ -176,7 +160,7 @@ pub move-following : (size : Size) (source target : Mode) (start : ℕ) (regs : 
     ≡ Ok (plain (with_flags (stepped target size from.regs) (computed tasks.Move size from.value from.value (flags_of regs)).flags), all_answered memory)
 unfolding moves.move_operand
 move-following size source target start regs memory done from mid value loaded few stored =
-    let again = (later.load source size (following start 2) regs).value memory (answered_with value memory) done from mid loaded (answered-same mid.used value memory few) in
+    let again = (later.load source size (following start 2) regs).value memory (answered_with value memory) done from mid loaded (answered-same private_of answers_of mid.used value memory (answered_with value memory) refl refl few) in
     rw again (rw stored refl)
 
 -- ---- the sample

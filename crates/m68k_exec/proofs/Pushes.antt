@@ -1,9 +1,10 @@
 -- A word of a frame is pushed, and what is left after it.
 use Rattle.std.proofs.Common.{◌≡◌, ℕ, suc, ◌+◌, ◌-◌, ◌%◌, ◌^◌, ◌<◌, List, Ok, refl, arith}
 use Rattle.std.specs.Prelude.{slice_index}
-use Rattle.m68k_exec.specs.Access.Actions.{Done, go_on, write_word}
+use Rattle.md_word.specs.Answers.{Done}
+use Rattle.m68k_access.specs.Actions.{go_on, write_word}
 use Rattle.m68k_exec.specs.Sample.Entries.{places, pushed}
-use Rattle.m68k_exec.specs.Access.Memory.{Memory}
+use Rattle.m68k_access.specs.Memory.{Memory}
 
 pub push_step : (count k : ℕ) (words : List ℕ) (stack : ℕ) (memory : Memory) (done : Done) → k < count → pushed (count - k) k words stack memory done ≡ go_on (write_word ((stack + 2 ^ 32 - slice_index places k) % 2 ^ 32) (slice_index words k) memory done) (λ x after. pushed (count - (k + 1)) (k + 1) words stack memory after)
 push_step count k words stack memory done h =

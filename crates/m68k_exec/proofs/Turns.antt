@@ -7,13 +7,14 @@ use Rattle.md_word.specs.Coding.{flag_number}
 use Rattle.md_word.specs.Width.{extended, modulus_of}
 use Rattle.md_word.specs.declared.regs.Regs.{Regs}
 use Rattle.md_word.specs.declared.size.Size.{Size}
-use Rattle.m68k_exec.specs.Access.Actions.{Done, go_on, read, write}
-use Rattle.m68k_exec.specs.Access.Memory.{Memory}
+use Rattle.md_word.specs.Answers.{Done}
+use Rattle.m68k_access.specs.Actions.{go_on, read, write}
+use Rattle.m68k_access.specs.Memory.{Memory}
 use Rattle.m68k_exec.specs.Rows.Movem.{Loaded, named, next_address, place_at, places, load_each, store_each}
 use Rattle.m68k_exec.specs.Rows.Turns.{load_one, load_turn, store_one, store_turn}
 use Rattle.m68k_exec.specs.declared.rows.movem.Order.{Order}
 use Rattle.m68k_exec.specs.declared.rows.movem.Order.TheVariants.{Rising}
-use Rattle.m68k_exec.specs.declared.access.stop.Stop.{Stop}
+use Rattle.m68k_access.specs.declared.stop.Stop.{Stop}
 
 -- of 16 turns one less is left
 next-count : (n : ℕ) → n < 16 → 16 - n ≡ suc (16 - (n + 1))

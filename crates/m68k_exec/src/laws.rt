@@ -1,13 +1,6 @@
-ghost use Rattle.std.specs.Prelude.{ℕ, ◌<◌};
-ghost use Rattle.md_word.specs.Width.{modulus_of};
-ghost use Rattle.md_word.specs.declared.flags.Flags.{Flags};
-ghost use Rattle.md_word.specs.declared.size.Size.{Size};
-ghost use Rattle.m68k_exec.specs.Laws.{ConditionsCompare, ActionsIgnoreLaterAnswers, CountsAreFew, SamplesAreBounded, SamplesAskRightly, SamplesIgnoreLaterAnswers};
+ghost use Rattle.m68k_exec.specs.Laws.{CountsAreFew, SamplesAreBounded, SamplesAskRightly, SamplesIgnoreLaterAnswers};
 
-/// Answers beyond those that it takes change nothing of an action.
-pub fn later_answers_change_nothing()
-    ensures { ActionsIgnoreLaterAnswers }
-{}
+pub use m68k_access::laws::{conditions_compare, later_answers_change_nothing};
 
 /// Answers beyond those that it took change nothing of the outcome of a sample.
 pub fn later_answers_change_no_sample()
@@ -27,10 +20,4 @@ pub fn samples_ask_rightly()
 /// The counts on which an instruction's time depends are at most 64.
 pub fn counts_are_few()
     ensures { CountsAreFew }
-{}
-
-/// After CMP the sixteen conditions are comparisons of the numbers that were compared.
-pub fn conditions_compare()
-    ensures { (size : Size) (source target : ℕ) (flags : Flags) → source < modulus_of size → target < modulus_of size
-        → ConditionsCompare size source target flags }
 {}

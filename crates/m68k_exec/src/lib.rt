@@ -2,16 +2,13 @@
 //! private memory, the answers of its shared accesses so far, and the bytes written so far.
 #![tactic(auto)]
 
-mod access;
 pub mod laws;
 mod rows;
 mod sample;
 
-pub use access::memory::word_at;
-use access::outcome::Outcome;
-use access::stop::Stop;
-use access::view::Context;
-pub use access::view::Progress;
+pub use m68k_access::Progress;
+pub use m68k_access::memory::word_at;
+use m68k_access::{Context, Outcome, Stop};
 pub use sample::cache::DecodeCache;
 pub use sample::step::{Finish, Predicted, Step};
 pub use sample::{go, predict, predict_cached};

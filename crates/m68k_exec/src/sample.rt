@@ -1,7 +1,7 @@
 ghost use Rattle.std.specs.Prelude.{◌≡◌, ◌≤◌, false, length};
 ghost use Rattle.arrayvec.specs.ArrayVec.{array_vec_len};
 ghost use Rattle.m68k_decode.specs.Ops.{IsOp, IsInstruction};
-ghost use Rattle.m68k_exec.specs.Access.Clauses.{done_of, memory_of};
+ghost use Rattle.m68k_access.specs.Clauses.{done_of, memory_of};
 ghost use Rattle.m68k_exec.specs.Sample.Caches.{IsCacheOf};
 ghost use Rattle.m68k_exec.specs.Sample.Prediction.{EndsPredicted};
 ghost use Rattle.m68k_exec.specs.Sample.Samples.{named, Keeps, NamesInstruction, SpendsRightly, WaitsBelow, nothing, reported_by};
@@ -15,11 +15,11 @@ mod exception;
 mod execution;
 pub mod step;
 
-use crate::access::memory::instruction_words;
 use crate::{Context, Predicted, Progress, Step};
 use arrayvec::ArrayVec;
 use cache::DecodeCache;
 use causes::{instruction, interrupt, trace};
+use m68k_access::memory::instruction_words;
 use m68k_decode::{Decoded, Op, decode_into};
 use md_word::Regs;
 use rom_header::Cart;

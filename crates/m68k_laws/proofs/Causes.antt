@@ -16,14 +16,15 @@ use Rattle.m68k_decode.specs.declared.op.Op.{Op}
 use Rattle.m68k_decode.specs.declared.op.Op.TheVariants as ops
 use Rattle.m68k_ea.specs.Places.{place_of}
 use Rattle.m68k_ea.specs.Steps.{stepped}
-use Rattle.m68k_exec.specs.Access.Actions as actions
-use Rattle.m68k_exec.specs.Access.Actions.{Act, Done, ◌>>=◌, go_on}
-use Rattle.m68k_exec.specs.Access.Conditions.{holds}
-use Rattle.m68k_exec.specs.Access.Memory.{Memory}
-use Rattle.m68k_exec.specs.Access.Operands as operands
-use Rattle.m68k_exec.specs.Access.Operands.{Operand}
-use Rattle.m68k_exec.specs.Access.Outcomes.{Outcome}
-use Rattle.m68k_exec.specs.Access.Shapes as shapes
+use Rattle.m68k_access.specs.Actions as actions
+use Rattle.md_word.specs.Answers.{Done}
+use Rattle.m68k_access.specs.Actions.{Act, ◌>>=◌, go_on}
+use Rattle.m68k_access.specs.Conditions.{holds}
+use Rattle.m68k_access.specs.Memory.{Memory}
+use Rattle.m68k_access.specs.Operands as operands
+use Rattle.m68k_access.specs.Operands.{Operand}
+use Rattle.m68k_access.specs.Outcomes.{Outcome}
+use Rattle.m68k_access.specs.Shapes as shapes
 use Rattle.m68k_exec.specs.Rows.Arithmetic as arithmetic
 use Rattle.m68k_exec.specs.Rows.Bits as bits
 use Rattle.m68k_exec.specs.Rows.Branches as branches
@@ -43,7 +44,7 @@ use Rattle.m68k_exec.specs.Rows.Shifts as shifts
 use Rattle.m68k_exec.specs.Rows.Single as single
 use Rattle.m68k_exec.specs.Rows.Status as status
 use Rattle.m68k_exec.specs.Sample.Execution as execution
-use Rattle.m68k_exec.specs.declared.access.stop.Stop.{Stop}
+use Rattle.m68k_access.specs.declared.stop.Stop.{Stop}
 use Rattle.m68k_laws.specs.Frames.{left_by}
 
 -- an outcome that is no exception, or leaves this stack pointer

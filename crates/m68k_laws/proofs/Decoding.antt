@@ -9,7 +9,7 @@ use Rattle.m68k_decode.specs.Lines.{rows_of}
 use Rattle.m68k_decode.specs.Rows.{Row, MovemToMemory, MovemToRegisters}
 use Rattle.m68k_decode.specs.declared.decoded.Decoded.{Decoded}
 use Rattle.m68k_decode.proofs.DecodedNumbers.{second}
-use Rattle.m68k_exec.specs.Access.Memory.{Memory, instruction_words}
+use Rattle.m68k_access.specs.Memory.{Memory, instruction_words}
 use Rattle.m68k_exec.specs.Sample.Bounds.{Fits}
 use Rattle.m68k_exec.proofs.Bounds.CountsFew.{second_small}
 use Rattle.m68k_laws.specs.Footprints.{MovesWords}

@@ -7,16 +7,16 @@ use Rattle.md_word.specs.declared.main_bus.Request68.TheVariants.{Ack}
 use Rattle.md_word.specs.declared.regs.Regs.{Regs}
 use Rattle.m68k_decode.specs.Fields.{opcode}
 use Rattle.m68k_decode.specs.declared.op.Op.{Op}
-use Rattle.m68k_exec.proofs.Taken.{answered, unanswered}
-use Rattle.m68k_exec.specs.Access.Actions as actions
-use Rattle.m68k_exec.specs.Access.Actions.{Done}
-use Rattle.m68k_exec.specs.Access.Memory.{Memory, instruction_words}
+use Rattle.m68k_access.proofs.Taken.{answered, unanswered}
+use Rattle.m68k_access.specs.Actions as actions
+use Rattle.md_word.specs.Answers.{Done}
+use Rattle.m68k_access.specs.Memory.{Memory, instruction_words}
 use Rattle.m68k_exec.specs.Sample.Entries as entries
 use Rattle.m68k_exec.specs.Sample.Entries.{number_of}
 use Rattle.m68k_exec.specs.Sample.Samples as samples
 use Rattle.m68k_exec.specs.Sample.Samples.{Ended, begun_by, named, nothing}
-use Rattle.m68k_exec.specs.declared.access.stop.Stop.{Stop}
-use Rattle.m68k_exec.specs.declared.access.stop.Stop.TheVariants.{Ask, Odd}
+use Rattle.m68k_access.specs.declared.stop.Stop.{Stop}
+use Rattle.m68k_access.specs.declared.stop.Stop.TheVariants.{Ask, Odd}
 use Rattle.m68k_exec.specs.declared.sample.exception.Exception.{Exception}
 use Rattle.m68k_exec.specs.declared.sample.exception.Exception.TheVariants.{AddressError, Interrupt, Numbered}
 use Rattle.m68k_laws.proofs.Follows.{AsksAlong, EndsAlong, FaultsAlong, GoesAlong}

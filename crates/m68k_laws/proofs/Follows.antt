@@ -6,11 +6,12 @@ use Rattle.std.proofs.lemmas.Grind.{flat_map-append}
 use Rattle.std.proofs.lemmas.List.Elements.{All-append, All-nil, filter-append}
 use Rattle.md_word.specs.Map.{is_shared}
 use Rattle.md_word.specs.declared.main_bus.Request68.{Request68}
-use Rattle.m68k_exec.specs.Access.Actions as actions
-use Rattle.m68k_exec.specs.Access.Actions.{Act, Done, ◌>>=◌, go_on}
-use Rattle.m68k_exec.specs.Access.Memory.{Memory, bus_address}
-use Rattle.m68k_exec.specs.declared.access.stop.Stop.{Stop}
-use Rattle.m68k_exec.specs.declared.access.stop.Stop.TheVariants.{Ask, Odd}
+use Rattle.m68k_access.specs.Actions as actions
+use Rattle.md_word.specs.Answers.{Done}
+use Rattle.m68k_access.specs.Actions.{Act, ◌>>=◌, go_on}
+use Rattle.m68k_access.specs.Memory.{Memory, bus_address}
+use Rattle.m68k_access.specs.declared.stop.Stop.{Stop}
+use Rattle.m68k_access.specs.declared.stop.Stop.TheVariants.{Ask, Odd}
 use Rattle.m68k_laws.specs.Accesses.{Access, IsEven, shared, words}
 use Rattle.m68k_laws.specs.Laws.{FaultsAt, IsComplete, LeadsTo, WaitsAt}
 

@@ -5,8 +5,9 @@ use Rattle.md_word.specs.declared.regs.Regs.{Regs}
 use Rattle.md_word.specs.declared.size.Size.TheVariants.{Word}
 use Rattle.m68k_except.specs.Frames.{address_frame, frame_of, halts, is_address_error}
 use Rattle.m68k_except.specs.Frames as frames
-use Rattle.m68k_exec.specs.Access.Actions.{Act, Done}
-use Rattle.m68k_exec.specs.Access.Memory.{Memory}
+use Rattle.md_word.specs.Answers.{Done}
+use Rattle.m68k_access.specs.Actions.{Act}
+use Rattle.m68k_access.specs.Memory.{Memory}
 use Rattle.m68k_exec.specs.Sample.Entries as entries
 use Rattle.m68k_exec.specs.Sample.Entries.{number_of, vector_at}
 use Rattle.m68k_exec.specs.declared.sample.exception.Exception.{Exception}

@@ -3,13 +3,13 @@ use Rattle.std.proofs.Common.{◌≡◌, ℕ, Bool, List, length, Result, Ok, Er
 use Rattle.md_word.specs.declared.main_bus.Request68.{Request68}
 use Rattle.md_word.specs.declared.regs.Regs.{Regs}
 use Rattle.m68k_decode.specs.declared.op.Op.{Op}
-use Rattle.m68k_exec.specs.Access.Actions.{Done}
-use Rattle.m68k_exec.specs.Access.Memory.{Memory}
-use Rattle.m68k_exec.specs.Access.Outcomes.{Outcome}
+use Rattle.md_word.specs.Answers.{Done}
+use Rattle.m68k_access.specs.Memory.{Memory}
+use Rattle.m68k_access.specs.Outcomes.{Outcome}
 use Rattle.m68k_exec.specs.Sample.Execution as execution
 use Rattle.m68k_exec.specs.Sample.Samples.{nothing}
-use Rattle.m68k_exec.specs.declared.access.stop.Stop.{Stop}
-use Rattle.m68k_exec.specs.declared.access.stop.Stop.TheVariants.{Ask, Odd}
+use Rattle.m68k_access.specs.declared.stop.Stop.{Stop}
+use Rattle.m68k_access.specs.declared.stop.Stop.TheVariants.{Ask, Odd}
 use Rattle.m68k_laws.proofs.Decoding.{decoded_words}
 use Rattle.m68k_laws.proofs.Follows.{AsksAlong, EndsAlong, FaultsAlong, GoesAlong}
 use Rattle.m68k_laws.proofs.Rows.{row}

@@ -15,8 +15,8 @@ use Rattle.m68k_decode.specs.declared.op.Op.TheVariants as ops
 use Rattle.m68k_ea.specs.Addresses.{effective_address}
 use Rattle.m68k_ea.specs.Places.{is_misaligned}
 use Rattle.m68k_exec.proofs.Turns.{ones_turn}
-use Rattle.m68k_exec.specs.Access.Actions as actions
-use Rattle.m68k_exec.specs.Access.Operands.{bytes_of}
+use Rattle.m68k_access.specs.Actions as actions
+use Rattle.m68k_access.specs.Operands.{bytes_of}
 use Rattle.m68k_exec.specs.Rows.Movem as movem
 use Rattle.m68k_exec.specs.declared.rows.movem.Order.TheVariants.{Rising, Falling}
 use Rattle.m68k_laws.proofs.Follows.{Follows, bind, give, last, same}

@@ -11,11 +11,11 @@ use Rattle.md_word.specs.declared.task.Task.{Task}
 use Rattle.m68k_ea.specs.Addresses.{effective_address}
 use Rattle.m68k_ea.specs.Places.{is_misaligned, place_of, standing}
 use Rattle.m68k_ea.specs.Steps.{stepped}
-use Rattle.m68k_exec.specs.Access.Actions.{Act, ◌>>=◌}
-use Rattle.m68k_exec.specs.Access.Actions as actions
-use Rattle.m68k_exec.specs.Access.Operands as operands
-use Rattle.m68k_exec.specs.Access.Operands.{Operand, bytes_of, stack_of}
-use Rattle.m68k_exec.specs.Access.Shapes as shapes
+use Rattle.m68k_access.specs.Actions.{Act, ◌>>=◌}
+use Rattle.m68k_access.specs.Actions as actions
+use Rattle.m68k_access.specs.Operands as operands
+use Rattle.m68k_access.specs.Operands.{Operand, bytes_of, stack_of}
+use Rattle.m68k_access.specs.Shapes as shapes
 use Rattle.m68k_laws.proofs.Follows.{Follows, bind, give, last, through}
 use Rattle.m68k_laws.proofs.Single.{odd_first, read, write}
 use Rattle.m68k_laws.specs.Accesses.{Access, Kind, Read, Write, is_read, one, words}

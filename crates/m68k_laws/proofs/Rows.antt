@@ -11,10 +11,10 @@ use Rattle.md_word.specs.declared.task.Task.{Task}
 use Rattle.md_word.specs.declared.task.Task.TheVariants as tasks
 use Rattle.m68k_decode.specs.declared.op.Op.{Op}
 use Rattle.m68k_decode.specs.declared.op.Op.TheVariants as ops
-use Rattle.m68k_exec.proofs.Stack.{stack_set}
-use Rattle.m68k_exec.specs.Access.Actions.{Act}
-use Rattle.m68k_exec.specs.Access.Operands as operands
-use Rattle.m68k_exec.specs.Access.Operands.{stack_of}
+use Rattle.m68k_access.proofs.Stack.{stack_set}
+use Rattle.m68k_access.specs.Actions.{Act}
+use Rattle.m68k_access.specs.Operands as operands
+use Rattle.m68k_access.specs.Operands.{stack_of}
 use Rattle.m68k_exec.specs.Rows.Arithmetic as arithmetic
 use Rattle.m68k_exec.specs.Rows.Bits as bits
 use Rattle.m68k_exec.specs.Rows.Branches as branches

@@ -8,10 +8,11 @@ use Rattle.md_word.specs.declared.main_bus.Request68.{Request68}
 use Rattle.md_word.specs.declared.main_bus.Request68.TheVariants.{Read8, Read16, Write8, Write16}
 use Rattle.md_word.specs.declared.size.Size.{Size}
 use Rattle.md_word.specs.declared.size.Size.TheVariants.{Byte, Word, Long}
-use Rattle.m68k_exec.proofs.Taken.{answered, unanswered, with_byte-used, with_word-used}
-use Rattle.m68k_exec.specs.Access.Actions as actions
-use Rattle.m68k_exec.specs.Access.Actions.{Act, Done}
-use Rattle.m68k_exec.specs.Access.Memory.{Memory, bus_address}
+use Rattle.m68k_access.proofs.Taken.{answered, unanswered, with_byte-used, with_word-used}
+use Rattle.m68k_access.specs.Actions as actions
+use Rattle.md_word.specs.Answers.{Done}
+use Rattle.m68k_access.specs.Actions.{Act}
+use Rattle.m68k_access.specs.Memory.{Memory, bus_address}
 use Rattle.m68k_laws.proofs.Follows.{AsksAlong, EndsAlong, FaultsAlong, Follows, GoesAlong, bind, give, last, numbered}
 use Rattle.m68k_laws.specs.Accesses.{Access, IsEven, Kind, Read, Write, is_odd, is_read, one, shared, words}
 use Rattle.m68k_laws.specs.Laws.{LeadsTo, Requests}

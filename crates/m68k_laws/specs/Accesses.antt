@@ -4,7 +4,7 @@ use Rattle.md_word.specs.Map.{is_shared}
 use Rattle.md_word.specs.declared.size.Size.{Size}
 use Rattle.md_word.specs.declared.size.Size.TheVariants.{Word, Long}
 use Rattle.m68k_ea.specs.Places.{is_misaligned}
-use Rattle.m68k_exec.specs.Access.Memory.{bus_address}
+use Rattle.m68k_access.specs.Memory.{bus_address}
 
 -- what an access does
 pub data Kind : Type 0 where

@@ -16,7 +16,7 @@ use Rattle.m68k_decode.specs.declared.op.Op.{Op}
 use Rattle.m68k_decode.specs.declared.op.Op.TheVariants as ops
 use Rattle.m68k_ea.specs.Addresses.{effective_address}
 use Rattle.m68k_ea.specs.Steps.{stepped}
-use Rattle.m68k_exec.specs.Access.Operands.{bytes_of, stack_of}
+use Rattle.m68k_access.specs.Operands.{bytes_of, stack_of}
 use Rattle.m68k_laws.specs.Accesses.{Access, Kind, Read, Write, one}
 
 -- the address so many bytes above another

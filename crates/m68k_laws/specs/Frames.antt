@@ -7,7 +7,7 @@ use Rattle.m68k_decode.specs.declared.op.Op.{Op}
 use Rattle.m68k_decode.specs.declared.op.Op.TheVariants as ops
 use Rattle.m68k_ea.specs.Steps.{stepped}
 use Rattle.m68k_except.specs.Frames.{halts, is_address_error}
-use Rattle.m68k_exec.specs.Access.Memory.{Memory}
+use Rattle.m68k_access.specs.Memory.{Memory}
 use Rattle.m68k_exec.specs.Sample.Entries.{vector_at}
 use Rattle.m68k_laws.specs.Accesses.{Access, Write, one}
 use Rattle.m68k_laws.specs.Footprints.{below}

@@ -8,12 +8,12 @@ use Rattle.md_word.specs.declared.size.Size.{Size}
 use Rattle.md_word.specs.declared.size.Size.TheVariants.{Byte, Word, Long}
 use Rattle.m68k_decode.specs.Instructions.{instruction_of}
 use Rattle.m68k_decode.specs.declared.op.Op.{Op}
-use Rattle.m68k_exec.specs.Access.Actions.{Done}
-use Rattle.m68k_exec.specs.Access.Memory.{Memory, bus_address}
-use Rattle.m68k_exec.specs.Access.Outcomes.{Outcome}
+use Rattle.md_word.specs.Answers.{Done}
+use Rattle.m68k_access.specs.Memory.{Memory, bus_address}
+use Rattle.m68k_access.specs.Outcomes.{Outcome}
 use Rattle.m68k_exec.specs.Sample.Execution.{row}
 use Rattle.m68k_exec.specs.Sample.Samples.{nothing}
-use Rattle.m68k_exec.specs.declared.access.stop.Stop.TheVariants.{Ask, Odd}
+use Rattle.m68k_access.specs.declared.stop.Stop.TheVariants.{Ask, Odd}
 use Rattle.m68k_laws.specs.Accesses.{Access, IsEven, Kind, Read, Write, is_odd, is_read, shared, words}
 use Rattle.m68k_laws.specs.Footprints.{MovesWords, footprint}
 

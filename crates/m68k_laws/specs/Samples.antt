@@ -5,10 +5,10 @@ use Rattle.md_word.specs.declared.main_bus.Request68.{Request68}
 use Rattle.md_word.specs.declared.main_bus.Request68.TheVariants.{Ack}
 use Rattle.md_word.specs.declared.regs.Regs.{Regs}
 use Rattle.m68k_decode.specs.Instructions.{instruction_of}
-use Rattle.m68k_exec.specs.Access.Memory.{Memory, instruction_words}
+use Rattle.m68k_access.specs.Memory.{Memory, instruction_words}
 use Rattle.m68k_exec.specs.Sample.Bounds.{Fits}
 use Rattle.m68k_exec.specs.Sample.Samples.{Ended, named, sampled}
-use Rattle.m68k_exec.specs.declared.access.stop.Stop.TheVariants.{Ask}
+use Rattle.m68k_access.specs.declared.stop.Stop.TheVariants.{Ask}
 use Rattle.m68k_laws.specs.Accesses.{Access, IsEven, shared, words}
 use Rattle.m68k_laws.specs.Footprints.{footprint}
 use Rattle.m68k_laws.specs.Frames.{frame, left_by}

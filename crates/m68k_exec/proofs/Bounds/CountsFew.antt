@@ -21,20 +21,21 @@ use Rattle.m68k_ea.specs.declared.places.Place.TheVariants as places
 use Rattle.m68k_exec.proofs.Bounds.Early.{counts_list}
 use Rattle.m68k_exec.proofs.Bounds.Spends.{FromRow, sampled_from_row, names}
 use Rattle.m68k_exec.specs.Sample.Bounds.{Fits}
-use Rattle.m68k_exec.specs.Access.Actions as actions
-use Rattle.m68k_exec.specs.Access.Actions.{Done, go_on}
+use Rattle.m68k_access.specs.Actions as actions
+use Rattle.md_word.specs.Answers.{Done}
+use Rattle.m68k_access.specs.Actions.{go_on}
 use Rattle.m68k_exec.specs.Sample.Execution as execution
 use Rattle.md_word.specs.Map.{is_shared}
-use Rattle.m68k_exec.specs.Access.Memory.{Memory, bus_address, byte_at, instruction_word, instruction_words, is_ram, word_at}
-use Rattle.m68k_exec.specs.Access.Operands as operands
-use Rattle.m68k_exec.specs.Access.Operands.{Operand}
-use Rattle.m68k_exec.specs.Access.Outcomes.{Outcome}
+use Rattle.m68k_access.specs.Memory.{Memory, bus_address, byte_at, instruction_word, instruction_words, is_ram, word_at}
+use Rattle.m68k_access.specs.Operands as operands
+use Rattle.m68k_access.specs.Operands.{Operand}
+use Rattle.m68k_access.specs.Outcomes.{Outcome}
 use Rattle.m68k_exec.specs.Rows.Products as products
 use Rattle.m68k_exec.specs.Sample.Samples as samples
 use Rattle.m68k_exec.specs.Sample.Samples.{Ended, named, nothing}
-use Rattle.m68k_exec.specs.Access.Shapes as shapes
+use Rattle.m68k_access.specs.Shapes as shapes
 use Rattle.m68k_exec.specs.Rows.Shifts as shifts
-use Rattle.m68k_exec.specs.declared.access.stop.Stop.{Stop}
+use Rattle.m68k_access.specs.declared.stop.Stop.{Stop}
 
 -- private words
 byte_cases : (a b : Bool) (x y : ℕ) → x < 256 → y < 256 → (if a then x else (if b then y else 0xff)) < 256

@@ -17,24 +17,25 @@ use Rattle.md_word.specs.Fields.{flags_of, with_flags}
 use Rattle.m68k_alu.specs.Tasks.{computed}
 use Rattle.m68k_alu.specs.declared.out.Out.{Out}
 use Rattle.md_word.specs.declared.mode.Mode.TheVariants as modes
-use Rattle.m68k_exec.proofs.Bounds.Aligned.{OddBelow, both, change_first, moves_most, read_even, touches_most, write_even}
+use Rattle.m68k_access.proofs.Aligned.{OddBelow, both, change_first, moves_most, read_even, touches_most, write_even}
 use Rattle.m68k_exec.proofs.Bounds.Takes.{Takes, load, more}
 use Rattle.m68k_exec.proofs.Bounds.TakesRows.{movem_to_memory, movem_to_registers, row}
-use Rattle.m68k_exec.specs.Access.Actions as actions
-use Rattle.m68k_exec.specs.Access.Actions.{Act, Done, go_on}
-use Rattle.m68k_exec.specs.Access.Clauses.{NotOdd}
+use Rattle.m68k_access.specs.Actions as actions
+use Rattle.md_word.specs.Answers.{Done}
+use Rattle.m68k_access.specs.Actions.{Act, go_on}
+use Rattle.m68k_access.specs.Clauses.{NotOdd}
 use Rattle.m68k_exec.specs.Sample.Execution as execution
-use Rattle.m68k_exec.specs.Access.Memory.{Memory}
+use Rattle.m68k_access.specs.Memory.{Memory}
 use Rattle.m68k_exec.specs.Rows.Movem as movem
 use Rattle.m68k_exec.specs.Rows.Multiprecision as multiprecision
-use Rattle.m68k_exec.specs.Access.Operands as operands
-use Rattle.m68k_exec.specs.Access.Operands.{Operand}
-use Rattle.m68k_exec.specs.Access.Outcomes.{Outcome, plain}
-use Rattle.m68k_exec.specs.Access.Shapes as shapes
+use Rattle.m68k_access.specs.Operands as operands
+use Rattle.m68k_access.specs.Operands.{Operand}
+use Rattle.m68k_access.specs.Outcomes.{Outcome, plain}
+use Rattle.m68k_access.specs.Shapes as shapes
 use Rattle.m68k_exec.specs.declared.rows.movem.Order.{Order}
 use Rattle.m68k_exec.specs.declared.rows.movem.Order.TheVariants.{Falling, Rising}
-use Rattle.m68k_exec.specs.declared.access.stop.Stop.{Stop}
-use Rattle.m68k_exec.specs.declared.access.stop.Stop.TheVariants.{Ask, Odd}
+use Rattle.m68k_access.specs.declared.stop.Stop.{Stop}
+use Rattle.m68k_access.specs.declared.stop.Stop.TheVariants.{Ask, Odd}
 
 pub record IsEarly (act : Act Outcome) : Type 0 where
   pub odd : (memory : Memory) (before : Done) (address : ℕ) (read : Bool) (used : ℕ) → act memory before ≡ Err (Odd address read used) → before.used ≤ length memory.answers → used ≤ before.used + 4

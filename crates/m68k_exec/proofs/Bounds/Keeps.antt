@@ -13,29 +13,32 @@ use Rattle.m68k_ea.specs.Steps.{stepped}
 use Rattle.m68k_ea.specs.declared.places.Place.{Place}
 use Rattle.m68k_ea.specs.declared.places.Place.TheVariants as places
 use Rattle.m68k_exec.proofs.Bounds.SystemByte as sr
+use Rattle.md_word.proofs.Answered as answered
+use Rattle.md_word.proofs.Answered.{give}
 use Rattle.m68k_exec.specs.Sample.Bounds.{IsAccess, IsShared, IsStatus}
-use Rattle.m68k_exec.specs.Access.Actions as actions
-use Rattle.m68k_exec.specs.Access.Actions.{Act, Done, ◌>>=◌, go_on}
+use Rattle.m68k_access.specs.Actions as actions
+use Rattle.md_word.specs.Answers.{Done}
+use Rattle.m68k_access.specs.Actions.{Act, ◌>>=◌, go_on}
 use Rattle.md_word.specs.Map.{is_shared}
-use Rattle.m68k_exec.specs.Access.Memory.{Memory, bus_address}
-use Rattle.m68k_exec.specs.Access.Operands as operands
-use Rattle.m68k_exec.specs.Access.Operands.{Operand}
-use Rattle.m68k_exec.specs.Access.Outcomes.{Outcome}
-use Rattle.m68k_exec.specs.Access.Shapes as shapes
-use Rattle.m68k_exec.specs.declared.access.stop.Stop.{Stop}
-use Rattle.m68k_exec.specs.declared.access.stop.Stop.TheVariants.{Ask, Odd}
+use Rattle.m68k_access.specs.Memory.{Memory, bus_address}
+use Rattle.m68k_access.specs.Operands as operands
+use Rattle.m68k_access.specs.Operands.{Operand}
+use Rattle.m68k_access.specs.Outcomes.{Outcome}
+use Rattle.m68k_access.specs.Shapes as shapes
+use Rattle.m68k_access.specs.declared.stop.Stop.{Stop}
+use Rattle.m68k_access.specs.declared.stop.Stop.TheVariants.{Ask, Odd}
+
+-- it waits for an access that it may ask for
+abbrev pub MayStop : Stop → Type 0
+MayStop (Ask request) = IsAccess request
+MayStop (Odd address read used) = Unit {0}
 
 -- its value keeps this, or it waits for such an access
 abbrev pub Fine : {A : Type 0} → (A → Type 0) → Result (A × Done) Stop → Type 0
-Fine ok (Ok x) = ok x.0
-Fine ok (Err (Ask request)) = IsAccess request
-Fine ok (Err (Odd address read used)) = Unit {0}
+Fine ok result = answered.Fine MayStop ok result
 
-pub record Keeps {A : Type 0} (ok : A → Type 0) (act : Act A) : Type 0 where
-  pub at : (memory : Memory) (before : Done) → Fine ok (act memory before)
-
-pub give : {A : Type 0} (ok : A → Type 0) (x : A) → ok x → Keeps ok (actions.give x)
-give ok x h = record { at = λ memory before. h }
+abbrev pub Keeps : {A : Type 0} → (A → Type 0) → Act A → Type 0
+Keeps ok act = answered.Keeps MayStop ok act
 
 pub odd : {A : Type 0} (ok : A → Type 0) (address : ℕ) (read : Bool) → Keeps ok (actions.odd {A = A} address read)
 odd ok address read = record { at = λ memory before. tt }
@@ -75,11 +78,11 @@ even_at address e = grind arith
 
 asked_byte : (at : ℕ) → IsShared at → Keeps Any (actions.asked_byte at)
 unfolding actions.asked_byte
-asked_byte at h = bind _ _ _ _ (asked (Read8 at) h) (λ answer a. give _ _ tt)
+asked_byte at h = bind _ _ _ _ (asked (Read8 at) h) (λ answer a. give _ _ _ tt)
 
 reported : (request : Request68) → IsAccess request → Keeps Any (actions.reported request)
 unfolding actions.reported
-reported request h = bind _ _ _ _ (asked request h) (λ answer a. give _ tt tt)
+reported request h = bind _ _ _ _ (asked request h) (λ answer a. give _ _ tt tt)
 
 pub read_byte : (address : ℕ) → Keeps Any (actions.read_byte address)
 unfolding actions.read_byte
@@ -95,7 +98,7 @@ read_word address = choice _ (actions.is_odd address) _ _ (λ e. odd _ _ _) (λ 
 
 read_long : (address : ℕ) → Keeps Any (actions.read_long address)
 unfolding actions.read_long
-read_long address = bind _ _ _ _ (read_word address) (λ high a. bind _ _ _ _ (read_word _) (λ low b. give _ _ tt))
+read_long address = bind _ _ _ _ (read_word address) (λ high a. bind _ _ _ _ (read_word _) (λ low b. give _ _ _ tt))
 
 pub read : (size : Size) (address : ℕ) → Keeps Any (actions.read size address)
 unfolding actions.read
@@ -138,24 +141,24 @@ StatusAfter outcome = IsStatus outcome.regs.sr
 -- the operands
 pub fetch : (size : Size) (place : Place) (regs : Regs) → Keeps Any (operands.fetch size place regs)
 unfolding operands.fetch
-fetch size (places.Register n) regs = give _ _ tt
+fetch size (places.Register n) regs = give _ _ _ tt
 fetch size (places.Memory at) regs = read size at
-fetch size (places.Immediate value) regs = give _ _ tt
+fetch size (places.Immediate value) regs = give _ _ _ tt
 fetch size (places.Odd at) regs = odd _ _ _
 
 pub load : (mode : Mode) (size : Size) (pc : ℕ) (regs : Regs) → HasStatus regs → Keeps StatusOf (operands.load mode size pc regs)
 unfolding operands.load
-load mode size pc regs h = bind _ _ _ _ (fetch size (place_of mode size regs pc) regs) (λ value a. give _ _ (sr.steps mode size regs h))
+load mode size pc regs h = bind _ _ _ _ (fetch size (place_of mode size regs pc) regs) (λ value a. give _ _ _ (sr.steps mode size regs h))
 
 stored : (size : Size) (at value : ℕ) (regs : Regs) → HasStatus regs → Keeps HasStatus (operands.stored size at value regs)
 unfolding operands.stored
-stored size at value regs h = bind _ _ _ _ (write size at value) (λ written a. give _ _ h)
+stored size at value regs h = bind _ _ _ _ (write size at value) (λ written a. give _ _ _ h)
 
 pub put : (size : Size) (place : Place) (value : ℕ) (regs : Regs) → HasStatus regs → Keeps HasStatus (operands.put size place value regs)
 unfolding operands.put
-put size (places.Register n) value regs h = give _ _ (sr.register regs n _ h)
+put size (places.Register n) value regs h = give _ _ _ (sr.register regs n _ h)
 put size (places.Memory at) value regs h = stored size at value regs h
-put size (places.Immediate number) value regs h = give _ _ h
+put size (places.Immediate number) value regs h = give _ _ _ h
 put size (places.Odd at) value regs h = odd _ _ _
 
 pub store : (mode : Mode) (size : Size) (value pc : ℕ) (regs : Regs) → HasStatus regs → Keeps HasStatus (operands.store mode size value pc regs)
@@ -164,21 +167,21 @@ store mode size value pc regs h = put size (place_of mode size regs pc) value (s
 
 pub push : (size : Size) (value : ℕ) (regs : Regs) → HasStatus regs → Keeps HasStatus (operands.push size value regs)
 unfolding operands.push
-push size value regs h = bind _ _ _ _ (write size _ value) (λ written a. give _ _ (sr.address regs 7 _ h))
+push size value regs h = bind _ _ _ _ (write size _ value) (λ written a. give _ _ _ (sr.address regs 7 _ h))
 
 pub pull : (size : Size) (regs : Regs) → HasStatus regs → Keeps StatusOf (operands.pull size regs)
 unfolding operands.pull
-pull size regs h = bind _ _ _ _ (read size (operands.stack_of regs)) (λ value a. give _ _ (sr.address regs 7 _ h))
+pull size regs h = bind _ _ _ _ (read size (operands.stack_of regs)) (λ value a. give _ _ _ (sr.address regs 7 _ h))
 
 -- the shapes
 pub test_operand : (operation : Task) (size : Size) (number : ℕ) (mode : Mode) (pc : ℕ) (regs : Regs) → HasStatus regs → Keeps StatusAfter (shapes.test_operand operation size number mode pc regs)
 unfolding shapes.test_operand
-test_operand operation size number mode pc regs h = bind _ _ _ _ (load mode size pc regs h) (λ operand a. give _ _ (sr.flags operand.regs _ a))
+test_operand operation size number mode pc regs h = bind _ _ _ _ (load mode size pc regs h) (λ operand a. give _ _ _ (sr.flags operand.regs _ a))
 
 pub change_operand : (operation : Task) (size : Size) (number : ℕ) (mode : Mode) (pc : ℕ) (regs : Regs) → HasStatus regs → Keeps StatusAfter (shapes.change_operand operation size number mode pc regs)
 unfolding shapes.change_operand
 change_operand operation size number mode pc regs h =
-    bind _ _ _ _ (fetch size _ _) (λ old a. bind _ _ _ _ (put size (place_of mode size regs pc) _ _ (sr.steps mode size regs h)) (λ after b. give _ _ (sr.flags after _ b)))
+    bind _ _ _ _ (fetch size _ _) (λ old a. bind _ _ _ _ (put size (place_of mode size regs pc) _ _ (sr.steps mode size regs h)) (λ after b. give _ _ _ (sr.flags after _ b)))
 
 pub change_data : (operation : Task) (size : Size) (number n : ℕ) (regs : Regs) → HasStatus regs → StatusAfter (shapes.change_data operation size number n regs)
 unfolding shapes.change_data
@@ -187,4 +190,4 @@ change_data operation size number n regs h = sr.flags (operands.with_part size n
 pub change_register : (operation : Task) (size : Size) (n : ℕ) (mode : Mode) (pc : ℕ) (regs : Regs) → HasStatus regs → Keeps StatusAfter (shapes.change_register operation size n mode pc regs)
 unfolding shapes.change_register
 change_register operation size n mode pc regs h =
-    bind _ _ _ _ (load mode size pc regs h) (λ operand a. give _ _ (sr.flags (operands.with_part size n _ operand.regs) _ (sr.register operand.regs n _ a)))
+    bind _ _ _ _ (load mode size pc regs h) (λ operand a. give _ _ _ (sr.flags (operands.with_part size n _ operand.regs) _ (sr.register operand.regs n _ a)))

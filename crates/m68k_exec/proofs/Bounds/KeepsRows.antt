@@ -17,15 +17,16 @@ use Rattle.m68k_decode.specs.declared.displacement.Displacement.{Displacement}
 use Rattle.m68k_decode.specs.declared.op.Op.{Op}
 use Rattle.m68k_decode.specs.declared.op.Op.TheVariants as ops
 use Rattle.m68k_ea.specs.Places.{place_of}
-use Rattle.m68k_exec.proofs.Bounds.Keeps.{Any, HasStatus, Keeps, StatusAfter, bind, change_data, change_operand, change_register, choice, fetch, give, load, odd, pull, push, put, read, read_byte, store, test_operand, write, write_byte}
+use Rattle.m68k_exec.proofs.Bounds.Keeps.{Any, HasStatus, Keeps, StatusAfter, bind, change_data, change_operand, change_register, choice, fetch, load, odd, pull, push, put, read, read_byte, store, test_operand, write, write_byte}
 use Rattle.m68k_exec.proofs.Bounds.SystemByte as sr
+use Rattle.md_word.proofs.Answered.{give}
 use Rattle.m68k_exec.specs.Sample.Bounds.{IsStatus}
-use Rattle.m68k_exec.specs.Access.Actions as actions
+use Rattle.m68k_access.specs.Actions as actions
 use Rattle.m68k_exec.specs.Rows.Arithmetic as arithmetic
 use Rattle.m68k_exec.specs.Rows.Bits as bits
 use Rattle.m68k_exec.specs.Rows.Branches as branches
 use Rattle.m68k_exec.specs.Rows.Comparisons as comparisons
-use Rattle.m68k_exec.specs.Access.Conditions.{holds}
+use Rattle.m68k_access.specs.Conditions.{holds}
 use Rattle.m68k_exec.specs.Rows.Control as control
 use Rattle.m68k_exec.specs.Sample.Execution as execution
 use Rattle.m68k_exec.specs.Rows.Immediates as immediates
@@ -35,12 +36,12 @@ use Rattle.m68k_exec.specs.Rows.Movem.{Loaded}
 use Rattle.m68k_exec.specs.Rows.Movep as movep
 use Rattle.m68k_exec.specs.Rows.Moves as moves
 use Rattle.m68k_exec.specs.Rows.Multiprecision as multiprecision
-use Rattle.m68k_exec.specs.Access.Outcomes.{Outcome}
+use Rattle.m68k_access.specs.Outcomes.{Outcome}
 use Rattle.m68k_exec.specs.Rows.Products as products
 use Rattle.m68k_exec.specs.Rows.Quotients as quotients
 use Rattle.m68k_exec.specs.Rows.Registers as registers
 use Rattle.m68k_exec.specs.Rows.Setting as setting
-use Rattle.m68k_exec.specs.Access.Shapes as shapes
+use Rattle.m68k_access.specs.Shapes as shapes
 use Rattle.m68k_exec.specs.Rows.Shifts as shifts
 use Rattle.m68k_exec.specs.Rows.Single as single
 use Rattle.m68k_exec.specs.Rows.Status as status
@@ -184,39 +185,39 @@ compare_immediate size number mode start regs h = test_operand tasks.Cmp size nu
 -- the stack
 pea : (mode : Mode) (start : ℕ) (regs : Regs) → HasStatus regs → Keeps StatusAfter (links.pea mode start regs)
 unfolding links.pea
-pea mode start regs h = bind _ _ _ _ (push Long _ regs h) (λ after a. give _ _ a)
+pea mode start regs h = bind _ _ _ _ (push Long _ regs h) (λ after a. give _ _ _ a)
 
 link : (n by : ℕ) (regs : Regs) → HasStatus regs → Keeps StatusAfter (links.link n by regs)
 unfolding links.link
-link n by regs h = bind _ _ _ _ (push Long _ regs h) (λ after a. give _ _ (sr.address _ 7 _ (sr.address after n _ a)))
+link n by regs h = bind _ _ _ _ (push Long _ regs h) (λ after a. give _ _ _ (sr.address _ 7 _ (sr.address after n _ a)))
 
 unlk : (n : ℕ) (regs : Regs) → HasStatus regs → Keeps StatusAfter (links.unlk n regs)
 unfolding links.unlk
-unlk n regs h = bind _ _ _ _ (pull Long _ (sr.address regs 7 _ h)) (λ old a. give _ _ (sr.address old.regs n _ a))
+unlk n regs h = bind _ _ _ _ (pull Long _ (sr.address regs 7 _ h)) (λ old a. give _ _ _ (sr.address old.regs n _ a))
 
 jsr : (mode : Mode) (start : ℕ) (regs : Regs) → HasStatus regs → Keeps StatusAfter (control.jsr mode start regs)
 unfolding control.jsr
-jsr mode start regs h = bind _ _ _ _ (push Long _ regs h) (λ after a. give _ _ a)
+jsr mode start regs h = bind _ _ _ _ (push Long _ regs h) (λ after a. give _ _ _ a)
 
 rts : (regs : Regs) → HasStatus regs → Keeps StatusAfter (control.rts regs)
 unfolding control.rts
-rts regs h = bind _ _ _ _ (pull Long regs h) (λ target a. give _ _ a)
+rts regs h = bind _ _ _ _ (pull Long regs h) (λ target a. give _ _ _ a)
 
 rtr : (regs : Regs) → HasStatus regs → Keeps StatusAfter (control.rtr regs)
 unfolding control.rtr
-rtr regs h = bind _ _ _ _ (pull Word regs h) (λ codes a. bind _ _ _ _ (pull Long codes.regs a) (λ target b. give _ _ (sr.ccr codes.value target.regs b)))
+rtr regs h = bind _ _ _ _ (pull Word regs h) (λ codes a. bind _ _ _ _ (pull Long codes.regs a) (λ target b. give _ _ _ (sr.ccr codes.value target.regs b)))
 
 return_from_exception : (regs : Regs) → HasStatus regs → Keeps StatusAfter (control.return_from_exception regs)
 unfolding control.return_from_exception
-return_from_exception regs h = bind _ _ _ _ (pull Word regs h) (λ value a. bind _ _ _ _ (pull Long value.regs a) (λ target b. give _ _ (sr.status value.value target.regs)))
+return_from_exception regs h = bind _ _ _ _ (pull Word regs h) (λ value a. bind _ _ _ _ (pull Long value.regs a) (λ target b. give _ _ _ (sr.status value.value target.regs)))
 
 rte : (start : ℕ) (regs : Regs) → HasStatus regs → Keeps StatusAfter (control.rte start regs)
 unfolding control.rte
-rte start regs h = choice _ (is_supervisor regs) _ _ (λ e. return_from_exception regs h) (λ e. give _ _ h)
+rte start regs h = choice _ (is_supervisor regs) _ _ (λ e. return_from_exception regs h) (λ e. give _ _ _ h)
 
 bsr : (displacement : Displacement) (start : ℕ) (regs : Regs) → HasStatus regs → Keeps StatusAfter (branches.bsr displacement start regs)
 unfolding branches.bsr
-bsr displacement start regs h = bind _ _ _ _ (push Long regs.pc regs h) (λ after a. give _ _ (branched _ start after a))
+bsr displacement start regs h = bind _ _ _ _ (push Long regs.pc regs h) (λ after a. give _ _ _ (branched _ start after a))
 
 caught : (negative : Bool) (regs : Regs) → HasStatus regs → StatusAfter (control.caught negative regs)
 unfolding control.caught
@@ -229,27 +230,27 @@ checked value bound regs h =
 
 chk : (n : ℕ) (mode : Mode) (start : ℕ) (regs : Regs) → HasStatus regs → Keeps StatusAfter (control.chk n mode start regs)
 unfolding control.chk
-chk n mode start regs h = bind _ _ _ _ (load mode Word _ regs h) (λ bound a. give _ _ (checked _ bound.value bound.regs a))
+chk n mode start regs h = bind _ _ _ _ (load mode Word _ regs h) (λ bound a. give _ _ _ (checked _ bound.value bound.regs a))
 
 -- MOVEM
 abbrev StatusLoaded : Loaded → Type 0
 StatusLoaded loaded = IsStatus loaded.regs.sr
 
 store_each : (order : Order) (size : Size) (places : List ℕ) (at : ℕ) (regs : Regs) → Keeps Any (movem.store_each order size places at regs)
-store_each order size [] at regs = give _ _ tt
+store_each order size [] at regs = give _ _ _ tt
 store_each order size (place ∷ rest) at regs = bind _ _ _ _ (write size _ _) (λ written a. store_each order size rest _ regs)
 
 store_list : (order : Order) (size : Size) (list at : ℕ) (regs : Regs) → Keeps Any (movem.store_list order size list at regs)
 unfolding movem.store_list
-store_list order size list at regs = choice _ (list == 0) _ _ (λ e. give _ _ tt) (λ e. choice _ (actions.is_odd at) _ _ (λ o. odd _ _ _) (λ o. store_each order size _ at regs))
+store_list order size list at regs = choice _ (list == 0) _ _ (λ e. give _ _ _ tt) (λ e. choice _ (actions.is_odd at) _ _ (λ o. odd _ _ _) (λ o. store_each order size _ at regs))
 
 load_each : (size : Size) (places : List ℕ) (at : ℕ) (regs : Regs) → HasStatus regs → Keeps StatusLoaded (movem.load_each size places at regs)
-load_each size [] at regs h = give _ _ h
+load_each size [] at regs h = give _ _ _ h
 load_each size (place ∷ rest) at regs h = bind _ _ _ _ (read size at) (λ value a. load_each size rest _ _ (sr.register regs place _ h))
 
 load_list : (size : Size) (list at : ℕ) (regs : Regs) → HasStatus regs → Keeps StatusLoaded (movem.load_list size list at regs)
 unfolding movem.load_list
-load_list size list at regs h = choice _ (list == 0) _ _ (λ e. give _ _ h) (λ e. choice _ (actions.is_odd at) _ _ (λ o. odd _ _ _) (λ o. load_each size _ at regs h))
+load_list size list at regs h = choice _ (list == 0) _ _ (λ e. give _ _ _ h) (λ e. choice _ (actions.is_odd at) _ _ (λ o. odd _ _ _) (λ o. load_each size _ at regs h))
 
 left_at : (mode : Mode) (at : ℕ) (regs : Regs) → HasStatus regs → HasStatus (movem.left_at mode at regs)
 left_at (modes.PostInc n) at regs h = sr.address regs n at h
@@ -258,20 +259,20 @@ left_at _ at regs h = h
 
 movem_to_memory : (size : Size) (list : ℕ) (mode : Mode) (start : ℕ) (regs : Regs) → HasStatus regs → Keeps StatusAfter (movem.movem_to_memory size list mode start regs)
 unfolding movem.movem_to_memory
-movem_to_memory size list mode start regs h = bind _ _ _ _ (store_list _ size list _ regs) (λ reached a. give _ _ (left_at mode reached regs h))
+movem_to_memory size list mode start regs h = bind _ _ _ _ (store_list _ size list _ regs) (λ reached a. give _ _ _ (left_at mode reached regs h))
 
 movem_to_registers : (size : Size) (list : ℕ) (mode : Mode) (start : ℕ) (regs : Regs) → HasStatus regs → Keeps StatusAfter (movem.movem_to_registers size list mode start regs)
 unfolding movem.movem_to_registers
-movem_to_registers size list mode start regs h = bind _ _ _ _ (load_list size list _ regs h) (λ last a. give _ _ (left_at mode last.address last.regs a))
+movem_to_registers size list mode start regs h = bind _ _ _ _ (load_list size list _ regs h) (λ last a. give _ _ _ (left_at mode last.address last.regs a))
 
 -- MOVEP
 spread_word : (at : ℕ) → Keeps Any (movep.spread_word at)
 unfolding movep.spread_word
-spread_word at = bind _ _ _ _ (read_byte at) (λ high a. bind _ _ _ _ (read_byte _) (λ low b. give _ _ tt))
+spread_word at = bind _ _ _ _ (read_byte at) (λ high a. bind _ _ _ _ (read_byte _) (λ low b. give _ _ _ tt))
 
 spread_long : (at : ℕ) → Keeps Any (movep.spread_long at)
 unfolding movep.spread_long
-spread_long at = bind _ _ _ _ (spread_word at) (λ high a. bind _ _ _ _ (spread_word _) (λ low b. give _ _ tt))
+spread_long at = bind _ _ _ _ (spread_word at) (λ high a. bind _ _ _ _ (spread_word _) (λ low b. give _ _ _ tt))
 
 read_spread : (size : Size) (at : ℕ) → Keeps Any (movep.read_spread size at)
 read_spread Byte at = read_byte at
@@ -293,21 +294,21 @@ write_spread Long at value = write_spread_long at value
 
 movep_to_register : (size : Size) (x y by start : ℕ) (regs : Regs) → HasStatus regs → Keeps StatusAfter (movep.movep_to_register size x y by start regs)
 unfolding movep.movep_to_register
-movep_to_register size x y by start regs h = bind _ _ _ _ (read_spread size _) (λ value a. give _ _ (sr.register regs x _ h))
+movep_to_register size x y by start regs h = bind _ _ _ _ (read_spread size _) (λ value a. give _ _ _ (sr.register regs x _ h))
 
 movep_to_memory : (size : Size) (x y by start : ℕ) (regs : Regs) → HasStatus regs → Keeps StatusAfter (movep.movep_to_memory size x y by start regs)
 unfolding movep.movep_to_memory
-movep_to_memory size x y by start regs h = bind _ _ _ _ (write_spread size _ _) (λ written a. give _ _ h)
+movep_to_memory size x y by start regs h = bind _ _ _ _ (write_spread size _ _) (λ written a. give _ _ _ h)
 
 -- moves, one operand, and the status register
 move_operand : (size : Size) (source target : Mode) (start : ℕ) (regs : Regs) → HasStatus regs → Keeps StatusAfter (moves.move_operand size source target start regs)
 unfolding moves.move_operand
 move_operand size source target start regs h =
-    bind _ _ _ _ (load source size _ regs h) (λ from a. bind _ _ _ _ (store target size _ _ from.regs a) (λ after b. give _ _ (sr.flags after _ b)))
+    bind _ _ _ _ (load source size _ regs h) (λ from a. bind _ _ _ _ (store target size _ _ from.regs a) (λ after b. give _ _ _ (sr.flags after _ b)))
 
 move_address : (size : Size) (n : ℕ) (mode : Mode) (start : ℕ) (regs : Regs) → HasStatus regs → Keeps StatusAfter (moves.move_address size n mode start regs)
 unfolding moves.move_address
-move_address size n mode start regs h = bind _ _ _ _ (load mode size _ regs h) (λ from a. give _ _ (sr.address from.regs n _ a))
+move_address size n mode start regs h = bind _ _ _ _ (load mode size _ regs h) (λ from a. give _ _ _ (sr.address from.regs n _ a))
 
 unary : (operation : Task) (size : Size) (mode : Mode) (start : ℕ) (regs : Regs) → HasStatus regs → Keeps StatusAfter (single.unary operation size mode start regs)
 unfolding single.unary
@@ -319,7 +320,7 @@ nbcd mode start regs h = change_operand tasks.Nbcd Byte 0 mode _ regs h
 
 tst : (size : Size) (mode : Mode) (start : ℕ) (regs : Regs) → HasStatus regs → Keeps StatusAfter (single.tst size mode start regs)
 unfolding single.tst
-tst size mode start regs h = bind _ _ _ _ (load mode size _ regs h) (λ operand a. give _ _ (sr.flags operand.regs _ a))
+tst size mode start regs h = bind _ _ _ _ (load mode size _ regs h) (λ operand a. give _ _ _ (sr.flags operand.regs _ a))
 
 tas : (mode : Mode) (start : ℕ) (regs : Regs) → HasStatus regs → Keeps StatusAfter (single.tas mode start regs)
 tas (modes.Data n) start regs h = change_operand tasks.Tas Byte 0 (modes.Data n) _ regs h
@@ -328,29 +329,29 @@ tas mode start regs h = test_operand tasks.Tas Byte 0 mode _ regs h
 move_from_sr : (mode : Mode) (start : ℕ) (regs : Regs) → HasStatus regs → Keeps StatusAfter (status.move_from_sr mode start regs)
 unfolding status.move_from_sr
 move_from_sr mode start regs h =
-    bind _ _ _ _ (fetch Word _ _) (λ old a. bind _ _ _ _ (put Word (place_of mode Word regs (shapes.following start 2)) _ _ (sr.steps mode Word regs h)) (λ after b. give _ _ b))
+    bind _ _ _ _ (fetch Word _ _) (λ old a. bind _ _ _ _ (put Word (place_of mode Word regs (shapes.following start 2)) _ _ (sr.steps mode Word regs h)) (λ after b. give _ _ _ b))
 
 move_to_ccr : (mode : Mode) (start : ℕ) (regs : Regs) → HasStatus regs → Keeps StatusAfter (status.move_to_ccr mode start regs)
 unfolding status.move_to_ccr
-move_to_ccr mode start regs h = bind _ _ _ _ (load mode Word _ regs h) (λ operand a. give _ _ (sr.ccr operand.value operand.regs a))
+move_to_ccr mode start regs h = bind _ _ _ _ (load mode Word _ regs h) (λ operand a. give _ _ _ (sr.ccr operand.value operand.regs a))
 
 load_sr : (mode : Mode) (start : ℕ) (regs : Regs) → HasStatus regs → Keeps StatusAfter (status.load_sr mode start regs)
 unfolding status.load_sr
-load_sr mode start regs h = bind _ _ _ _ (load mode Word _ regs h) (λ operand a. give _ _ (sr.status operand.value operand.regs))
+load_sr mode start regs h = bind _ _ _ _ (load mode Word _ regs h) (λ operand a. give _ _ _ (sr.status operand.value operand.regs))
 
 move_to_sr : (mode : Mode) (start : ℕ) (regs : Regs) → HasStatus regs → Keeps StatusAfter (status.move_to_sr mode start regs)
 unfolding status.move_to_sr
-move_to_sr mode start regs h = choice _ (is_supervisor regs) _ _ (λ e. load_sr mode start regs h) (λ e. give _ _ h)
+move_to_sr mode start regs h = choice _ (is_supervisor regs) _ _ (λ e. load_sr mode start regs h) (λ e. give _ _ _ h)
 
 -- digits 5 to E
 quick : (operation : Task) (size : Size) (number : ℕ) (mode : Mode) (start : ℕ) (regs : Regs) → HasStatus regs → Keeps StatusAfter (arithmetic.quick operation size number mode start regs)
-quick operation size number (modes.Address n) start regs h = give _ _ (change_address operation number n regs h)
+quick operation size number (modes.Address n) start regs h = give _ _ _ (change_address operation number n regs h)
 quick operation size number mode start regs h = change_operand operation size number mode _ regs h
 
 scc : (condition : Condition) (mode : Mode) (start : ℕ) (regs : Regs) → HasStatus regs → Keeps StatusAfter (setting.scc condition mode start regs)
 unfolding setting.scc
 scc condition mode start regs h =
-    bind _ _ _ _ (fetch Byte _ _) (λ old a. bind _ _ _ _ (put Byte (place_of mode Byte regs (shapes.following start 2)) _ _ (sr.steps mode Byte regs h)) (λ after b. give _ _ b))
+    bind _ _ _ _ (fetch Byte _ _) (λ old a. bind _ _ _ _ (put Byte (place_of mode Byte regs (shapes.following start 2)) _ _ (sr.steps mode Byte regs h)) (λ after b. give _ _ _ b))
 
 quotient_ended : (quotient : Quotient) (n : ℕ) (regs : Regs) → HasStatus regs → StatusAfter (quotients.ended_by quotient n regs)
 quotient_ended Zero n regs h = h
@@ -363,7 +364,7 @@ quotient_finished quotient n regs h = quotient_ended quotient n _ (sr.flags regs
 
 quotient_by : (signed : Bool) (n : ℕ) (mode : Mode) (start : ℕ) (regs : Regs) → HasStatus regs → Keeps StatusAfter (quotients.quotient_by signed n mode start regs)
 unfolding quotients.quotient_by
-quotient_by signed n mode start regs h = bind _ _ _ _ (load mode Word _ regs h) (λ source a. give _ _ (quotient_finished _ n source.regs a))
+quotient_by signed n mode start regs h = bind _ _ _ _ (load mode Word _ regs h) (λ source a. give _ _ _ (quotient_finished _ n source.regs a))
 
 divu : (n : ℕ) (mode : Mode) (start : ℕ) (regs : Regs) → HasStatus regs → Keeps StatusAfter (quotients.divu n mode start regs)
 unfolding quotients.divu
@@ -375,11 +376,11 @@ divs n mode start regs h = quotient_by true n mode start regs h
 
 mulu : (n : ℕ) (mode : Mode) (start : ℕ) (regs : Regs) → HasStatus regs → Keeps StatusAfter (products.mulu n mode start regs)
 unfolding products.mulu
-mulu n mode start regs h = bind _ _ _ _ (load mode Word _ regs h) (λ source a. give _ _ (change_data tasks.Mulu Long source.value n source.regs a))
+mulu n mode start regs h = bind _ _ _ _ (load mode Word _ regs h) (λ source a. give _ _ _ (change_data tasks.Mulu Long source.value n source.regs a))
 
 muls : (n : ℕ) (mode : Mode) (start : ℕ) (regs : Regs) → HasStatus regs → Keeps StatusAfter (products.muls n mode start regs)
 unfolding products.muls
-muls n mode start regs h = bind _ _ _ _ (load mode Word _ regs h) (λ source a. give _ _ (change_data tasks.Muls Long source.value n source.regs a))
+muls n mode start regs h = bind _ _ _ _ (load mode Word _ regs h) (λ source a. give _ _ _ (change_data tasks.Muls Long source.value n source.regs a))
 
 extended : (operation : Task) (size : Size) (source target : Mode) (start : ℕ) (regs : Regs) → HasStatus regs → Keeps StatusAfter (multiprecision.extended operation size source target start regs)
 unfolding multiprecision.extended
@@ -403,7 +404,7 @@ eor size n mode start regs h = to_memory tasks.Eor size n mode start regs h
 
 to_address : (operation : Task) (size : Size) (n : ℕ) (mode : Mode) (start : ℕ) (regs : Regs) → HasStatus regs → Keeps StatusAfter (arithmetic.to_address operation size n mode start regs)
 unfolding arithmetic.to_address
-to_address operation size n mode start regs h = bind _ _ _ _ (load mode size _ regs h) (λ source a. give _ _ (change_address operation _ n source.regs a))
+to_address operation size n mode start regs h = bind _ _ _ _ (load mode size _ regs h) (λ source a. give _ _ _ (change_address operation _ n source.regs a))
 
 shift_memory : (operation : Task) (mode : Mode) (start : ℕ) (regs : Regs) → HasStatus regs → Keeps StatusAfter (arithmetic.shift_memory operation mode start regs)
 unfolding arithmetic.shift_memory
@@ -415,23 +416,23 @@ compared size source target regs h = sr.flags regs _ h
 
 cmp : (size : Size) (n : ℕ) (mode : Mode) (start : ℕ) (regs : Regs) → HasStatus regs → Keeps StatusAfter (comparisons.cmp size n mode start regs)
 unfolding comparisons.cmp
-cmp size n mode start regs h = bind _ _ _ _ (load mode size _ regs h) (λ source a. give _ _ (compared size source.value _ source.regs a))
+cmp size n mode start regs h = bind _ _ _ _ (load mode size _ regs h) (λ source a. give _ _ _ (compared size source.value _ source.regs a))
 
 cmpa : (size : Size) (n : ℕ) (mode : Mode) (start : ℕ) (regs : Regs) → HasStatus regs → Keeps StatusAfter (comparisons.cmpa size n mode start regs)
 unfolding comparisons.cmpa
-cmpa size n mode start regs h = bind _ _ _ _ (load mode size _ regs h) (λ source a. give _ _ (compared Long _ _ source.regs a))
+cmpa size n mode start regs h = bind _ _ _ _ (load mode size _ regs h) (λ source a. give _ _ _ (compared Long _ _ source.regs a))
 
 cmpm : (size : Size) (x y : ℕ) (start : ℕ) (regs : Regs) → HasStatus regs → Keeps StatusAfter (comparisons.cmpm size x y start regs)
 unfolding comparisons.cmpm
 cmpm size x y start regs h =
-    bind _ _ _ _ (load (modes.PostInc y) size _ regs h) (λ source a. bind _ _ _ _ (load (modes.PostInc x) size _ source.regs a) (λ target b. give _ _ (compared size source.value target.value target.regs b)))
+    bind _ _ _ _ (load (modes.PostInc y) size _ regs h) (λ source a. bind _ _ _ _ (load (modes.PostInc x) size _ source.regs a) (λ target b. give _ _ _ (compared size source.value target.value target.regs b)))
 
 -- each row waits only for such accesses, and keeps the bits of the status register
 pub row : (op : Op) (start : ℕ) (regs : Regs) → HasStatus regs → Keeps StatusAfter (execution.row op start regs)
 row (ops.Immediate operation size number mode) start regs h = immediate operation size number mode start regs h
 row (ops.CompareImmediate size number mode) start regs h = compare_immediate size number mode start regs h
-row (ops.ImmediateToCcr operation number) start regs h = give _ _ (immediate_to_ccr operation number regs h)
-row (ops.ImmediateToSr operation number) start regs h = give _ _ (immediate_to_sr operation number start regs h)
+row (ops.ImmediateToCcr operation number) start regs h = give _ _ _ (immediate_to_ccr operation number regs h)
+row (ops.ImmediateToSr operation number) start regs h = give _ _ _ (immediate_to_sr operation number start regs h)
 row (ops.BitByRegister operation n mode) start regs h = bit_by_register operation n mode start regs h
 row (ops.BitByNumber operation number mode) start regs h = bit_by_number operation number mode start regs h
 row (ops.MovepToRegister size x y by) start regs h = movep_to_register size x y by start regs h
@@ -443,36 +444,36 @@ row (ops.MoveFromSr mode) start regs h = move_from_sr mode start regs h
 row (ops.MoveToCcr mode) start regs h = move_to_ccr mode start regs h
 row (ops.MoveToSr mode) start regs h = move_to_sr mode start regs h
 row (ops.Nbcd mode) start regs h = nbcd mode start regs h
-row (ops.Swap n) start regs h = give _ _ (swap n regs h)
-row (ops.Ext size n) start regs h = give _ _ (ext size n regs h)
+row (ops.Swap n) start regs h = give _ _ _ (swap n regs h)
+row (ops.Ext size n) start regs h = give _ _ _ (ext size n regs h)
 row (ops.Pea mode) start regs h = pea mode start regs h
 row (ops.MovemToMemory size list mode) start regs h = movem_to_memory size list mode start regs h
 row (ops.MovemToRegisters size list mode) start regs h = movem_to_registers size list mode start regs h
 row (ops.Tst size mode) start regs h = tst size mode start regs h
 row (ops.Tas mode) start regs h = tas mode start regs h
-row (ops.Trap number) start regs h = give _ _ (trap number regs h)
+row (ops.Trap number) start regs h = give _ _ _ (trap number regs h)
 row (ops.Link n by) start regs h = link n by regs h
 row (ops.Unlk n) start regs h = unlk n regs h
-row (ops.MoveToUsp n) start regs h = give _ _ (move_to_usp n start regs h)
-row (ops.MoveFromUsp n) start regs h = give _ _ (move_from_usp n start regs h)
-row ops.Reset start regs h = give _ _ (reset start regs h)
-row ops.Nop start regs h = give _ _ h
-row (ops.Stop value) start regs h = give _ _ (stop value start regs h)
+row (ops.MoveToUsp n) start regs h = give _ _ _ (move_to_usp n start regs h)
+row (ops.MoveFromUsp n) start regs h = give _ _ _ (move_from_usp n start regs h)
+row ops.Reset start regs h = give _ _ _ (reset start regs h)
+row ops.Nop start regs h = give _ _ _ h
+row (ops.Stop value) start regs h = give _ _ _ (stop value start regs h)
 row ops.Rte start regs h = rte start regs h
 row ops.Rts start regs h = rts regs h
-row ops.Trapv start regs h = give _ _ (trapv regs h)
+row ops.Trapv start regs h = give _ _ _ (trapv regs h)
 row ops.Rtr start regs h = rtr regs h
 row (ops.Jsr mode) start regs h = jsr mode start regs h
-row (ops.Jmp mode) start regs h = give _ _ (jmp mode start regs h)
-row (ops.Lea n mode) start regs h = give _ _ (lea n mode start regs h)
+row (ops.Jmp mode) start regs h = give _ _ _ (jmp mode start regs h)
+row (ops.Lea n mode) start regs h = give _ _ _ (lea n mode start regs h)
 row (ops.Chk n mode) start regs h = chk n mode start regs h
 row (ops.Quick operation size number mode) start regs h = quick operation size number mode start regs h
 row (ops.Scc condition mode) start regs h = scc condition mode start regs h
-row (ops.Dbcc condition n by) start regs h = give _ _ (dbcc condition n by start regs h)
-row (ops.Bra displacement) start regs h = give _ _ (bra displacement start regs h)
+row (ops.Dbcc condition n by) start regs h = give _ _ _ (dbcc condition n by start regs h)
+row (ops.Bra displacement) start regs h = give _ _ _ (bra displacement start regs h)
 row (ops.Bsr displacement) start regs h = bsr displacement start regs h
-row (ops.Bcc condition displacement) start regs h = give _ _ (bcc condition displacement start regs h)
-row (ops.Moveq n byte) start regs h = give _ _ (moveq n byte regs h)
+row (ops.Bcc condition displacement) start regs h = give _ _ _ (bcc condition displacement start regs h)
+row (ops.Moveq n byte) start regs h = give _ _ _ (moveq n byte regs h)
 row (ops.Divu n mode) start regs h = divu n mode start regs h
 row (ops.Divs n mode) start regs h = divs n mode start regs h
 row (ops.Decimal operation source target) start regs h = decimal operation source target start regs h
@@ -486,10 +487,10 @@ row (ops.Eor size n mode) start regs h = eor size n mode start regs h
 row (ops.Cmpm size x y) start regs h = cmpm size x y start regs h
 row (ops.Mulu n mode) start regs h = mulu n mode start regs h
 row (ops.Muls n mode) start regs h = muls n mode start regs h
-row (ops.Exg n r) start regs h = give _ _ (exg n r regs h)
-row (ops.ShiftByNumber operation size number r) start regs h = give _ _ (shift_by_number operation size number r regs h)
-row (ops.ShiftByRegister operation size n r) start regs h = give _ _ (shift_by_register operation size n r regs h)
+row (ops.Exg n r) start regs h = give _ _ _ (exg n r regs h)
+row (ops.ShiftByNumber operation size number r) start regs h = give _ _ _ (shift_by_number operation size number r regs h)
+row (ops.ShiftByRegister operation size n r) start regs h = give _ _ _ (shift_by_register operation size n r regs h)
 row (ops.ShiftMemory operation mode) start regs h = shift_memory operation mode start regs h
-row (ops.Illegal opcode) start regs h = give _ _ (illegal start regs h)
-row (ops.LineA opcode) start regs h = give _ _ (line_a start regs h)
-row (ops.LineF opcode) start regs h = give _ _ (line_f start regs h)
+row (ops.Illegal opcode) start regs h = give _ _ _ (illegal start regs h)
+row (ops.LineA opcode) start regs h = give _ _ _ (line_a start regs h)
+row (ops.LineF opcode) start regs h = give _ _ _ (line_f start regs h)

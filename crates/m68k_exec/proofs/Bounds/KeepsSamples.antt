@@ -7,24 +7,26 @@ use Rattle.md_word.specs.declared.main_bus.Request68.TheVariants.{Ack}
 use Rattle.md_word.specs.declared.regs.Regs.{Regs}
 use Rattle.m68k_decode.specs.declared.decoded.Decoded.{Decoded}
 use Rattle.m68k_decode.specs.declared.op.Op.{Op}
-use Rattle.m68k_exec.proofs.Bounds.Keeps.{Any, Fine, HasStatus, Keeps, StatusAfter, bind, give, write_word}
+use Rattle.m68k_exec.proofs.Bounds.Keeps.{Any, Fine, HasStatus, Keeps, StatusAfter, bind, write_word}
 use Rattle.m68k_exec.proofs.Bounds.KeepsRows.{row}
 use Rattle.m68k_exec.proofs.Bounds.SystemByte as sr
+use Rattle.md_word.proofs.Answered.{give}
 use Rattle.m68k_exec.proofs.Bounds.SystemByte.{HasLevel}
 use Rattle.m68k_exec.specs.Sample.Bounds.{IsAccess, IsStatus, MayAsk}
-use Rattle.m68k_exec.specs.Access.Actions as actions
-use Rattle.m68k_exec.specs.Access.Actions.{Done, is_odd}
+use Rattle.m68k_access.specs.Actions as actions
+use Rattle.md_word.specs.Answers.{Done}
+use Rattle.m68k_access.specs.Actions.{is_odd}
 use Rattle.m68k_exec.specs.Sample.Entries as entries
 use Rattle.m68k_exec.specs.Sample.Entries.{frame_for, number_of, vector_at}
 use Rattle.m68k_exec.specs.Sample.Execution as execution
-use Rattle.m68k_exec.specs.Access.Memory.{Memory}
-use Rattle.m68k_exec.specs.Access.Outcomes.{Outcome}
+use Rattle.m68k_access.specs.Memory.{Memory}
+use Rattle.m68k_access.specs.Outcomes.{Outcome}
 use Rattle.m68k_exec.specs.Sample.Samples as samples
 use Rattle.m68k_exec.specs.Sample.Samples.{Ended, begun_by, leaves_trace, nothing}
 use Rattle.m68k_exec.specs.declared.sample.exception.Exception.{Exception}
 use Rattle.m68k_exec.specs.declared.sample.exception.Exception.TheVariants.{AddressError, Interrupt, Numbered}
-use Rattle.m68k_exec.specs.declared.access.stop.Stop.{Stop}
-use Rattle.m68k_exec.specs.declared.access.stop.Stop.TheVariants.{Ask, Odd}
+use Rattle.m68k_access.specs.declared.stop.Stop.{Stop}
+use Rattle.m68k_access.specs.declared.stop.Stop.TheVariants.{Ask, Odd}
 
 -- an exception
 abbrev StatusIf : Option Regs → Type 0
@@ -32,16 +34,16 @@ StatusIf (Some regs) = IsStatus regs.sr
 StatusIf None = Unit {0}
 
 pushed : (left k : ℕ) (words : List ℕ) (stack : ℕ) → Keeps Any (entries.pushed left k words stack)
-pushed zero k words stack = give _ _ tt
+pushed zero k words stack = give _ _ _ tt
 pushed (suc left) k words stack = bind _ _ _ _ (write_word _ _) (λ written a. pushed left (k + 1) words stack)
 
 enter_with : (exception : Exception) (vector : ℕ) (words : List ℕ) (regs : Regs) → HasLevel exception → HasStatus regs → Keeps StatusIf (entries.enter_with exception vector words regs)
 unfolding entries.enter_with
-enter_with exception vector words regs l h = bind _ _ _ _ (pushed (length words) 0 words regs.ssp) (λ finished a. give _ _ (sr.entry exception regs.sr l h))
+enter_with exception vector words regs l h = bind _ _ _ _ (pushed (length words) 0 words regs.ssp) (λ finished a. give _ _ _ (sr.entry exception regs.sr l h))
 
 enter_by : (exception : Exception) (vector : ℕ) (words : Option (List ℕ)) (regs : Regs) → HasLevel exception → HasStatus regs → Keeps StatusIf (entries.enter_by exception vector words regs)
 enter_by exception vector (Some words) regs l h = enter_with exception vector words regs l h
-enter_by exception vector None regs l h = give _ _ tt
+enter_by exception vector None regs l h = give _ _ _ tt
 
 pub enter : (exception : Exception) (regs : Regs) → HasLevel exception → HasStatus regs → Keeps StatusIf (entries.enter exception regs)
 unfolding entries.enter

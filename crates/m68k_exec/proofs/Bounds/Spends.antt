@@ -12,25 +12,26 @@ use Rattle.m68k_decode.specs.Fields.{opcode}
 use Rattle.m68k_decode.specs.declared.decoded.Decoded.{Decoded}
 use Rattle.m68k_decode.specs.declared.op.Op.{Op}
 use Rattle.m68k_except.specs.Frames.{is_address_error}
-use Rattle.m68k_exec.proofs.Bounds.Aligned.{asked_even, both, write_word_even}
+use Rattle.m68k_access.proofs.Aligned.{asked_even, both, write_word_even}
 use Rattle.m68k_exec.proofs.Bounds.Early.{counts_list, early, row32}
 use Rattle.m68k_exec.proofs.Bounds.Takes.{asked}
 use Rattle.m68k_exec.proofs.Bounds.TakesEntry.{enter}
 use Rattle.m68k_exec.proofs.Bounds.TakesRows.{row}
-use Rattle.m68k_exec.specs.Access.Actions as actions
-use Rattle.m68k_exec.specs.Access.Actions.{Done, is_odd}
-use Rattle.m68k_exec.specs.Access.Clauses.{NotOdd}
+use Rattle.m68k_access.specs.Actions as actions
+use Rattle.md_word.specs.Answers.{Done}
+use Rattle.m68k_access.specs.Actions.{is_odd}
+use Rattle.m68k_access.specs.Clauses.{NotOdd}
 use Rattle.m68k_exec.specs.Sample.Entries as entries
 use Rattle.m68k_exec.specs.Sample.Entries.{number_of, pushes_of}
 use Rattle.m68k_exec.specs.Sample.Execution as execution
-use Rattle.m68k_exec.specs.Access.Memory.{Memory}
-use Rattle.m68k_exec.specs.Access.Outcomes.{Outcome}
+use Rattle.m68k_access.specs.Memory.{Memory}
+use Rattle.m68k_access.specs.Outcomes.{Outcome}
 use Rattle.m68k_exec.specs.Sample.Samples as samples
 use Rattle.m68k_exec.specs.Sample.Samples.{named, Ended, begun_by, finished, leaves_trace, nothing}
 use Rattle.m68k_exec.specs.declared.sample.exception.Exception.{Exception}
 use Rattle.m68k_exec.specs.declared.sample.exception.Exception.TheVariants.{AddressError, Interrupt, Numbered}
-use Rattle.m68k_exec.specs.declared.access.stop.Stop.{Stop}
-use Rattle.m68k_exec.specs.declared.access.stop.Stop.TheVariants.{Ask, Odd}
+use Rattle.m68k_access.specs.declared.stop.Stop.{Stop}
+use Rattle.m68k_access.specs.declared.stop.Stop.TheVariants.{Ask, Odd}
 
 -- the count of an instruction is what its row reported
 pub record FromRow (op : Op) (memory : Memory) (count : ℕ) : Type 0 where

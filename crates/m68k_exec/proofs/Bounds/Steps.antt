@@ -4,12 +4,12 @@ use Rattle.std.specs.Prelude.{◌≢◌}
 use Rattle.md_word.specs.declared.regs.Regs.{Regs}
 use Rattle.m68k_decode.specs.Ops.{IsOp}
 use Rattle.m68k_decode.specs.declared.op.Op.{Op}
-use Rattle.m68k_exec.specs.Access.Actions.{Done}
-use Rattle.m68k_exec.specs.Access.Memory.{Memory}
-use Rattle.m68k_exec.specs.Access.Outcomes.{Outcome}
+use Rattle.md_word.specs.Answers.{Done}
+use Rattle.m68k_access.specs.Memory.{Memory}
+use Rattle.m68k_access.specs.Outcomes.{Outcome}
 use Rattle.m68k_exec.specs.Sample.Execution.{row}
 use Rattle.m68k_exec.specs.Sample.Samples.{NamesInstruction, SpendsRightly, WaitsBelow, named, nothing, sampled, reported_by}
-use Rattle.m68k_exec.specs.declared.access.stop.Stop.TheVariants.{Odd}
+use Rattle.m68k_access.specs.declared.stop.Stop.TheVariants.{Odd}
 use Rattle.m68k_exec.specs.declared.sample.step.Step.{Step}
 use Rattle.m68k_exec.specs.declared.sample.step.Step.TheVariants as steps
 use Rattle.m68k_exec.proofs.Bounds.Early.{early, row32}

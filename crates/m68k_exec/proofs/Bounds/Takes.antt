@@ -14,19 +14,20 @@ use Rattle.m68k_decode.specs.Ops.{moves_of}
 use Rattle.m68k_ea.specs.Places.{place_of}
 use Rattle.m68k_ea.specs.declared.places.Place.{Place}
 use Rattle.m68k_ea.specs.declared.places.Place.TheVariants as places
-use Rattle.m68k_exec.specs.declared.access.stop.Stop.{Stop}
-use Rattle.m68k_exec.specs.declared.access.stop.Stop.TheVariants.{Ask, Odd}
-use Rattle.m68k_exec.specs.Access.Actions as actions
-use Rattle.m68k_exec.specs.Access.Actions.{Act, Done, ◌>>=◌, go_on}
+use Rattle.m68k_access.specs.declared.stop.Stop.{Stop}
+use Rattle.m68k_access.specs.declared.stop.Stop.TheVariants.{Ask, Odd}
+use Rattle.m68k_access.specs.Actions as actions
+use Rattle.md_word.specs.Answers.{Done}
+use Rattle.m68k_access.specs.Actions.{Act, ◌>>=◌, go_on}
 use Rattle.md_word.specs.Map.{is_shared}
-use Rattle.m68k_exec.specs.Access.Memory.{Memory, bus_address}
-use Rattle.m68k_exec.specs.Access.Operands as operands
-use Rattle.m68k_exec.specs.Access.Operands.{touches}
-use Rattle.m68k_exec.specs.Access.Shapes as shapes
+use Rattle.m68k_access.specs.Memory.{Memory, bus_address}
+use Rattle.m68k_access.specs.Operands as operands
+use Rattle.m68k_access.specs.Operands.{touches}
+use Rattle.m68k_access.specs.Shapes as shapes
 use Rattle.m68k_decode.specs.Ops.{touches_of}
 use Rattle.m68k_ea.specs.Steps.{stepped}
-use Rattle.m68k_exec.proofs.Taken.{answered, never_odd, unanswered, used_of, with_byte-used, with_word-used}
-use Rattle.m68k_exec.proofs.Touches.{touched}
+use Rattle.m68k_access.proofs.Taken.{answered, never_odd, unanswered, used_of, with_byte-used, with_word-used}
+use Rattle.m68k_access.proofs.Touches.{touched}
 use Rattle.m68k_exec.specs.Rows.Moves as moves
 use Rattle.m68k_exec.specs.Rows.Multiprecision as multiprecision
 use Rattle.m68k_exec.specs.Rows.Quotients as quotients

@@ -16,9 +16,9 @@ use Rattle.m68k_decode.specs.declared.op.Op.{Op}
 use Rattle.m68k_decode.specs.declared.op.Op.TheVariants as ops
 use Rattle.m68k_ea.specs.Places.{place_of}
 use Rattle.m68k_exec.proofs.Bounds.Takes.{Takes, bind, change_operand, change_register, choice, extended, fetch, give, last, load, more, move_operand, odd, pull, push, put, quotient_by, read, read_byte, test_operand, write, write_byte}
-use Rattle.m68k_exec.proofs.Touches.{touched}
+use Rattle.m68k_access.proofs.Touches.{touched}
 use Rattle.m68k_exec.proofs.Turns.{ones_turn}
-use Rattle.m68k_exec.specs.Access.Actions as actions
+use Rattle.m68k_access.specs.Actions as actions
 use Rattle.m68k_exec.specs.Rows.Arithmetic as arithmetic
 use Rattle.m68k_exec.specs.Rows.Bits as bits
 use Rattle.m68k_exec.specs.Rows.Branches as branches
@@ -34,7 +34,7 @@ use Rattle.m68k_exec.specs.Rows.Multiprecision as multiprecision
 use Rattle.m68k_exec.specs.Rows.Products as products
 use Rattle.m68k_exec.specs.Rows.Quotients as quotients
 use Rattle.m68k_exec.specs.Rows.Setting as setting
-use Rattle.m68k_exec.specs.Access.Shapes as shapes
+use Rattle.m68k_access.specs.Shapes as shapes
 use Rattle.m68k_exec.specs.Rows.Single as single
 use Rattle.m68k_exec.specs.Rows.Status as status
 use Rattle.m68k_exec.specs.declared.rows.movem.Order.{Order}

@@ -9,13 +9,13 @@ use Rattle.md_word.specs.declared.size.Size.{Size}
 use Rattle.md_word.specs.declared.size.Size.TheVariants.{Byte, Word, Long}
 use Rattle.md_word.specs.declared.task.Task.{Task}
 use Rattle.md_word.specs.declared.task.Task.TheVariants as tasks
-use Rattle.m68k_exec.proofs.Later.Accesses.{bind, choice, fetch, give, load, odd, pull, push, put, read, read_byte, store, write, write_byte}
-use Rattle.m68k_exec.proofs.Later.Shapes.{change_operand, test_operand}
-use Rattle.m68k_exec.specs.Access.Actions as actions
+use Rattle.m68k_access.proofs.Later.Accesses.{bind, choice, fetch, give, load, odd, pull, push, put, read, read_byte, store, write, write_byte}
+use Rattle.m68k_access.proofs.Later.Shapes.{change_operand, test_operand}
+use Rattle.m68k_access.specs.Actions as actions
 use Rattle.m68k_exec.specs.Rows.Bits as bits
 use Rattle.m68k_exec.specs.Rows.Control as control
 use Rattle.m68k_exec.specs.Rows.Immediates as immediates
-use Rattle.m68k_exec.specs.Laws.{IgnoresLaterAnswers}
+use Rattle.m68k_access.specs.Laws.{IgnoresLaterAnswers}
 use Rattle.m68k_exec.specs.Rows.Links as links
 use Rattle.m68k_exec.specs.Rows.Movem as movem
 use Rattle.m68k_exec.specs.Rows.Movep as movep

@@ -12,14 +12,14 @@ use Rattle.m68k_decode.specs.declared.displacement.Displacement.{Displacement}
 use Rattle.m68k_exec.specs.Rows.Arithmetic as arithmetic
 use Rattle.m68k_exec.specs.Rows.Branches as branches
 use Rattle.m68k_exec.specs.Rows.Comparisons as comparisons
-use Rattle.m68k_exec.specs.Laws.{IgnoresLaterAnswers}
+use Rattle.m68k_access.specs.Laws.{IgnoresLaterAnswers}
 use Rattle.m68k_exec.specs.Rows.Multiprecision as multiprecision
 use Rattle.m68k_exec.specs.Rows.Products as products
 use Rattle.m68k_exec.specs.Rows.Quotients as quotients
 use Rattle.m68k_exec.specs.Rows.Setting as setting
-use Rattle.m68k_exec.specs.Access.Shapes.{following}
-use Rattle.m68k_exec.proofs.Later.Accesses.{bind, fetch, give, load, push, put}
-use Rattle.m68k_exec.proofs.Later.Shapes.{change_operand, change_register}
+use Rattle.m68k_access.specs.Shapes.{following}
+use Rattle.m68k_access.proofs.Later.Accesses.{bind, fetch, give, load, push, put}
+use Rattle.m68k_access.proofs.Later.Shapes.{change_operand, change_register}
 
 pub quick : (operation : Task) (size : Size) (number : ℕ) (mode : Mode) (start : ℕ) (regs : Regs) → IgnoresLaterAnswers (arithmetic.quick operation size number mode start regs)
 quick operation size number (modes.Address n) start regs = give _

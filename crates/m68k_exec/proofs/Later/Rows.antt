@@ -3,11 +3,11 @@ use Rattle.std.proofs.Common.{ℕ}
 use Rattle.md_word.specs.declared.regs.Regs.{Regs}
 use Rattle.m68k_decode.specs.declared.op.Op.{Op}
 use Rattle.m68k_decode.specs.declared.op.Op.TheVariants as ops
-use Rattle.m68k_exec.proofs.Later.Accesses.{give}
+use Rattle.m68k_access.proofs.Later.Accesses.{give}
 use Rattle.m68k_exec.proofs.Later.First as first
 use Rattle.m68k_exec.proofs.Later.Operations as operations
 use Rattle.m68k_exec.specs.Sample.Execution as execution
-use Rattle.m68k_exec.specs.Laws.{IgnoresLaterAnswers}
+use Rattle.m68k_access.specs.Laws.{IgnoresLaterAnswers}
 
 pub row : (op : Op) (start : ℕ) (regs : Regs) → IgnoresLaterAnswers (execution.row op start regs)
 row (ops.Immediate operation size number mode) start regs = first.immediate operation size number mode start regs

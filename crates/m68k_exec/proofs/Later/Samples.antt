@@ -6,22 +6,24 @@ use Rattle.md_word.specs.declared.main_bus.Request68.TheVariants.{Ack}
 use Rattle.md_word.specs.declared.regs.Regs.{Regs}
 use Rattle.m68k_decode.specs.declared.decoded.Decoded.{Decoded}
 use Rattle.m68k_decode.specs.declared.op.Op.{Op}
-use Rattle.m68k_exec.proofs.Later.Accesses.{asked, bind, give, lower, write_word}
+use Rattle.m68k_access.proofs.Later.Accesses.{asked, bind, give, same-ram, same-rom, write_word}
 use Rattle.m68k_exec.proofs.Later.Rows.{row}
-use Rattle.m68k_exec.specs.Access.Actions as actions
-use Rattle.m68k_exec.specs.Access.Actions.{Act, Done, is_odd}
+use Rattle.m68k_access.specs.Actions as actions
+use Rattle.md_word.specs.Answers.{Done}
+use Rattle.m68k_access.specs.Actions.{Act, is_odd}
 use Rattle.m68k_exec.specs.Sample.Entries as entries
 use Rattle.m68k_exec.specs.Sample.Entries.{frame_for, number_of, vector_at}
 use Rattle.m68k_exec.specs.Sample.Execution as execution
-use Rattle.m68k_exec.specs.Laws.{IgnoresLaterAnswers, SameBelow}
-use Rattle.m68k_exec.specs.Access.Memory.{Memory, instruction_word, instruction_words}
+use Rattle.m68k_access.specs.Laws.{IgnoresLaterAnswers, SameBelow, answers_of, private_of}
+use Rattle.md_word.proofs.Answered.{lower}
+use Rattle.m68k_access.specs.Memory.{Memory, instruction_word, instruction_words}
 use Rattle.m68k_exec.specs.Sample.Samples as samples
 use Rattle.m68k_exec.specs.Sample.Samples.{Ended, begun, begun_by, nothing}
 use Rattle.m68k_exec.specs.declared.sample.exception.Exception.{Exception}
 use Rattle.m68k_exec.specs.declared.sample.exception.Exception.TheVariants.{AddressError, Interrupt, Numbered}
-use Rattle.m68k_exec.specs.Access.Outcomes.{Outcome}
-use Rattle.m68k_exec.specs.declared.access.stop.Stop.{Stop}
-use Rattle.m68k_exec.specs.declared.access.stop.Stop.TheVariants.{Ask, Odd}
+use Rattle.m68k_access.specs.Outcomes.{Outcome}
+use Rattle.m68k_access.specs.declared.stop.Stop.{Stop}
+use Rattle.m68k_access.specs.declared.stop.Stop.TheVariants.{Ask, Odd}
 
 -- what looks at the cartridge and at work RAM first
 look : {V A : Type 0} (v : Memory → V) (f : V → Act A) → ((count : ℕ) (one other : Memory) → SameBelow count one other → v other ≡ v one) → ((x : V) → IgnoresLaterAnswers (f x)) → IgnoresLaterAnswers (λ memory done. f (v memory) memory done)
@@ -47,7 +49,7 @@ enter_by exception vector None regs = give _
 
 same_vector : (number count : ℕ) (one other : Memory) → SameBelow count one other → vector_at number other ≡ vector_at number one
 unfolding vector_at
-same_vector number count one other same = rw (same.rom, same.ram) refl
+same_vector number count one other same = rw (same-rom count one other same, same-ram count one other same) refl
 
 pub enter : (exception : Exception) (regs : Regs) → IgnoresLaterAnswers (entries.enter exception regs)
 unfolding entries.enter
@@ -71,7 +73,7 @@ entered-accesses op number trace found x ended e =
 begun-same : (op : Op) (exception : Exception) (trace : Bool) (found regs : Regs) (one other : Memory) (before : Done) (ended : Ended) (first : Result (Option Regs × Done) Stop) → entries.enter exception regs one before ≡ first → begun_by op (number_of exception) trace found first ≡ Ok ended → SameBelow ended.spent.accesses one other → begun_by op (number_of exception) trace found (entries.enter exception regs other before) ≡ Ok ended
 begun-same op exception trace found regs one other before ended (Ok x) is e same =
     let count = entered-accesses op (number_of exception) trace found x ended e in
-    let known = (enter exception regs).value one other before x.0 x.1 is (lower _ _ one other (omega (arith, count)) same) in
+    let known = (enter exception regs).value one other before x.0 x.1 is (lower private_of answers_of _ _ one other (omega (arith, count)) same) in
     rw known e
 begun-same op exception trace found regs one other before ended (Err stop) is e same = absurd (cc)
 
@@ -114,12 +116,12 @@ ended-taken op found outcome one before ended e =
 answered : (op : Op) (start first : ℕ) (found regs : Regs) (one other : Memory) (ended : Ended) (result : Result (Outcome × Done) Stop) → execution.row op start regs one nothing ≡ result → samples.answered_by op first found one result ≡ Ok ended → SameBelow ended.spent.accesses one other → samples.answered_by op first found other (execution.row op start regs other nothing) ≡ Ok ended
 answered op start first found regs one other ended (Ok x) is e same =
     let taken = ended-taken op found x.0 one x.1 ended e in
-    let known = (row op start regs).value one other nothing x.0 x.1 is (lower _ _ one other taken same) in
+    let known = (row op start regs).value one other nothing x.0 x.1 is (lower private_of answers_of _ _ one other taken same) in
     rw known (ended_by op found x.0 one other x.1 ended e same)
 answered op start first found regs one other ended (Err (Ask request)) is e same = absurd (cc)
 answered op start first found regs one other ended (Err (Odd address read used)) is e same =
     let taken = exception-taken op (AddressError first address read) false found found one (record { used = used; writes = [] }) ended e in
-    let known = (row op start regs).odd one other nothing address read used is (lower _ _ one other taken same) in
+    let known = (row op start regs).odd one other nothing address read used is (lower private_of answers_of _ _ one other taken same) in
     rw known (take_exception op (AddressError first address read) false found found one other (record { used = used; writes = [] }) ended e same)
 
 instruction : (word : Decoded) (first : ℕ) (regs : Regs) (one other : Memory) (ended : Ended) → samples.instruction word first regs one ≡ Ok ended → SameBelow ended.spent.accesses one other → samples.instruction word first regs other ≡ Ok ended
@@ -132,7 +134,7 @@ instruction word first regs one other ended e same =
 acknowledged : (level : ℕ) (op : Op) (regs : Regs) (one other : Memory) (ended : Ended) (result : Result (ℕ × Done) Stop) → actions.asked (Ack level) one nothing ≡ result → samples.acknowledged level op regs one result ≡ Ok ended → SameBelow ended.spent.accesses one other → samples.acknowledged level op regs other (actions.asked (Ack level) other nothing) ≡ Ok ended
 acknowledged level op regs one other ended (Ok x) is e same =
     let taken = exception-taken op (Interrupt level) false regs regs one x.1 ended e in
-    let known = (asked (Ack level)).value one other nothing x.0 x.1 is (lower _ _ one other taken same) in
+    let known = (asked (Ack level)).value one other nothing x.0 x.1 is (lower private_of answers_of _ _ one other taken same) in
     rw known (take_exception op (Interrupt level) false regs regs one other x.1 ended e same)
 acknowledged level op regs one other ended (Err stop) is e same = absurd (cc)
 
@@ -149,7 +151,7 @@ trace op regs one other ended e same =
 -- the words of the instruction
 same_words : (address count : ℕ) (one other : Memory) → SameBelow count one other → instruction_words address other ≡ instruction_words address one
 unfolding instruction_words instruction_word
-same_words address count one other same = rw (same.rom, same.ram) refl
+same_words address count one other same = rw (same-rom count one other same, same-ram count one other same) refl
 
 pub sampled : (cause : ℕ) (regs : Regs) (one other : Memory) (ended : Ended) → samples.sampled cause regs one ≡ Ok ended → SameBelow ended.spent.accesses one other → samples.sampled cause regs other ≡ Ok ended
 unfolding samples.sampled

@@ -11,10 +11,10 @@ use Rattle.md_word.specs.declared.size.Size.TheVariants.{Long, Word}
 use Rattle.md_word.specs.declared.task.Task.{Task}
 use Rattle.md_word.specs.declared.task.Task.TheVariants as tasks
 use Rattle.m68k_alu.specs.Tasks.{computed}
-use Rattle.m68k_exec.specs.Access.Actions.{Act, ◌>>=◌, give}
-use Rattle.m68k_exec.specs.Access.Operands.{load}
-use Rattle.m68k_exec.specs.Access.Outcomes.{Outcome, plain}
-use Rattle.m68k_exec.specs.Access.Shapes.{following, change_operand, change_register}
+use Rattle.m68k_access.specs.Actions.{Act, ◌>>=◌, give}
+use Rattle.m68k_access.specs.Operands.{load}
+use Rattle.m68k_access.specs.Outcomes.{Outcome, plain}
+use Rattle.m68k_access.specs.Shapes.{following, change_operand, change_register}
 
 -- a number added to or subtracted from the whole of an address register; the flags stay
 unfoldable pub change_address : Task → ℕ → ℕ → Regs → Outcome

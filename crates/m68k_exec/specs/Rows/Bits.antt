@@ -9,9 +9,9 @@ use Rattle.md_word.specs.declared.size.Size.{Size}
 use Rattle.md_word.specs.declared.size.Size.TheVariants.{Byte, Long}
 use Rattle.md_word.specs.declared.task.Task.{Task}
 use Rattle.md_word.specs.declared.task.Task.TheVariants as tasks
-use Rattle.m68k_exec.specs.Access.Actions.{Act}
-use Rattle.m68k_exec.specs.Access.Shapes.{following, change_operand, test_operand}
-use Rattle.m68k_exec.specs.Access.Outcomes.{Outcome}
+use Rattle.m68k_access.specs.Actions.{Act}
+use Rattle.m68k_access.specs.Shapes.{following, change_operand, test_operand}
+use Rattle.m68k_access.specs.Outcomes.{Outcome}
 
 -- a data register is a long, memory a byte
 abbrev pub bit_size : Mode → Size

@@ -7,11 +7,11 @@ use Rattle.md_word.specs.declared.size.Size.TheVariants.{Byte, Word, Long}
 use Rattle.m68k_decode.specs.declared.condition.Condition.{Condition}
 use Rattle.m68k_decode.specs.declared.displacement.Displacement.{Displacement}
 use Rattle.m68k_decode.specs.declared.displacement.Displacement.TheVariants as displacements
-use Rattle.m68k_exec.specs.Access.Actions.{Act, ◌>>=◌, give}
-use Rattle.m68k_exec.specs.Access.Conditions.{holds}
-use Rattle.m68k_exec.specs.Access.Operands.{push, with_part}
-use Rattle.m68k_exec.specs.Access.Outcomes.{Outcome, plain}
-use Rattle.m68k_exec.specs.Access.Shapes.{jump_to}
+use Rattle.m68k_access.specs.Actions.{Act, ◌>>=◌, give}
+use Rattle.m68k_access.specs.Conditions.{holds}
+use Rattle.m68k_access.specs.Operands.{push, with_part}
+use Rattle.m68k_access.specs.Outcomes.{Outcome, plain}
+use Rattle.m68k_access.specs.Shapes.{jump_to}
 
 -- a displacement with its sign extended
 abbrev pub distance_of : Displacement → ℕ

@@ -7,12 +7,12 @@ use Rattle.md_word.specs.declared.mode.Mode.{Mode}
 use Rattle.md_word.specs.declared.regs.Regs.{Regs}
 use Rattle.md_word.specs.declared.size.Size.TheVariants.{Long, Word}
 use Rattle.m68k_ea.specs.Addresses.{effective_address}
-use Rattle.m68k_exec.specs.Access.Actions.{Act, ◌>>=◌, give}
-use Rattle.m68k_exec.specs.Access.Operands.{load, pull, push}
-use Rattle.m68k_exec.specs.Access.Outcomes.{Outcome, plain}
-use Rattle.m68k_exec.specs.Access.Shapes.{following, end_in, jump_to, refuse}
+use Rattle.m68k_access.specs.Actions.{Act, ◌>>=◌, give}
+use Rattle.m68k_access.specs.Operands.{load, pull, push}
+use Rattle.m68k_access.specs.Outcomes.{Outcome, plain}
+use Rattle.m68k_access.specs.Shapes.{following, end_in, jump_to, refuse}
 use Rattle.m68k_exec.specs.Rows.Status.{with_ccr, with_sr}
-use Rattle.m68k_exec.specs.Access.Vectors.{illegal_instruction, line_a, line_f, out_of_bounds, overflow, privilege_violation, trap_vector}
+use Rattle.m68k_access.specs.Vectors.{illegal_instruction, line_a, line_f, out_of_bounds, overflow, privilege_violation, trap_vector}
 
 -- JMP: an odd address is the next instruction's error
 unfoldable pub jmp : Mode → ℕ → Regs → Outcome

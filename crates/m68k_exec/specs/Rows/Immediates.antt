@@ -10,9 +10,9 @@ use Rattle.md_word.specs.declared.task.Task.{Task}
 use Rattle.md_word.specs.declared.task.Task.TheVariants as tasks
 use Rattle.m68k_alu.specs.Tasks.{computed}
 use Rattle.m68k_decode.specs.Fields.{words_of_number}
-use Rattle.m68k_exec.specs.Access.Actions.{Act}
-use Rattle.m68k_exec.specs.Access.Outcomes.{Outcome, plain}
-use Rattle.m68k_exec.specs.Access.Shapes.{following, change_operand, test_operand}
+use Rattle.m68k_access.specs.Actions.{Act}
+use Rattle.m68k_access.specs.Outcomes.{Outcome, plain}
+use Rattle.m68k_access.specs.Shapes.{following, change_operand, test_operand}
 use Rattle.m68k_exec.specs.Rows.Status.{privileged, with_ccr, with_sr}
 
 -- the target's words are after the number

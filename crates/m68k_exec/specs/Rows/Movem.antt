@@ -1,5 +1,5 @@
 -- MOVEM, of words and longs. M68000 Programmer's Reference Manual, section 4.
-use Rattle.std.specs.Prelude.{ℕ, zero, suc, ◌+◌, ◌-◌, ◌*◌, ◌/◌, ◌%◌, ◌^◌, ◌==◌, Ok, true, false, if◌then◌else◌, List, [], ◌∷◌}
+use Rattle.std.specs.Prelude.{◌≡◌, ℕ, zero, suc, ◌+◌, ◌-◌, ◌*◌, ◌/◌, ◌%◌, ◌^◌, ◌==◌, Result, Ok, Err, true, false, if◌then◌else◌, List, [], ◌∷◌}
 use Rattle.std.specs.Int.RustNames.{count_ones}
 use Rattle.md_word.specs.Fields.{address_of, register_of, with_address, with_register}
 use Rattle.md_word.specs.Width.{extended, modulus_of}
@@ -9,9 +9,11 @@ use Rattle.md_word.specs.declared.regs.Regs.{Regs}
 use Rattle.md_word.specs.declared.size.Size.{Size}
 use Rattle.m68k_decode.specs.Ops.{moves_of}
 use Rattle.m68k_ea.specs.Addresses.{effective_address}
-use Rattle.m68k_exec.specs.Access.Actions.{Act, ◌>>=◌, give, is_odd, odd, read, write}
-use Rattle.m68k_exec.specs.Access.Outcomes.{Outcome, plain}
-use Rattle.m68k_exec.specs.Access.Shapes.{following}
+use Rattle.m68k_access.specs.Actions.{Act, ◌>>=◌, give, is_odd, odd, read, write}
+use Rattle.m68k_access.specs.Outcomes.{Outcome, plain}
+use Rattle.m68k_access.specs.Shapes.{following}
+use Rattle.m68k_access.specs.declared.stop.Stop.{Stop}
+use Rattle.md_word.specs.Answers.{Done}
 use Rattle.m68k_exec.specs.declared.rows.movem.Order.{Order}
 use Rattle.m68k_exec.specs.declared.rows.movem.Order.TheVariants.{Rising, Falling}
 
@@ -19,6 +21,12 @@ use Rattle.m68k_exec.specs.declared.rows.movem.Order.TheVariants.{Rising, Fallin
 pub record Loaded : Type 0 where
   pub address : ℕ
   pub regs : Regs
+
+-- what a call means that loads registers in place, and gives the address that is reached: what it left
+-- counts where it ends well
+abbrev pub Reaches : Result ℕ Stop → Regs → Done → Result (Loaded × Done) Stop → Type 0
+Reaches (Ok x) regs after meaning = meaning ≡ Ok (record { address = x; regs = regs }, after)
+Reaches (Err stop) regs after meaning = meaning ≡ Err stop
 
 -- the places of the bits that are set among so many, the lowest first; the lowest place is n
 abbrev pub places : ℕ → ℕ → ℕ → List ℕ

@@ -8,10 +8,10 @@ use Rattle.md_word.specs.declared.regs.Regs.{Regs}
 use Rattle.md_word.specs.declared.size.Size.{Size}
 use Rattle.md_word.specs.declared.size.Size.TheVariants.{Byte, Word, Long}
 use Rattle.m68k_ea.specs.Addresses.{effective_address}
-use Rattle.m68k_exec.specs.Access.Actions.{Act, ◌>>=◌, give, read_byte, write_byte}
-use Rattle.m68k_exec.specs.Access.Operands.{with_part}
-use Rattle.m68k_exec.specs.Access.Outcomes.{Outcome, plain}
-use Rattle.m68k_exec.specs.Access.Shapes.{following}
+use Rattle.m68k_access.specs.Actions.{Act, ◌>>=◌, give, read_byte, write_byte}
+use Rattle.m68k_access.specs.Operands.{with_part}
+use Rattle.m68k_access.specs.Outcomes.{Outcome, plain}
+use Rattle.m68k_access.specs.Shapes.{following}
 
 -- a word from two bytes, at the address and 2 further
 unfoldable pub spread_word : ℕ → Act ℕ

@@ -6,10 +6,10 @@ use Rattle.md_word.specs.declared.regs.Regs.{Regs}
 use Rattle.md_word.specs.declared.size.Size.{Size}
 use Rattle.md_word.specs.declared.size.Size.TheVariants.{Byte}
 use Rattle.md_word.specs.declared.task.Task.{Task}
-use Rattle.m68k_exec.specs.Access.Actions.{Act, ◌>>=◌}
-use Rattle.m68k_exec.specs.Access.Operands.{load}
-use Rattle.m68k_exec.specs.Access.Shapes.{following, change_operand}
-use Rattle.m68k_exec.specs.Access.Outcomes.{Outcome}
+use Rattle.m68k_access.specs.Actions.{Act, ◌>>=◌}
+use Rattle.m68k_access.specs.Operands.{load}
+use Rattle.m68k_access.specs.Shapes.{following, change_operand}
+use Rattle.m68k_access.specs.Outcomes.{Outcome}
 
 -- ADDX, SUBX: the register of the source is lowered before that of the target
 unfoldable pub extended : Task → Size → Mode → Mode → ℕ → Regs → Act Outcome

@@ -5,10 +5,10 @@ use Rattle.md_word.specs.declared.mode.Mode.{Mode}
 use Rattle.md_word.specs.declared.regs.Regs.{Regs}
 use Rattle.md_word.specs.declared.size.Size.TheVariants.{Long, Word}
 use Rattle.md_word.specs.declared.task.Task.TheVariants as tasks
-use Rattle.m68k_exec.specs.Access.Actions.{Act, ◌>>=◌, give}
-use Rattle.m68k_exec.specs.Access.Operands.{load}
-use Rattle.m68k_exec.specs.Access.Shapes.{following, change_data}
-use Rattle.m68k_exec.specs.Access.Outcomes.{Outcome}
+use Rattle.m68k_access.specs.Actions.{Act, ◌>>=◌, give}
+use Rattle.m68k_access.specs.Operands.{load}
+use Rattle.m68k_access.specs.Shapes.{following, change_data}
+use Rattle.m68k_access.specs.Outcomes.{Outcome}
 
 -- MULU: its time grows with the ones in the source
 unfoldable pub mulu : ℕ → Mode → ℕ → Regs → Act Outcome

@@ -8,11 +8,11 @@ use Rattle.md_word.specs.declared.size.Size.TheVariants.{Word}
 use Rattle.m68k_alu.specs.Division.{divided, flags_after}
 use Rattle.m68k_alu.specs.declared.quotient.Quotient.{Quotient}
 use Rattle.m68k_alu.specs.declared.quotient.Quotient.TheVariants.{Overflow, Value, Zero}
-use Rattle.m68k_exec.specs.Access.Actions.{Act, ◌>>=◌, give}
-use Rattle.m68k_exec.specs.Access.Operands.{load}
-use Rattle.m68k_exec.specs.Access.Outcomes.{Outcome, plain}
-use Rattle.m68k_exec.specs.Access.Shapes.{following, end_in}
-use Rattle.m68k_exec.specs.Access.Vectors.{zero_divide}
+use Rattle.m68k_access.specs.Actions.{Act, ◌>>=◌, give}
+use Rattle.m68k_access.specs.Operands.{load}
+use Rattle.m68k_access.specs.Outcomes.{Outcome, plain}
+use Rattle.m68k_access.specs.Shapes.{following, end_in}
+use Rattle.m68k_access.specs.Vectors.{zero_divide}
 
 -- a divisor of 0 is an exception, and an overflow leaves the register
 abbrev pub ended_by : Quotient → ℕ → Regs → Outcome

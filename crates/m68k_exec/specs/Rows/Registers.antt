@@ -5,8 +5,8 @@ use Rattle.md_word.specs.Width.{extended}
 use Rattle.md_word.specs.declared.regs.Regs.{Regs}
 use Rattle.md_word.specs.declared.size.Size.TheVariants.{Byte, Long}
 use Rattle.md_word.specs.declared.task.Task.TheVariants as tasks
-use Rattle.m68k_exec.specs.Access.Outcomes.{Outcome, plain}
-use Rattle.m68k_exec.specs.Access.Shapes.{change_data}
+use Rattle.m68k_access.specs.Outcomes.{Outcome, plain}
+use Rattle.m68k_access.specs.Shapes.{change_data}
 
 -- MOVEQ: the byte with its sign extended
 unfoldable pub moveq : ℕ → ℕ → Regs → Outcome

@@ -7,11 +7,11 @@ use Rattle.md_word.specs.declared.size.Size.TheVariants.{Byte}
 use Rattle.m68k_decode.specs.declared.condition.Condition.{Condition}
 use Rattle.m68k_ea.specs.Places.{place_of}
 use Rattle.m68k_ea.specs.Steps.{stepped}
-use Rattle.m68k_exec.specs.Access.Actions.{Act, ◌>>=◌, give}
-use Rattle.m68k_exec.specs.Access.Conditions.{holds}
-use Rattle.m68k_exec.specs.Access.Operands.{fetch, put}
-use Rattle.m68k_exec.specs.Access.Outcomes.{Outcome, plain}
-use Rattle.m68k_exec.specs.Access.Shapes.{following}
+use Rattle.m68k_access.specs.Actions.{Act, ◌>>=◌, give}
+use Rattle.m68k_access.specs.Conditions.{holds}
+use Rattle.m68k_access.specs.Operands.{fetch, put}
+use Rattle.m68k_access.specs.Outcomes.{Outcome, plain}
+use Rattle.m68k_access.specs.Shapes.{following}
 
 -- all ones, or 0
 abbrev pub byte_by : Bool → ℕ

@@ -5,8 +5,8 @@ use Rattle.md_word.specs.Fields.{register_of}
 use Rattle.md_word.specs.declared.regs.Regs.{Regs}
 use Rattle.md_word.specs.declared.size.Size.{Size}
 use Rattle.md_word.specs.declared.task.Task.{Task}
-use Rattle.m68k_exec.specs.Access.Shapes.{change_data}
-use Rattle.m68k_exec.specs.Access.Outcomes.{Outcome}
+use Rattle.m68k_access.specs.Shapes.{change_data}
+use Rattle.m68k_access.specs.Outcomes.{Outcome}
 
 -- a data register shifted so many times
 unfoldable pub shift_by_number : Task → Size → ℕ → ℕ → Regs → Outcome

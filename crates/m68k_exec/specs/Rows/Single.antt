@@ -9,10 +9,10 @@ use Rattle.md_word.specs.declared.size.Size.TheVariants.{Byte, Long}
 use Rattle.md_word.specs.declared.task.Task.{Task}
 use Rattle.md_word.specs.declared.task.Task.TheVariants as tasks
 use Rattle.m68k_alu.specs.Tasks.{computed}
-use Rattle.m68k_exec.specs.Access.Actions.{Act, ◌>>=◌, give}
-use Rattle.m68k_exec.specs.Access.Operands.{load}
-use Rattle.m68k_exec.specs.Access.Outcomes.{Outcome, plain}
-use Rattle.m68k_exec.specs.Access.Shapes.{following, change_data, change_operand, test_operand}
+use Rattle.m68k_access.specs.Actions.{Act, ◌>>=◌, give}
+use Rattle.m68k_access.specs.Operands.{load}
+use Rattle.m68k_access.specs.Outcomes.{Outcome, plain}
+use Rattle.m68k_access.specs.Shapes.{following, change_data, change_operand, test_operand}
 
 -- NEGX, CLR, NEG, NOT: CLR too reads its operand
 unfoldable pub unary : Task → Size → Mode → ℕ → Regs → Act Outcome

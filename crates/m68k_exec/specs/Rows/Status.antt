@@ -7,11 +7,11 @@ use Rattle.md_word.specs.declared.regs.Regs.{Regs}
 use Rattle.md_word.specs.declared.size.Size.TheVariants.{Word}
 use Rattle.m68k_ea.specs.Places.{place_of}
 use Rattle.m68k_ea.specs.Steps.{stepped}
-use Rattle.m68k_exec.specs.Access.Actions.{Act, ◌>>=◌, give}
-use Rattle.m68k_exec.specs.Access.Operands.{fetch, load, put}
-use Rattle.m68k_exec.specs.Access.Outcomes.{Outcome, plain}
-use Rattle.m68k_exec.specs.Access.Shapes.{following, refuse}
-use Rattle.m68k_exec.specs.Access.Vectors.{privilege_violation}
+use Rattle.m68k_access.specs.Actions.{Act, ◌>>=◌, give}
+use Rattle.m68k_access.specs.Operands.{fetch, load, put}
+use Rattle.m68k_access.specs.Outcomes.{Outcome, plain}
+use Rattle.m68k_access.specs.Shapes.{following, refuse}
+use Rattle.m68k_access.specs.Vectors.{privilege_violation}
 
 -- the status register has T, S, the interrupt mask, X, N, Z, V and C; its other bits are 0
 abbrev pub with_sr : ℕ → Regs → Regs

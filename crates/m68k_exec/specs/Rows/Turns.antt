@@ -4,7 +4,7 @@ use Rattle.md_word.specs.Fields.{register_of, with_register}
 use Rattle.md_word.specs.Width.{extended, modulus_of}
 use Rattle.md_word.specs.declared.regs.Regs.{Regs}
 use Rattle.md_word.specs.declared.size.Size.{Size}
-use Rattle.m68k_exec.specs.Access.Actions.{Act, ◌>>=◌, give, read, write}
+use Rattle.m68k_access.specs.Actions.{Act, ◌>>=◌, give, read, write}
 use Rattle.m68k_exec.specs.Rows.Movem.{Loaded, named, next_address, place_at}
 use Rattle.m68k_exec.specs.declared.rows.movem.Order.{Order}
 use Rattle.m68k_exec.specs.declared.rows.movem.Order.TheVariants.{Rising}

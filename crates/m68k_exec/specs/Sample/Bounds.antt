@@ -3,7 +3,7 @@ use Rattle.std.specs.Prelude.{◌≡◌, ℕ, ◌%◌, ◌^◌, ◌<◌, bit_and
 use Rattle.md_word.specs.declared.main_bus.Request68.{Request68}
 use Rattle.md_word.specs.declared.main_bus.Request68.TheVariants.{Read8, Read16, Write8, Write16, Ack, Word as TransferWord}
 use Rattle.md_word.specs.Map.{is_shared}
-use Rattle.m68k_exec.specs.Access.Memory.{Memory}
+use Rattle.m68k_access.specs.Memory.{Memory}
 
 -- a value of the status register: T, S, the interrupt mask and the five condition codes, no other bit
 abbrev pub IsStatus : ℕ → Type 0

@@ -6,8 +6,8 @@ use Rattle.md_word.specs.declared.regs.Regs.{Regs}
 use Rattle.m68k_except.specs.Frames.{frame_of, is_address_error}
 use Rattle.m68k_except.specs.declared.answer.Frame.{Frame}
 use Rattle.m68k_except.specs.declared.answer.Frame.TheVariants.{Words, Halted}
-use Rattle.m68k_exec.specs.Access.Actions.{Act, ◌>>=◌, give, write_word}
-use Rattle.m68k_exec.specs.Access.Memory.{Memory, word_at}
+use Rattle.m68k_access.specs.Actions.{Act, ◌>>=◌, give, write_word}
+use Rattle.m68k_access.specs.Memory.{Memory, word_at}
 use Rattle.m68k_exec.specs.declared.sample.exception.Exception.{Exception}
 use Rattle.m68k_exec.specs.declared.sample.exception.Exception.TheVariants.{AddressError, Interrupt, Numbered}
 

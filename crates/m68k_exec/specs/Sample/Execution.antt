@@ -4,7 +4,7 @@ use Rattle.std.specs.Prelude.{ℕ}
 use Rattle.md_word.specs.declared.regs.Regs.{Regs}
 use Rattle.m68k_decode.specs.declared.op.Op.{Op}
 use Rattle.m68k_decode.specs.declared.op.Op.TheVariants as ops
-use Rattle.m68k_exec.specs.Access.Actions.{Act, give}
+use Rattle.m68k_access.specs.Actions.{Act, give}
 use Rattle.m68k_exec.specs.Rows.Arithmetic as arithmetic
 use Rattle.m68k_exec.specs.Rows.Bits as bits
 use Rattle.m68k_exec.specs.Rows.Branches as branches
@@ -16,7 +16,7 @@ use Rattle.m68k_exec.specs.Rows.Movem as movem
 use Rattle.m68k_exec.specs.Rows.Movep as movep
 use Rattle.m68k_exec.specs.Rows.Moves as moves
 use Rattle.m68k_exec.specs.Rows.Multiprecision as multiprecision
-use Rattle.m68k_exec.specs.Access.Outcomes.{Outcome, plain}
+use Rattle.m68k_access.specs.Outcomes.{Outcome, plain}
 use Rattle.m68k_exec.specs.Rows.Products as products
 use Rattle.m68k_exec.specs.Rows.Quotients as quotients
 use Rattle.m68k_exec.specs.Rows.Registers as registers

@@ -2,12 +2,13 @@
 -- M68000 User's Manual, section 5, the write cycle.
 use Rattle.std.specs.Prelude.{◌≡◌, ℕ, ◌+◌, ◌≤◌, true, false, [], ◌∷◌, ◌++◌, length, Result, Ok, Err}
 use Rattle.m68k_decode.specs.declared.op.Op.{Op}
-use Rattle.m68k_exec.specs.Access.Actions.{Act, Done}
-use Rattle.m68k_exec.specs.Access.Memory.{Memory}
-use Rattle.m68k_exec.specs.Access.Outcomes.{Outcome, plain}
+use Rattle.md_word.specs.Answers.{Done}
+use Rattle.m68k_access.specs.Actions.{Act}
+use Rattle.m68k_access.specs.Memory.{Memory}
+use Rattle.m68k_access.specs.Outcomes.{Outcome, plain}
 use Rattle.m68k_exec.specs.Sample.Samples.{Ended, finished, nothing, reported_by}
-use Rattle.m68k_exec.specs.declared.access.stop.Stop.{Stop}
-use Rattle.m68k_exec.specs.declared.access.stop.Stop.TheVariants.{Ask, Odd}
+use Rattle.m68k_access.specs.declared.stop.Stop.{Stop}
+use Rattle.m68k_access.specs.declared.stop.Stop.TheVariants.{Ask, Odd}
 use Rattle.m68k_exec.specs.declared.sample.step.Predicted.{Predicted}
 use Rattle.m68k_exec.specs.declared.sample.step.Step.{Step}
 use Rattle.m68k_exec.specs.declared.sample.step.Step.TheVariants as steps

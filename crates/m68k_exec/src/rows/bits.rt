@@ -5,10 +5,10 @@ ghost use Rattle.md_word.specs.Width.{modulus_of};
 ghost use Rattle.md_word.specs.declared.size.Size.TheVariants.{Byte};
 ghost use Rattle.m68k_decode.specs.Ops.{touches_of};
 ghost use Rattle.m68k_exec.specs.Rows.Bits as bits;
-ghost use Rattle.m68k_exec.specs.Access.Clauses.{Ends, done_of, memory_of};
+ghost use Rattle.m68k_access.specs.Clauses.{Ends, done_of, memory_of};
 
-use crate::access::shapes::{change_operand, test_operand};
 use crate::{Context, Outcome, Progress, Stop};
+use m68k_access::shapes::{change_operand, test_operand};
 use md_word::{Mode, Regs, Size, Task};
 
 /// A data register is a long, memory a byte.

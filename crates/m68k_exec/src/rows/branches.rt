@@ -1,13 +1,13 @@
-ghost use Rattle.m68k_exec.specs.Access.Outcomes.{outcome_of};
+ghost use Rattle.m68k_access.specs.Outcomes.{outcome_of};
 ghost use Rattle.std.specs.Prelude.{◌≡◌, ◌<◌, ◌+◌, ◌≤◌};
 ghost use Rattle.arrayvec.specs.ArrayVec.{array_vec_len};
 ghost use Rattle.m68k_exec.specs.Rows.Branches as branches;
-ghost use Rattle.m68k_exec.specs.Access.Clauses.{Ends, done_of, memory_of};
+ghost use Rattle.m68k_access.specs.Clauses.{Ends, done_of, memory_of};
 
-use crate::access::conditions::holds;
-use crate::access::operands::push;
-use crate::access::shapes::jump_to;
 use crate::{Context, Outcome, Progress, Stop};
+use m68k_access::conditions::holds;
+use m68k_access::operands::push;
+use m68k_access::shapes::jump_to;
 use m68k_decode::{Condition, Displacement};
 use md_word::{Regs, Size, extend};
 

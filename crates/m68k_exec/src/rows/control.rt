@@ -1,18 +1,18 @@
-ghost use Rattle.m68k_exec.specs.Access.Outcomes.{outcome_of};
+ghost use Rattle.m68k_access.specs.Outcomes.{outcome_of};
 ghost use Rattle.std.specs.Prelude.{◌≡◌, ◌+◌, ◌<◌, ◌≤◌};
 ghost use Rattle.arrayvec.specs.ArrayVec.{array_vec_len};
 ghost use Rattle.md_word.specs.Modes.{IsMode};
 ghost use Rattle.md_word.specs.declared.size.Size.TheVariants.{Word};
-ghost use Rattle.m68k_exec.specs.Access.Clauses.{Ends, done_of, memory_of};
+ghost use Rattle.m68k_access.specs.Clauses.{Ends, done_of, memory_of};
 ghost use Rattle.m68k_exec.specs.Rows.Control as control;
 
-use crate::access::operands::{effective, load, pull, push};
-use crate::access::shapes::{end_in, jump_to, refuse};
-use crate::access::vector::{
-    ILLEGAL_INSTRUCTION, LINE_A, LINE_F, OUT_OF_BOUNDS, OVERFLOW, PRIVILEGE_VIOLATION, TRAP,
-};
 use crate::rows::status::{set_ccr, set_sr};
 use crate::{Context, Outcome, Progress, Stop};
+use m68k_access::operands::{effective, load, pull, push};
+use m68k_access::shapes::{end_in, jump_to, refuse};
+use m68k_access::vector::{
+    ILLEGAL_INSTRUCTION, LINE_A, LINE_F, OUT_OF_BOUNDS, OVERFLOW, PRIVILEGE_VIOLATION, TRAP,
+};
 use md_word::{Flags, Mode, Regs, Size};
 
 /// JMP. An odd address is the next instruction's error.

@@ -1,12 +1,12 @@
-ghost use Rattle.m68k_exec.specs.Access.Outcomes.{outcome_of};
+ghost use Rattle.m68k_access.specs.Outcomes.{outcome_of};
 ghost use Rattle.std.specs.Prelude.{◌≡◌, ◌+◌, ◌<◌, ◌≤◌};
 ghost use Rattle.arrayvec.specs.ArrayVec.{array_vec_len};
 ghost use Rattle.md_word.specs.Modes.{IsMode};
-ghost use Rattle.m68k_exec.specs.Access.Clauses.{Ends, done_of, memory_of};
+ghost use Rattle.m68k_access.specs.Clauses.{Ends, done_of, memory_of};
 ghost use Rattle.m68k_exec.specs.Rows.Links as links;
 
-use crate::access::operands::{effective, pull, push};
 use crate::{Context, Outcome, Progress, Stop};
+use m68k_access::operands::{effective, pull, push};
 use md_word::{Mode, Regs, Size, extend};
 
 /// The number of the active stack pointer, A7.

@@ -2,17 +2,17 @@ ghost use Rattle.std.specs.Prelude.{◌≡◌, ◌+◌, ◌%◌, ◌<◌, ◌≤
 ghost use Rattle.std.specs.Int.RustNames.{count_ones};
 ghost use Rattle.arrayvec.specs.ArrayVec.{array_vec_len};
 ghost use Rattle.md_word.specs.Modes.{IsMode};
-ghost use Rattle.m68k_exec.specs.Access.Clauses.{Ends, done_of, memory_of};
-ghost use Rattle.m68k_exec.specs.Access.Outcomes.{reported_nothing};
+ghost use Rattle.m68k_access.specs.Clauses.{Ends, done_of, memory_of};
+ghost use Rattle.m68k_access.specs.Outcomes.{reported_nothing};
 ghost use Rattle.m68k_exec.specs.Rows.Movem as movem;
 
 pub mod loads;
 pub mod stores;
 
-use crate::access::operands::effective;
 use crate::rows::movem::loads::load_list;
 use crate::rows::movem::stores::store_list;
 use crate::{Context, Outcome, Progress, Stop};
+use m68k_access::operands::effective;
 use md_word::{Mode, Regs, Size};
 
 /// In which direction MOVEM goes through memory.

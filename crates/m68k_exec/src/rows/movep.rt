@@ -1,12 +1,12 @@
 ghost use Rattle.std.specs.Prelude.{◌≡◌, ◌+◌, ◌*◌, ◌<◌, ◌≤◌, IfOk, ◌%◌};
 ghost use Rattle.arrayvec.specs.ArrayVec.{array_vec_len};
 ghost use Rattle.md_word.specs.Width.{modulus_of};
-ghost use Rattle.m68k_exec.specs.Access.Clauses.{Ends, Meets, done_of, memory_of};
+ghost use Rattle.m68k_access.specs.Clauses.{Ends, Meets, done_of, memory_of};
 ghost use Rattle.m68k_exec.specs.Rows.Movep as movep;
 
-use crate::access::operands::{effective, set_part};
-use crate::access::{read_byte, write_byte};
 use crate::{Context, Outcome, Progress, Stop};
+use m68k_access::accesses::{read_byte, write_byte};
+use m68k_access::operands::{effective, set_part};
 use md_word::{Mode, Regs, Size};
 
 /// Reads a word whose bytes are at every other address, the high byte first.

@@ -4,16 +4,16 @@ ghost use Rattle.md_word.specs.Modes.{IsMode};
 ghost use Rattle.md_word.specs.Fields.{with_flags};
 ghost use Rattle.md_word.specs.Width.{modulus_of};
 ghost use Rattle.m68k_ea.specs.Steps.{stepped};
-ghost use Rattle.m68k_exec.specs.Access.Operands as operands;
-ghost use Rattle.m68k_exec.specs.Access.Actions as actions;
-ghost use Rattle.m68k_exec.specs.Access.Clauses.{Ends, Leaves, Meets, done_of, memory_of};
+ghost use Rattle.m68k_access.specs.Operands as operands;
+ghost use Rattle.m68k_access.specs.Actions as actions;
+ghost use Rattle.m68k_access.specs.Clauses.{Ends, Leaves, Meets, done_of, memory_of};
 ghost use Rattle.m68k_exec.specs.Sample.Prediction.{Predicts, WaitsForLast};
 ghost use Rattle.m68k_decode.specs.Ops as ops;
 ghost use Rattle.m68k_exec.specs.Rows.Moves as moves;
 
-use crate::access::operands::{load, locate, put, step};
-use crate::access::write;
 use crate::{Context, Outcome, Predicted, Progress, Stop};
+use m68k_access::accesses::write;
+use m68k_access::operands::{load, locate, put, step};
 use m68k_alu::compute;
 use m68k_ea::Place;
 use md_word::{Flags, Mode, Regs, Size, Task, extend};
@@ -86,7 +86,7 @@ fn write_last(
 /// Writes the result of MOVE where a mode names, and moves the register of (An)+ or −(An). Where the last
 /// access of that waits, the registers after the instruction are predicted.
 #[inline(always)]
-#[tactic(auto, using(crate::proofs::Prediction::nothing_waits), unfolding(crate::specs::Access::Operands::store, crate::specs::Access::Operands::put, crate::specs::Access::Operands::stored))]
+#[tactic(auto, using(crate::proofs::Prediction::nothing_waits), unfolding(m68k_access::specs::Operands::store, m68k_access::specs::Operands::put, m68k_access::specs::Operands::stored))]
 fn store_last(
     mode: Mode,
     size: Size,

@@ -1,15 +1,15 @@
-ghost use Rattle.m68k_exec.specs.Access.Outcomes.{outcome_of};
+ghost use Rattle.m68k_access.specs.Outcomes.{outcome_of};
 ghost use Rattle.std.specs.Prelude.{◌≡◌, ◌<◌, ◌≤◌};
 ghost use Rattle.arrayvec.specs.ArrayVec.{array_vec_len};
 ghost use Rattle.md_word.specs.Modes.{IsMode};
 ghost use Rattle.md_word.specs.declared.size.Size.TheVariants.{Word};
-ghost use Rattle.m68k_exec.specs.Access.Clauses.{Ends, done_of, memory_of};
+ghost use Rattle.m68k_access.specs.Clauses.{Ends, done_of, memory_of};
 ghost use Rattle.m68k_exec.specs.Rows.Quotients as quotients;
 
-use crate::access::operands::load;
-use crate::access::shapes::end_in;
-use crate::access::vector::ZERO_DIVIDE;
 use crate::{Context, Outcome, Progress, Stop};
+use m68k_access::operands::load;
+use m68k_access::shapes::end_in;
+use m68k_access::vector::ZERO_DIVIDE;
 use m68k_alu::{Quotient, divide};
 use md_word::{Mode, Regs, Size};
 

@@ -2,12 +2,12 @@ ghost use Rattle.std.specs.Prelude.{◌≡◌, ◌+◌, ◌<◌, ◌≤◌};
 ghost use Rattle.arrayvec.specs.ArrayVec.{array_vec_len};
 ghost use Rattle.md_word.specs.Modes.{IsMode};
 ghost use Rattle.md_word.specs.declared.size.Size.TheVariants.{Byte};
-ghost use Rattle.m68k_exec.specs.Access.Clauses.{Ends, done_of, memory_of};
+ghost use Rattle.m68k_access.specs.Clauses.{Ends, done_of, memory_of};
 ghost use Rattle.m68k_exec.specs.Rows.Setting as setting;
 
-use crate::access::conditions::holds;
-use crate::access::operands::{fetch, locate, put, step};
 use crate::{Context, Outcome, Progress, Stop};
+use m68k_access::conditions::holds;
+use m68k_access::operands::{fetch, locate, put, step};
 use m68k_decode::Condition;
 use md_word::{Mode, Regs, Size};
 

@@ -1,9 +1,9 @@
-ghost use Rattle.m68k_exec.specs.Access.Outcomes.{outcome_of};
+ghost use Rattle.m68k_access.specs.Outcomes.{outcome_of};
 ghost use Rattle.std.specs.Prelude.{◌≡◌, ◌<◌};
 ghost use Rattle.m68k_exec.specs.Rows.Shifts as shifts;
 
 use crate::Outcome;
-use crate::access::shapes::change_data;
+use m68k_access::shapes::change_data;
 use md_word::{Regs, Size, Task};
 
 /// ASx, LSx, ROXx, ROx of a data register so many times.

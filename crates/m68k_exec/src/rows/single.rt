@@ -1,14 +1,14 @@
-ghost use Rattle.m68k_exec.specs.Access.Outcomes.{outcome_of};
+ghost use Rattle.m68k_access.specs.Outcomes.{outcome_of};
 ghost use Rattle.std.specs.Prelude.{◌≡◌, ◌+◌, ◌<◌, ◌≤◌};
 ghost use Rattle.arrayvec.specs.ArrayVec.{array_vec_len};
 ghost use Rattle.md_word.specs.Modes.{IsMode};
 ghost use Rattle.md_word.specs.declared.size.Size.TheVariants.{Byte};
-ghost use Rattle.m68k_exec.specs.Access.Clauses.{Ends, done_of, memory_of};
+ghost use Rattle.m68k_access.specs.Clauses.{Ends, done_of, memory_of};
 ghost use Rattle.m68k_exec.specs.Rows.Single as single;
 
-use crate::access::operands::load;
-use crate::access::shapes::{change_data, change_operand, test_operand};
 use crate::{Context, Outcome, Progress, Stop};
+use m68k_access::operands::load;
+use m68k_access::shapes::{change_data, change_operand, test_operand};
 use m68k_alu::compute;
 use md_word::{Mode, Regs, Size, Task};
 

@@ -1,15 +1,15 @@
-ghost use Rattle.m68k_exec.specs.Access.Outcomes.{outcome_of};
+ghost use Rattle.m68k_access.specs.Outcomes.{outcome_of};
 ghost use Rattle.std.specs.Prelude.{◌≡◌, ◌+◌, ◌*◌, ◌<◌, ◌≤◌};
 ghost use Rattle.arrayvec.specs.ArrayVec.{array_vec_len};
 ghost use Rattle.md_word.specs.Modes.{IsMode};
 ghost use Rattle.md_word.specs.declared.size.Size.TheVariants.{Word};
-ghost use Rattle.m68k_exec.specs.Access.Clauses.{Ends, done_of, memory_of};
+ghost use Rattle.m68k_access.specs.Clauses.{Ends, done_of, memory_of};
 ghost use Rattle.m68k_exec.specs.Rows.Status as status;
 
-use crate::access::operands::{fetch, load, locate, put, step};
-use crate::access::shapes::refuse;
-use crate::access::vector::PRIVILEGE_VIOLATION;
 use crate::{Context, Outcome, Progress, Stop};
+use m68k_access::operands::{fetch, load, locate, put, step};
+use m68k_access::shapes::refuse;
+use m68k_access::vector::PRIVILEGE_VIOLATION;
 use md_word::{Mode, Regs, Size};
 
 /// The bits that the status register has.

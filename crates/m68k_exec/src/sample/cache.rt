@@ -1,10 +1,10 @@
 ghost use Rattle.std.specs.Prelude.{◌≡◌, ℕ, List, IfOk};
-ghost use Rattle.m68k_exec.specs.Access.Clauses.{memory_of};
+ghost use Rattle.m68k_access.specs.Clauses.{memory_of};
 ghost use Rattle.m68k_exec.specs.Sample.Caches.{IsCacheOf, IsInstructionAt, entry_of, place_of};
 ghost use Rattle.m68k_exec.specs.declared.sample.cache.CachedInstruction.{CachedInstruction};
 
 use crate::Context;
-use crate::access::memory::{WORK_RAM, bus_address, instruction_words};
+use m68k_access::memory::{WORK_RAM, bus_address, instruction_words};
 use m68k_decode::{Decoded, Op, decode_into};
 use md_word::{Mode, NoMemory, Size, Task};
 use std::alloc::Global;

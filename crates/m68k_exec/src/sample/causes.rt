@@ -1,15 +1,15 @@
 ghost use Rattle.std.specs.Prelude.{◌≡◌, ◌<◌, ◌≤◌, false, length};
 ghost use Rattle.m68k_decode.specs.Ops.{IsInstruction};
-ghost use Rattle.m68k_exec.specs.Access.Clauses.{done_of, memory_of};
+ghost use Rattle.m68k_access.specs.Clauses.{done_of, memory_of};
 ghost use Rattle.m68k_exec.specs.Sample.Prediction.{EndsPredicted};
 ghost use Rattle.m68k_exec.specs.Sample.Samples.{Keeps, nothing, reported_by};
 ghost use Rattle.m68k_exec.specs.Sample.Samples as samples;
 
-use crate::access::ask;
 use crate::sample::ends::{ended_by, predict_finish, take_address_error, take_exception};
 use crate::sample::exception::Exception;
 use crate::sample::execution::execute;
 use crate::{Context, Predicted, Progress, Step, Stop};
+use m68k_access::accesses::ask;
 use m68k_decode::{Decoded, Op};
 use md_word::{Regs, Request68};
 

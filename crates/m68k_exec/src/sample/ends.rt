@@ -1,7 +1,7 @@
 ghost use Rattle.std.specs.Prelude.{◌≡◌, ◌≢◌, ◌≤◌, false, true, length};
 ghost use Rattle.arrayvec.specs.ArrayVec.{array_vec_len};
-ghost use Rattle.m68k_exec.specs.Access.Clauses.{done_of, memory_of};
-ghost use Rattle.m68k_exec.specs.Access.Outcomes.{outcome_of};
+ghost use Rattle.m68k_access.specs.Clauses.{done_of, memory_of};
+ghost use Rattle.m68k_access.specs.Outcomes.{outcome_of};
 ghost use Rattle.m68k_exec.specs.Sample.Entries.{IsException, number_of};
 ghost use Rattle.m68k_exec.specs.Sample.Prediction.{FinishesPredicted};
 ghost use Rattle.m68k_exec.specs.Sample.Samples.{Keeps, reported_by};

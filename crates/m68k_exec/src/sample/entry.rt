@@ -1,13 +1,13 @@
 ghost use Rattle.std.specs.Prelude.{◌≡◌, ◌+◌, ◌*◌, ◌%◌, ◌<◌, ◌≤◌, length, Some, None};
 ghost use Rattle.arrayvec.specs.ArrayVec.{array_vec_len};
 ghost use Rattle.m68k_except.specs.Frames.{words_in};
-ghost use Rattle.m68k_exec.specs.Access.Clauses.{Meets, NotOdd, SpendsAtMost, done_of, memory_of};
+ghost use Rattle.m68k_access.specs.Clauses.{Meets, NotOdd, SpendsAtMost, done_of, memory_of};
 ghost use Rattle.m68k_exec.specs.Sample.Entries as entries;
 
-use crate::access::memory::word_at;
-use crate::access::write_word;
 use crate::sample::exception::Exception;
 use crate::{Context, Progress, Stop};
+use m68k_access::accesses::write_word;
+use m68k_access::memory::word_at;
 use m68k_except::{Frame, frame};
 use md_word::Regs;
 

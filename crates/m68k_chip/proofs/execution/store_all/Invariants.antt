@@ -1,5 +1,5 @@
 use Rattle.std.proofs.Common.{◌≡◌, take}
-use Rattle.m68k_exec.specs.Access.Memory.{ram_after}
+use Rattle.m68k_access.specs.Memory.{ram_after}
 use Rattle.m68k_chip.proofs.execution.store_all.Given as goal
 
 -- the writes so far are stored

@@ -1,12 +1,13 @@
 ghost use Rattle.std.specs.Prelude.{◌<◌, ◌≤◌};
 ghost use Rattle.arrayvec.specs.ArrayVec.{array_vec_len};
-ghost use Rattle.m68k_exec.specs.Access.Clauses.{Reaches, done_of, memory_of};
+ghost use Rattle.m68k_access.specs.Clauses.{done_of, memory_of};
 ghost use Rattle.m68k_exec.specs.Rows.Movem as movem;
+ghost use Rattle.m68k_exec.specs.Rows.Movem.{Reaches};
 ghost use Rattle.m68k_exec.specs.Rows.Turns as turns;
 
-use crate::access::read;
 use crate::rows::movem::{Order, next_address};
 use crate::{Context, Progress, Stop};
+use m68k_access::accesses::read;
 use md_word::{Regs, Size, extend};
 
 /// Reads one register, a word with its sign extended.

@@ -1,12 +1,12 @@
 ghost use Rattle.std.specs.Prelude.{◌≡◌, ◌+◌, ◌<◌, ◌≤◌};
 ghost use Rattle.arrayvec.specs.ArrayVec.{array_vec_len};
-ghost use Rattle.m68k_exec.specs.Access.Clauses.{Meets, done_of, memory_of};
+ghost use Rattle.m68k_access.specs.Clauses.{Meets, done_of, memory_of};
 ghost use Rattle.m68k_exec.specs.Rows.Movem as movem;
 ghost use Rattle.m68k_exec.specs.Rows.Turns as turns;
 
-use crate::access::write;
 use crate::rows::movem::{Order, named, next_address, place_at};
 use crate::{Context, Progress, Stop};
+use m68k_access::accesses::write;
 use md_word::{Regs, Size};
 
 /// Writes one register, and gives the next address.

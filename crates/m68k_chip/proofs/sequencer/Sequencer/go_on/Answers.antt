@@ -1,9 +1,9 @@
 use Rattle.std.proofs.Common.{◌∙◌, Result, ap, subst, sym}
 use Rattle.md_word.specs.declared.regs.Regs.{Regs}
-use Rattle.m68k_exec.specs.Access.Clauses.{done_of}
+use Rattle.m68k_access.specs.Clauses.{done_of}
 use Rattle.m68k_exec.specs.Sample.Prediction.{EndsPredicted}
 use Rattle.m68k_exec.specs.Sample.Samples.{Ended, Keeps, sampled, reported_by}
-use Rattle.m68k_exec.specs.declared.access.stop.Stop.{Stop}
+use Rattle.m68k_access.specs.declared.stop.Stop.{Stop}
 use Rattle.m68k_exec.specs.declared.sample.step.Predicted.{Predicted}
 use Rattle.m68k_exec.specs.declared.sample.step.Step.{Step}
 use Rattle.m68k_chip.specs.Events.{asking, came_to, went_on}

@@ -1,6 +1,6 @@
 use Rattle.std.proofs.Common.{Err, refl}
-use Rattle.m68k_exec.specs.Access.Clauses.{done_of, memory_of}
-use Rattle.m68k_exec.specs.declared.access.outcome.Outcome.{Outcome}
+use Rattle.m68k_access.specs.Clauses.{done_of, memory_of}
+use Rattle.m68k_access.specs.declared.outcome.Outcome.{Outcome}
 use Rattle.m68k_exec.proofs.Prediction.{predicts-move}
 use Rattle.m68k_exec.proofs.rows.moves.move_operand.Goals as goal
 

@@ -1,6 +1,6 @@
 use Rattle.std.proofs.Common.{Err, ap, ◌∙◌}
 use Rattle.std.proofs.lemmas.List.{nil_from_length}
-use Rattle.m68k_exec.specs.Access.Clauses.{done_of, memory_of}
+use Rattle.m68k_access.specs.Clauses.{done_of, memory_of}
 use Rattle.m68k_exec.proofs.Prediction.{few-taken, write-following}
 use Rattle.m68k_exec.proofs.rows.moves.write_last.Goals as goal
 

@@ -1,7 +1,7 @@
 use Rattle.std.proofs.Common.{ℕ, ◌+◌, ◌%◌, ◌^◌, Err, ap, ◌∙◌, arith}
 use Rattle.std.proofs.lemmas.Bool.{ne_eqb}
-use Rattle.m68k_exec.specs.Access.Clauses.{memory_of}
-use Rattle.m68k_exec.specs.declared.access.outcome.Outcome.{Outcome}
+use Rattle.m68k_access.specs.Clauses.{memory_of}
+use Rattle.m68k_access.specs.declared.outcome.Outcome.{Outcome}
 use Rattle.m68k_exec.proofs.Bounds.Steps as bounds
 use Rattle.m68k_exec.proofs.Prediction.{instruction-predicts}
 use Rattle.m68k_exec.proofs.sample.causes.instruction.Goals as goal

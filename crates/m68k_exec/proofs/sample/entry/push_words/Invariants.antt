@@ -1,6 +1,6 @@
 use Rattle.std.proofs.Common.{◌≡◌, ◌+◌, ◌-◌, ◌*◌, ◌≤◌, length}
 use Rattle.arrayvec.specs.ArrayVec.{array_vec_len}
-use Rattle.m68k_exec.specs.Access.Clauses.{done_of, memory_of}
+use Rattle.m68k_access.specs.Clauses.{done_of, memory_of}
 use Rattle.m68k_exec.specs.Sample.Entries.{pushed}
 use Rattle.m68k_exec.proofs.sample.entry.push_words.Given as goal
 

@@ -1,6 +1,6 @@
 use Rattle.std.proofs.Common.{◌≡◌, ◌-◌, ◌≤◌}
 use Rattle.arrayvec.specs.ArrayVec.{array_vec_len}
-use Rattle.m68k_exec.specs.Access.Clauses.{done_of, memory_of}
+use Rattle.m68k_access.specs.Clauses.{done_of, memory_of}
 use Rattle.m68k_exec.specs.Rows.Movem.{load_each, places, places_in}
 use Rattle.m68k_exec.proofs.rows.movem.loads.load_each.Given as goal
 

@@ -1,6 +1,6 @@
 use Rattle.std.proofs.Common.{◌≡◌, ◌-◌, ◌*◌, ◌≤◌}
 use Rattle.arrayvec.specs.ArrayVec.{array_vec_len}
-use Rattle.m68k_exec.specs.Access.Clauses.{done_of, memory_of}
+use Rattle.m68k_access.specs.Clauses.{done_of, memory_of}
 use Rattle.m68k_exec.specs.Rows.Movem.{places, places_in, store_each}
 use Rattle.m68k_exec.proofs.rows.movem.stores.store_each.Given as goal
 

@@ -2,7 +2,7 @@ use Rattle.std.proofs.Common.{sym, subst, arith, ◌∙◌}
 use Rattle.std.proofs.lemmas.List.{length-set}
 use Rattle.std.proofs.lemmas.List.Elements.{All-set}
 use Rattle.std.proofs.lemmas.Grind.{get_or-set_at}
-use Rattle.m68k_exec.specs.Access.Clauses.{memory_of}
+use Rattle.m68k_access.specs.Clauses.{memory_of}
 use Rattle.m68k_exec.specs.Sample.Caches.{IsEntryOf, IsInstructionAt, place_of}
 use Rattle.m68k_exec.proofs.Caches.{entry-decoded}
 use Rattle.m68k_exec.proofs.sample.cache.DecodeCache.decode.Goals as goal

@@ -1,4 +1,4 @@
-use Rattle.m68k_exec.specs.Access.Clauses.{memory_of}
+use Rattle.m68k_access.specs.Clauses.{memory_of}
 use Rattle.m68k_exec.proofs.Caches.{entry-taken}
 use Rattle.m68k_exec.proofs.sample.cache.DecodeCache.entry.Goals as goal
 

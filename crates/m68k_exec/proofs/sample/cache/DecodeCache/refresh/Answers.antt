@@ -1,5 +1,5 @@
 use Rattle.std.proofs.Common.{arith}
-use Rattle.m68k_exec.specs.Access.Clauses.{memory_of}
+use Rattle.m68k_access.specs.Clauses.{memory_of}
 use Rattle.m68k_exec.proofs.Caches.{entry-found, entry-read}
 use Rattle.m68k_exec.proofs.sample.cache.DecodeCache.refresh.Goals as goal
 

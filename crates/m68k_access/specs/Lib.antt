@@ -1,0 +1,9 @@
+pub mod Actions
+pub mod Clauses
+pub mod Conditions
+pub mod Laws
+pub mod Memory
+pub mod Operands
+pub mod Outcomes
+pub mod Shapes
+pub mod Vectors

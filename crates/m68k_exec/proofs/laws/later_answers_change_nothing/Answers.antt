@@ -1,5 +1,0 @@
-use Rattle.m68k_exec.proofs.Later.Accesses.{all}
-use Rattle.m68k_exec.proofs.laws.later_answers_change_nothing.Goals as goal
-
-pub returns : goal.returns
-returns c = all

@@ -1,9 +1,0 @@
--- Memory, shared accesses and operands.
-pub mod Actions
-pub mod Clauses
-pub mod Conditions
-pub mod Memory
-pub mod Operands
-pub mod Outcomes
-pub mod Shapes
-pub mod Vectors
