@@ -1,5 +1,6 @@
 //! The accesses of the 68000: what each asks for, and what its answer leads to.
 ghost use Rattle.std.specs.Prelude.{◌≡◌, ◌^◌, ◌<◌, ℕ, List, [], false};
+ghost use Rattle.md_word.specs.Clock.{cycle_limit};
 ghost use Rattle.arrayvec.specs.ArrayVec.{array_vec_len};
 ghost use Rattle.m68k_access.specs.Memory.{word_at};
 ghost use Rattle.m68k_exec.specs.Sample.Caches.{IsCacheOf};
@@ -18,7 +19,7 @@ use rom_header::Cart;
 impl Sequencer {
     /// A word of a transfer was moved, and the next costs so many cycles.
     fn move_word(&mut self, cost: u16)
-        requires next { self.old.next < 2 ^ 50 }
+        requires next { self.old.next < cycle_limit }
         requires source { self.old.transfer.source < 2 ^ 24 }
         ensures { (ram : List ℕ) → state_of self.new ram ≡ events.word_moved (state_of self.old ram) cost }
     {
@@ -57,7 +58,7 @@ impl Sequencer {
         cache: &mut DecodeCache,
         progress: &mut Progress,
     )
-        requires start { self.old.start < 2 ^ 50 }
+        requires start { self.old.start < cycle_limit }
         requires few { array_vec_len self.old.answers < 32 }
         requires predicted { IsPredicted Access cart.now (state_of self.old ram.old) self.old.predicted }
         requires cache { IsCacheOf cart.now cache.old }
@@ -105,8 +106,8 @@ impl Sequencer {
         cache: &mut DecodeCache,
         progress: &mut Progress,
     )
-        requires start { self.old.start < 2 ^ 50 }
-        requires next { self.old.next < 2 ^ 50 }
+        requires start { self.old.start < cycle_limit }
+        requires next { self.old.next < cycle_limit }
         requires source { self.old.transfer.source < 2 ^ 24 }
         requires few { array_vec_len self.old.answers < 32 }
         requires predicted { IsPredicted self.old.stage cart.now (state_of self.old ram.old) self.old.predicted }

@@ -1,4 +1,5 @@
-ghost use Rattle.std.specs.Prelude.{◌≡◌, ◌^◌, ◌<◌, true, false, replicate, IfOk, IsTrue};
+ghost use Rattle.std.specs.Prelude.{◌≡◌, ◌<◌, true, false, replicate, IfOk, IsTrue};
+ghost use Rattle.md_word.specs.Clock.{cycle_limit};
 
 use crate::case::Case;
 use crate::iteration::{Iteration, Place};
@@ -101,7 +102,7 @@ impl Chip68 {
     /// Work RAM is written once all accesses of an instruction are answered, and not before.
     pub fn answer(&mut self, answer: Answer68)
         requires asking { (next_of self.old.state).sample ≡ false }
-        requires far { self.old.state.next < 2 ^ 50 }
+        requires far { self.old.state.next < cycle_limit }
         requires fits { Fits (request_of self.old.cart self.old.state) answer }
         ensures { self.new ≡ record self.old { state = answered self.old.cart self.old.state answer } }
     {
@@ -117,7 +118,7 @@ impl Chip68 {
     /// `answer`, where the iteration that is known does not say what comes: perhaps the other one does.
     fn answer_otherwise(&mut self, answer: &Answer68)
         requires asking { (next_of self.old.state).sample ≡ false }
-        requires far { self.old.state.next < 2 ^ 50 }
+        requires far { self.old.state.next < cycle_limit }
         requires fits { Fits (request_of self.old.cart self.old.state) answer.now }
         ensures { self.new ≡ record self.old { state = answered self.old.cart self.old.state answer.now } }
     {
@@ -134,7 +135,7 @@ impl Chip68 {
     /// `answer`, where no iteration says what comes.
     fn answer_again(&mut self, answer: &Answer68)
         requires asking { (next_of self.old.state).sample ≡ false }
-        requires far { self.old.state.next < 2 ^ 50 }
+        requires far { self.old.state.next < cycle_limit }
         requires fits { Fits (request_of self.old.cart self.old.state) answer.now }
         ensures { self.new ≡ record self.old { state = answered self.old.cart self.old.state answer.now } }
     {
@@ -158,7 +159,7 @@ impl Chip68 {
     /// if there is one. Where the processor is halted or stopped, the next sample follows 28 cycles later.
     pub fn sample(&mut self, pins: Pins68)
         requires sampling { (next_of self.old.state).sample ≡ true }
-        requires far { self.old.state.next < 2 ^ 50 }
+        requires far { self.old.state.next < cycle_limit }
         ensures { self.new ≡ record self.old { state = begun self.old.cart self.old.state pins.level } }
     {
         let _quiet = self.sample_quietly(pins);
@@ -167,7 +168,7 @@ impl Chip68 {
     /// `sample`; answers whether nothing was written into work RAM.
     pub(crate) fn sample_quietly(&mut self, pins: Pins68) -> bool
         requires sampling { (next_of self.old.state).sample ≡ true }
-        requires far { self.old.state.next < 2 ^ 50 }
+        requires far { self.old.state.next < cycle_limit }
         ensures chip { self.new ≡ record self.old { state = begun self.old.cart self.old.state pins.level } }
         ensures quiet { IsTrue result → self.new.state.ram ≡ self.old.state.ram }
     {

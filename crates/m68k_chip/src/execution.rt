@@ -1,5 +1,6 @@
 //! What the 68000 carries out: an instruction, a trace or an interrupt, up to its end or to an access.
-ghost use Rattle.std.specs.Prelude.{◌≡◌, ◌^◌, ◌<◌, ℕ, List, [], Some, length};
+ghost use Rattle.std.specs.Prelude.{◌≡◌, ◌<◌, ℕ, List, [], Some, length};
+ghost use Rattle.md_word.specs.Clock.{cycle_limit};
 ghost use Rattle.m68k_time.specs.Clocks.{clocks_of};
 ghost use Rattle.m68k_access.specs.Memory.{ram_after};
 ghost use Rattle.m68k_exec.specs.Sample.Caches.{IsCacheOf};
@@ -28,7 +29,7 @@ fn store_all(writes: &[(u32, u8)], ram: &mut [u8; 65536])
 impl Sequencer {
     /// Goes to the access that waits for the next answer.
     fn ask(&mut self, cause: u8, request: Request68)
-        requires start { self.old.start < 2 ^ 50 }
+        requires start { self.old.start < cycle_limit }
         requires answers { length self.old.answers.items < 32 }
         ensures state { (ram : List ℕ) → state_of self.new ram ≡ events.asking (state_of self.old ram) cause self.old.answers.items }
         ensures request { self.new.request ≡ Some request }
@@ -44,7 +45,7 @@ impl Sequencer {
     /// stored elsewhere.
     #[inline(always)]
     fn finish(&mut self, finish: &Finish)
-        requires { self.old.start < 2 ^ 50 }
+        requires { self.old.start < cycle_limit }
         ensures { (ram : List ℕ) (writes : List (ℕ × ℕ)) → state_of self.new (ram_after ram writes)
             ≡ events.finished (state_of self.old ram) (ended_by finish.now self.old.regs writes) }
     {
@@ -72,7 +73,7 @@ impl Sequencer {
         cache: &mut DecodeCache,
         progress: &mut Progress,
     )
-        requires start { self.old.start < 2 ^ 50 }
+        requires start { self.old.start < cycle_limit }
         requires cache { IsCacheOf cart.now cache.old }
         ensures cache { IsCacheOf cart.now cache.new }
         ensures state { state_of self.new ram.new ≡ went_on cart.now (state_of self.old ram.old) cause self.old.answers.items }
@@ -103,7 +104,7 @@ impl Sequencer {
 
     /// Ends what was carried out as it is predicted.
     pub fn end_predicted(&mut self)
-        requires { self.old.start < 2 ^ 50 }
+        requires { self.old.start < cycle_limit }
         ensures { (ram : List ℕ) → state_of self.new ram
             ≡ events.finished (state_of self.old ram) (ended_by self.old.predicted.finish self.old.predicted.regs []) }
     {

@@ -1,4 +1,5 @@
-ghost use Rattle.std.specs.Prelude.{◌≡◌, ◌+◌, ◌^◌, ◌<◌, ◌≤◌, ℕ, List, Option, IfSome, IsTrue};
+ghost use Rattle.std.specs.Prelude.{◌≡◌, ◌+◌, ◌<◌, ◌≤◌, ℕ, List, Option, IfSome, IsTrue};
+ghost use Rattle.md_word.specs.Clock.{cycle_limit};
 ghost use Rattle.md_word.specs.declared.main_bus.Request68.{Request68};
 ghost use Rattle.m68k_exec.specs.declared.sample.step.Predicted.{Predicted};
 ghost use Rattle.m68k_chip.specs.Events.{answered};
@@ -113,7 +114,7 @@ impl Iteration {
     /// below a cycle, where the first comes at `start`.
     #[inline(always)]
     pub fn leads_back(&self, level: u8, start: u64, end: u64) -> bool
-        requires { start < 2 ^ 50 }
+        requires { start < cycle_limit }
         ensures place { IsTrue result → self.now.place ≡ PastRead }
         ensures level { IsTrue result → level ≡ self.now.level }
         ensures below { IsTrue result → start + self.now.last < end }

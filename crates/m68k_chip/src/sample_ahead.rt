@@ -1,5 +1,6 @@
 //! All samples below a cycle, up to the first access.
-ghost use Rattle.std.specs.Prelude.{◌≡◌, ◌^◌, ◌<◌, ◌≤◌, ◌↔◌, true, IsTrue};
+ghost use Rattle.std.specs.Prelude.{◌≡◌, ◌<◌, ◌≤◌, ◌↔◌, true, IsTrue};
+ghost use Rattle.md_word.specs.Clock.{cycle_limit};
 
 use crate::chip::Chip68;
 use crate::iteration::Place;
@@ -18,8 +19,8 @@ impl Chip68 {
     /// below cycle `end`, up to the first access; answers how many that were.
     pub fn sample_ahead(&mut self, pins: Pins68, end: u64) -> u64
         requires sampling { (next_of self.old.state).sample ≡ true }
-        requires far { self.old.state.next < 2 ^ 50 }
-        requires end { end ≤ 2 ^ 50 }
+        requires far { self.old.state.next < cycle_limit }
+        requires end { end ≤ cycle_limit }
         ensures state { WentAhead result end self.old.cart pins.level self.old.state self.new.state }
         ensures all { (next_of self.new.state).sample ≡ true → end ≤ self.new.state.next }
         ensures cart { self.new.cart ≡ self.old.cart }
@@ -44,9 +45,9 @@ impl Chip68 {
     /// `sample_ahead` where the 68000 does nothing, being halted or stopped.
     fn rest_ahead(&mut self, pins: Pins68, end: u64) -> u64
         requires sampling { (next_of self.old.state).sample ≡ true }
-        requires far { self.old.state.next < 2 ^ 50 }
+        requires far { self.old.state.next < cycle_limit }
         requires rest { is_rest (case_of self.old.state pins.level) ≡ true }
-        requires end { end ≤ 2 ^ 50 }
+        requires end { end ≤ cycle_limit }
         ensures state { WentAhead result end self.old.cart pins.level self.old.state self.new.state }
         ensures all { (next_of self.new.state).sample ≡ true → end ≤ self.new.state.next }
         ensures cart { self.new.cart ≡ self.old.cart }
@@ -58,8 +59,8 @@ impl Chip68 {
     /// `sample_ahead`, sample by sample.
     fn sample_each(&mut self, pins: Pins68, end: u64) -> u64
         requires sampling { (next_of self.old.state).sample ≡ true }
-        requires far { self.old.state.next < 2 ^ 50 }
-        requires end { end ≤ 2 ^ 50 }
+        requires far { self.old.state.next < cycle_limit }
+        requires end { end ≤ cycle_limit }
         ensures state { WentAhead result end self.old.cart pins.level self.old.state self.new.state }
         ensures all { (next_of self.new.state).sample ≡ true → end ≤ self.new.state.next }
         ensures cart { self.new.cart ≡ self.old.cart }
@@ -76,8 +77,8 @@ impl Chip68 {
     /// `sample_each` from a place of an iteration.
     fn sample_round(&mut self, pins: Pins68, end: u64) -> u64
         requires sampling { (next_of self.old.state).sample ≡ true }
-        requires far { self.old.state.next < 2 ^ 50 }
-        requires end { end ≤ 2 ^ 50 }
+        requires far { self.old.state.next < cycle_limit }
+        requires end { end ≤ cycle_limit }
         ensures state { WentAhead result end self.old.cart pins.level self.old.state self.new.state }
         ensures all { (next_of self.new.state).sample ≡ true → end ≤ self.new.state.next }
         ensures cart { self.new.cart ≡ self.old.cart }
@@ -93,8 +94,8 @@ impl Chip68 {
     /// `sample_each`; answers what was seen of the samples.
     fn sample_watched(&mut self, pins: Pins68, end: u64) -> Watched
         requires sampling { (next_of self.old.state).sample ≡ true }
-        requires far { self.old.state.next < 2 ^ 50 }
-        requires end { end ≤ 2 ^ 50 }
+        requires far { self.old.state.next < cycle_limit }
+        requires end { end ≤ cycle_limit }
         ensures watched { HasWatched result end self.old.cart pins.level self.old.state self.new.state }
         ensures all { (next_of self.new.state).sample ≡ true → end ≤ self.new.state.next }
         ensures cart { self.new.cart ≡ self.old.cart }

@@ -1,5 +1,6 @@
 //! A sample of the interrupt level: what the 68000 finds there, and the event that follows.
-ghost use Rattle.std.specs.Prelude.{◌≡◌, ◌+◌, ◌*◌, ◌^◌, ◌<◌, ◌≤◌, ℕ, List, []};
+ghost use Rattle.std.specs.Prelude.{◌≡◌, ◌+◌, ◌*◌, ◌<◌, ◌≤◌, ℕ, List, []};
+ghost use Rattle.md_word.specs.Clock.{cycle_limit};
 ghost use Rattle.m68k_exec.specs.Sample.Caches.{IsCacheOf};
 ghost use Rattle.m68k_chip.specs.Cases as cases;
 ghost use Rattle.m68k_chip.specs.Events as events;
@@ -42,8 +43,8 @@ impl Sequencer {
     /// Does nothing at the next sample and at those below cycle `end` after it; answers how many samples
     /// that were.
     pub fn rest_ahead(&mut self, end: u64) -> u64
-        requires start { self.old.start < 2 ^ 50 }
-        requires end { end ≤ 2 ^ 50 }
+        requires start { self.old.start < cycle_limit }
+        requires end { end ≤ cycle_limit }
         ensures samples { result ≡ 1 + events.steps_to (self.old.start + events.step) end }
         ensures state { (ram : List ℕ) → state_of self.new ram ≡ events.at_sample (state_of self.old ram)
             (self.old.start + events.step + events.step * events.steps_to (self.old.start + events.step) end) }
@@ -64,7 +65,7 @@ impl Sequencer {
         cache: &mut DecodeCache,
         progress: &mut Progress,
     )
-        requires start { self.old.start < 2 ^ 50 }
+        requires start { self.old.start < cycle_limit }
         requires answers { self.old.answers.items ≡ [] }
         requires cache { IsCacheOf cart.now cache.old }
         ensures cache { IsCacheOf cart.now cache.new }

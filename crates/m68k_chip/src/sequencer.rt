@@ -1,4 +1,5 @@
 ghost use Rattle.std.specs.Prelude.{◌≡◌, ◌+◌, ◌^◌, ◌<◌, ℕ, List, length, replicate};
+ghost use Rattle.md_word.specs.Clock.{cycle_limit};
 ghost use Rattle.rom_header.specs.Cartridge.{IsImage};
 ghost use Rattle.m68k_chip.specs.Events as events;
 ghost use Rattle.m68k_chip.specs.States.{long_in, power_on, state_of};
@@ -125,7 +126,7 @@ impl Sequencer {
 
     /// Does nothing until the next sample.
     pub fn wait(&mut self)
-        requires { self.old.start < 2 ^ 50 }
+        requires { self.old.start < cycle_limit }
         ensures { (ram : List ℕ) → state_of self.new ram ≡ events.waited (state_of self.old ram) }
     {
         let cycle = self.start + STEP;
