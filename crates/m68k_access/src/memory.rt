@@ -110,7 +110,7 @@ fn ram_byte(at: u32, ram: &[u8; 65536], writes: &[(u32, u8)]) -> u8
 
 /// What a private read of a byte sees, with the instruction's own writes.
 #[tactic(auto, unfolding(crate::specs::Actions::byte_seen, crate::specs::Memory::byte_at))]
-pub fn byte_seen(at: u32, context: &Context, progress: &Progress) -> u8
+pub(crate) fn byte_seen(at: u32, context: &Context, progress: &Progress) -> u8
     ensures { result ≡ actions.byte_seen at (memory_of context.now) (done_of progress.now) }
 {
     if at >= WORK_RAM {
@@ -122,7 +122,7 @@ pub fn byte_seen(at: u32, context: &Context, progress: &Progress) -> u8
 
 /// What a private read of a word sees, with the instruction's own writes.
 #[tactic(auto, unfolding(crate::specs::Actions::word_seen, crate::specs::Actions::byte_seen, crate::specs::Memory::word_at))]
-pub fn word_seen(at: u32, context: &Context, progress: &Progress) -> u16
+pub(crate) fn word_seen(at: u32, context: &Context, progress: &Progress) -> u16
     requires { at < 0x100_0000 }
     ensures { result ≡ actions.word_seen at (memory_of context.now) (done_of progress.now) }
 {
@@ -133,7 +133,7 @@ pub fn word_seen(at: u32, context: &Context, progress: &Progress) -> u16
 
 /// Notes a private write of a byte, which is lost outside work RAM.
 #[tactic(auto, unfolding(crate::specs::Actions::with_byte))]
-pub fn put_byte(at: u32, value: u8, progress: &mut Progress)
+pub(crate) fn put_byte(at: u32, value: u8, progress: &mut Progress)
     requires { array_vec_len progress.old.writes + 1 ≤ 80 }
     ensures value { done_of progress.new ≡ actions.with_byte at value (done_of progress.old) }
     ensures spent { SpendsAtMost progress.old progress.new 0 1 }
@@ -145,7 +145,7 @@ pub fn put_byte(at: u32, value: u8, progress: &mut Progress)
 
 /// Notes a private write of a word, its high byte first.
 #[tactic(auto, unfolding(crate::specs::Actions::with_word))]
-pub fn put_word(at: u32, value: u16, progress: &mut Progress)
+pub(crate) fn put_word(at: u32, value: u16, progress: &mut Progress)
     requires at { at < 0x100_0000 }
     requires room { array_vec_len progress.old.writes + 2 ≤ 80 }
     ensures value { done_of progress.new ≡ actions.with_word at value (done_of progress.old) }
