@@ -27,6 +27,7 @@ use Rattle.m68k_access.specs.Clauses.{NotOdd}
 use Rattle.m68k_exec.specs.Sample.Execution as execution
 use Rattle.m68k_access.specs.Memory.{Memory}
 use Rattle.m68k_exec.specs.Rows.Movem as movem
+use Rattle.m68k_exec.specs.Rows.Movem.{Loaded}
 use Rattle.m68k_exec.specs.Rows.Multiprecision as multiprecision
 use Rattle.m68k_access.specs.Operands as operands
 use Rattle.m68k_access.specs.Operands.{Operand}
@@ -107,12 +108,12 @@ load_even size (place ∷ rest) at regs e memory done =
 store_list : (order : Order) (size : Size) (list at : ℕ) (regs : Regs) (memory : Memory) (done : Done) → AtOnce done.used (movem.store_list order size list at regs memory done)
 unfolding movem.store_list
 store_list order size list at regs memory done =
-    cases done.used (list == 0) _ _ (λ e. tt) (λ e. cases done.used (actions.is_odd at) _ _ (λ o. refl) (λ o. odd_at_once done.used _ (store_even order size _ at regs o memory done)))
+    cases done.used (list == 0) _ _ (λ e. tt) (λ e. cases done.used (actions.is_odd at) _ _ (λ o. refl) (λ o. odd_at_once {A = ℕ} done.used (movem.store_each order size (movem.places_in list) at regs memory done) (store_even order size (movem.places_in list) at regs o memory done)))
 
 load_list : (size : Size) (list at : ℕ) (regs : Regs) (memory : Memory) (done : Done) → AtOnce done.used (movem.load_list size list at regs memory done)
 unfolding movem.load_list
 load_list size list at regs memory done =
-    cases done.used (list == 0) _ _ (λ e. tt) (λ e. cases done.used (actions.is_odd at) _ _ (λ o. refl) (λ o. odd_at_once done.used _ (load_even size _ at regs o memory done)))
+    cases done.used (list == 0) _ _ (λ e. tt) (λ e. cases done.used (actions.is_odd at) _ _ (λ o. refl) (λ o. odd_at_once {A = Loaded} done.used (movem.load_each size (movem.places_in list) at regs memory done) (load_even size (movem.places_in list) at regs o memory done)))
 
 -- MOVEM's outcome
 abbrev CountsList : ℕ → Result (Outcome × Done) Stop → Type 0
