@@ -14,12 +14,6 @@ use Rattle.z80_chip.specs.declared.stage.Stage.TheVariants.{Sample, Access, Yiel
 pub sample-predicted : (stage : Stage) (cart : List ℕ) (state : State80) (completion : Completion) → stage ≡ Sample → IsPredicted stage cart state completion
 sample-predicted stage cart state completion e = subst (λ (s : Stage). IsPredicted s cart state completion) (sym e) tt
 
-pub yield-predicted : (stage : Stage) (cart : List ℕ) (state : State80) (completion : Completion) → stage ≡ Yield → IsPredicted stage cart state completion
-yield-predicted stage cart state completion e = subst (λ (s : Stage). IsPredicted s cart state completion) (sym e) tt
-
-pub take-predicted : (stage : Stage) (cart : List ℕ) (state : State80) (completion : Completion) → stage ≡ Take → IsPredicted stage cart state completion
-take-predicted stage cart state completion e = subst (λ (s : Stage). IsPredicted s cart state completion) (sym e) tt
-
 -- where nothing is known nothing is predicted
 pub unknown-predicted : (stage : Stage) (cart : List ℕ) (state : State80) (completion : Completion) → completion.end.known ≡ false → IsPredicted stage cart state completion
 unknown-predicted Sample cart state completion none = tt

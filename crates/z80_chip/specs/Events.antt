@@ -1,10 +1,10 @@
 -- What an event of the Z80 leaves, and what it asks for. Cycles are master cycles, of which a clock
 -- has 15. Zilog UM0080, "CPU Timing"; the places of events are this project's profile.
 use Rattle.std.specs.Prelude.{◌≡◌, IsSome, ℕ, zero, suc, ◌+◌, ◌-◌, ◌*◌, ◌/◌, ◌%◌, ◌<◌, ◌≤◌, min, List, [], ◌∷◌, ◌++◌, length, Option, Some, None, option_map, unwrap_or, Result, Ok, Err}
+use Rattle.md_word.specs.Answers.{Done}
 use Rattle.md_word.specs.Clock.{sub_clock, sub_gap}
 use Rattle.md_word.specs.declared.pins.Pins80.{Pins80}
 use Rattle.md_word.specs.declared.sub_bus.Request80.{Request80}
-use Rattle.z80_exec.specs.Access.Actions.{Done}
 use Rattle.z80_exec.specs.declared.regs80.Regs80.{Regs80}
 use Rattle.z80_exec.specs.Sample.Samples.{Ended, sampled}
 use Rattle.z80_exec.specs.declared.sample.step.Finish80.{Finish80}

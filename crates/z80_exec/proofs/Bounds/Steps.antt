@@ -1,9 +1,9 @@
 -- What a step that reports a sample has, as the code meets it.
 use Rattle.std.proofs.Common.{◌≡◌, ℕ, length, sym}
+use Rattle.md_word.specs.Answers.{Done}
 use Rattle.z80_exec.specs.declared.regs80.Regs80.{Regs80}
 use Rattle.z80_exec.specs.declared.sample.step.Step80.{Step80}
 use Rattle.z80_exec.specs.declared.sample.step.Step80.TheVariants as steps
-use Rattle.z80_exec.specs.Access.Actions.{Done}
 use Rattle.z80_exec.specs.Access.Memory.{Memory}
 use Rattle.z80_exec.specs.Sample.Samples.{CoversAccesses, WaitsBelow, WaitsRightly, sampled, reported_by}
 use Rattle.z80_exec.proofs.Bounds.Samples.{asks, covers, most, waits}

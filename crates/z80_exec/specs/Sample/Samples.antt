@@ -2,6 +2,7 @@
 -- Zilog UM0080, "Instruction Op Code Fetch", "Interrupt Response"; the rises of R, this project's
 -- profile.
 use Rattle.std.specs.Prelude.{ℕ, ◌≡◌, ◌+◌, ◌*◌, ◌/◌, ◌%◌, ◌<◌, ◌≤◌, Bool, true, false, ◌==◌, ◌||◌, if◌then◌else◌, List, [], slice_index, Result, Ok, Err}
+use Rattle.md_word.specs.Answers.{Done}
 use Rattle.md_word.specs.declared.sub_bus.Request80.{Request80}
 use Rattle.z80_decode.specs.Instructions.{instruction_of}
 use Rattle.z80_decode.specs.declared.decoded80.Decoded80.{Decoded80}
@@ -10,7 +11,6 @@ use Rattle.z80_decode.specs.declared.op80.Op80.TheVariants as ops
 use Rattle.z80_exec.specs.declared.regs80.Regs80.{Regs80}
 use Rattle.z80_exec.specs.declared.sample.step.Step80.{Step80}
 use Rattle.z80_exec.specs.declared.sample.step.Step80.TheVariants as steps
-use Rattle.z80_exec.specs.Access.Actions.{Done}
 use Rattle.z80_exec.specs.Access.Memory.{Memory, instruction_bytes}
 use Rattle.z80_exec.specs.Access.Outcomes.{Outcome}
 use Rattle.z80_exec.specs.Sample.Bounds.{IsAccess}
