@@ -79,6 +79,6 @@ bytes-answered address value memory = refl
 pub sample-predicts : (step : Step80) (predicted : Predicted80) (regs : Regs80) (memory : Memory) (found : Decoded80) (first : ℕ) → found ≡ instruction_of (instruction_bytes regs.pc memory) → first ≡ slice_index (instruction_bytes regs.pc memory) 0
     → EndsPredicted step predicted (samples.instruction found first regs) memory → EndsPredicted step predicted (samples.sampled 0 regs) memory
 unfolding samples.sampled
-sample-predicts (steps.Need request) predicted regs memory found first names begins ends = λ known value.
+sample-predicts (steps.Need waiting) predicted regs memory found first names begins ends = λ known value.
     rw (bytes-answered regs.pc value memory) (rw (sym names, sym begins) (ends known value))
 sample-predicts (steps.Done finish) predicted regs memory found first names begins ends = tt

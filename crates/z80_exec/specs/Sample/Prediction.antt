@@ -36,6 +36,6 @@ Predicts (Err waiting) predicted act memory done =
 
 -- a sample that waits results in what is predicted, whatever it is answered
 abbrev pub EndsPredicted : Step80 → Predicted80 → (Memory → Result Ended Request80) → Memory → Type 0
-EndsPredicted (steps.Need request) predicted sample memory =
+EndsPredicted (steps.Need waiting) predicted sample memory =
     predicted.known ≡ true → (value : ℕ) → sample (answered_with value memory) ≡ reported_by (steps.Done predicted.finish) predicted.regs (all_answered memory)
 EndsPredicted (steps.Done finish) predicted sample memory = Unit {0}
