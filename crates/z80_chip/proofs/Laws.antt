@@ -220,9 +220,7 @@ answered-ok v answer ok kind fits = answered-by v.state.stage v answer ok ok.sta
 answers-same : (cart ram : List ℕ) (bank : ℕ) (answers : List ℕ) (x count : ℕ) → count ≤ length answers
     → SameBelow count (record { rom = cart; ram = ram; bank = bank; answers = answers ++ x ∷ [] }) (record { rom = cart; ram = ram; bank = bank; answers = answers })
 answers-same cart ram bank answers x count few = record {
-  rom = refl;
-  ram = refl;
-  bank = refl;
+  same = refl;
   enough = few;
   answers = λ k less. sym (get_or_append_left answers (x ∷ []) 0 k (omega (arith, less, few)));
 }

@@ -1,5 +1,4 @@
 pub mod Ahead
-pub mod Prediction
 pub mod Kept
 pub mod Laws
 pub mod Recent
@@ -7,4 +6,4 @@ pub mod Resting
 pub mod RuleLaws
 pub mod SavedLaws
 pub mod SpellingLaws
-pub mod Steps
+pub mod Waiting

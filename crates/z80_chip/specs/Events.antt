@@ -4,8 +4,6 @@ use Rattle.std.specs.Prelude.{◌≡◌, IsSome, ℕ, zero, suc, ◌+◌, ◌-�
 use Rattle.md_word.specs.Clock.{sub_clock, sub_gap}
 use Rattle.md_word.specs.declared.pins.Pins80.{Pins80}
 use Rattle.md_word.specs.declared.sub_bus.Request80.{Request80}
-use Rattle.z80_exec.specs.Access.Actions.{Done}
-use Rattle.z80_exec.specs.declared.regs80.Regs80.{Regs80}
 use Rattle.z80_exec.specs.Sample.Samples.{Ended, sampled}
 use Rattle.z80_exec.specs.declared.sample.step.Finish80.{Finish80}
 use Rattle.z80_chip.specs.Cases.{case_of, seen}
@@ -80,23 +78,6 @@ ended_at state finish =
 abbrev pub came_to : State80 → ℕ → Result Ended Request80 → State80
 came_to state cause (Ok ended) = finished state ended
 came_to state cause (Err request) = asking state cause
-
--- what ended, if it did
-abbrev pub ended_in : Result Ended Request80 → Option Ended
-ended_in (Ok ended) = Some ended
-ended_in (Err request) = None
-
--- what a finish reports, with the registers and what was done then
-abbrev pub ended_by : Option Finish80 → Regs80 → Done → Option Ended
-ended_by None regs done = None
-ended_by (Some finish) regs done = Some (record {
-  regs = regs;
-  used = done.used;
-  writes = done.writes;
-  t = finish.t;
-  halted = finish.halted;
-  after_ei = finish.after_ei;
-})
 
 -- it continues what it carries out, as far as the answers go
 unfoldable pub went_on : List ℕ → State80 → ℕ → State80

@@ -1,6 +1,6 @@
 pub mod Cases
 pub mod Events
-pub mod Prediction
+pub mod Held
 pub mod Rules
 pub mod Saved
 pub mod Validity

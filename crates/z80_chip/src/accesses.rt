@@ -4,8 +4,8 @@ ghost use Rattle.arrayvec.specs.ArrayVec.{array_vec_len};
 ghost use Rattle.md_word.specs.Clock.{cycle_limit};
 ghost use Rattle.md_word.specs.declared.sub_bus.Parcel.{Parcel as Held};
 ghost use Rattle.z80_chip.specs.Events as events;
-ghost use Rattle.z80_chip.specs.Events.{answered, asked_of, carried_out, handed, went_on};
-ghost use Rattle.z80_chip.specs.Prediction.{PredictsEnd, IsPredicted};
+ghost use Rattle.z80_chip.specs.Events.{answered, handed};
+ghost use Rattle.z80_chip.specs.Held.{IsPredicted, PredictsEnd, WaitsFor, access_in, asked_by};
 ghost use Rattle.z80_chip.specs.States.{State80, state_of};
 ghost use Rattle.z80_chip.specs.declared.stage.Stage.TheVariants as stages;
 ghost use Rattle.z80_parcel.specs.Parcels.{Store, store_of};
@@ -16,62 +16,32 @@ use crate::sequencer::Sequencer;
 use crate::stage::Stage;
 use md_word::{Answer80, Parcel, Request80};
 use rom_header::Cart;
-use z80_exec::{DecodeCache80, Progress80, Step80, go};
+use z80_exec::{DecodeCache80, Progress80};
 
 /// The master cycles from the sample that saw the request change to the sample after it.
 const MOVE_STEP: u64 = 105;
 
 impl Sequencer {
     /// The request of the access that is the next event. A yield hands over the RAM.
-    #[tactic(auto, unfolding(crate::specs::Events::asked_of, crate::specs::Events::handed))]
-    pub fn request(
-        &mut self,
-        cart: &Cart,
-        parcel: &mut Option<Parcel>,
-        progress: &mut Progress80,
-    ) -> Request80
-        requires access { events.Waits self.old.stage cart.now (state_of self.old parcel.old) }
-        requires predicted { IsPredicted self.old.stage cart.now (state_of self.old parcel.old) self.old.completion }
-        ensures request { request_value80_of result ≡ asked_of cart.now (state_of self.old parcel.old) }
-        ensures state { state_of self.new parcel.new ≡ handed (state_of self.old parcel.old) }
-        ensures predicted { IsPredicted self.new.stage cart.now (state_of self.new parcel.new) self.new.completion }
+    #[tactic(auto, unfolding(crate::specs::Events::handed))]
+    pub fn asked(&self, parcel: &mut Option<Parcel>) -> Request80
+        ensures request { request_value80_of result ≡ asked_by self.now.stage self.now.request (option_map store_of parcel.old) }
+        ensures state { state_of self.now parcel.new ≡ handed (state_of self.now parcel.old) }
     {
         match self.stage {
-            Stage::Access => self.waiting(cart, parcel, progress),
+            Stage::Access => self.access(),
             Stage::Yield => yield_parcel(parcel),
             Stage::Sample | Stage::Take => Request80::Take,
         }
     }
 
-    /// The read or write that waits for its answer.
-    fn waiting(
-        &mut self,
-        cart: &Cart,
-        parcel: &Option<Parcel>,
-        progress: &mut Progress80,
-    ) -> Request80
-        requires ram { IsSome parcel.now }
-        requires asked { events.Asks cart.now (state_of self.old parcel.now) }
-        requires predicts_end { PredictsEnd self.old.completion cart.now (state_of self.old parcel.now) self.old.cause }
-        ensures request { request_value80_of result ≡ events.asked_in (carried_out cart.now (state_of self.old parcel.now) self.old.cause) }
-        ensures state { self.new ≡ self.old }
+    /// The read or write that waits for its answer at an access.
+    fn access(&self) -> Request80
+        ensures { request_value80_of result ≡ access_in self.now.request }
     {
-        if self.completion.end.known {
-            return Request80::Write(self.completion.address, self.completion.value);
-        }
-        match parcel {
+        match self.request {
+            Some(waiting) => waiting.request(),
             None => Request80::Take,
-            Some(parcel) => match go(
-                &mut self.regs,
-                cart,
-                parcel,
-                &self.answers,
-                self.cause,
-                progress,
-            ) {
-                Step80::Need(request) => request,
-                Step80::Done(_) => unreachable!(),
-            },
         }
     }
 
@@ -88,8 +58,9 @@ impl Sequencer {
         requires start { self.old.start < cycle_limit }
         requires few { array_vec_len self.old.answers < 4 }
         requires ram { events.HasRam self.old.stage (state_of self.old parcel.old) }
-        requires predicted { IsPredicted self.old.stage cart.now (state_of self.old parcel.old) self.old.completion }
-        ensures predicted { IsPredicted self.new.stage cart.now (state_of self.new parcel.new) self.new.completion }
+        requires predicted { IsPredicted self.old.stage cart.now (state_of self.old parcel.old) self.old.predicted }
+        ensures waiting { WaitsFor self.new.stage cart.now (state_of self.new parcel.new) self.new.request }
+        ensures predicted { IsPredicted self.new.stage cart.now (state_of self.new parcel.new) self.new.predicted }
         ensures state { state_of self.new parcel.new ≡ answered cart.now (state_of self.old parcel.old) (answer_value80_of answer) }
     {
         match self.stage {
@@ -114,11 +85,12 @@ impl Sequencer {
         requires start { self.old.start < cycle_limit }
         requires few { array_vec_len self.old.answers < 4 }
         requires ram { IsSome parcel.old }
-        requires predicts_end { PredictsEnd self.old.completion cart.now (state_of self.old parcel.old) self.old.cause }
+        requires predicts_end { PredictsEnd self.old.predicted cart.now (state_of self.old parcel.old) self.old.cause }
         ensures state { state_of self.new parcel.new ≡ events.went_on_with cart.now (state_of self.old parcel.old) value }
-        ensures predicted { IsPredicted self.new.stage cart.now (state_of self.new parcel.new) self.new.completion }
+        ensures waiting { WaitsFor self.new.stage cart.now (state_of self.new parcel.new) self.new.request }
+        ensures predicted { IsPredicted self.new.stage cart.now (state_of self.new parcel.new) self.new.predicted }
     {
-        if self.completion.end.known {
+        if self.predicted.known {
             self.end_predicted();
             return;
         }

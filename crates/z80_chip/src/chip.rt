@@ -27,7 +27,7 @@ pub struct Chip80 {
 
 impl Model for Chip80 {
     ghost use Rattle.std.specs.Arc.{arc_value};
-    ghost use Rattle.z80_chip.specs.Prediction.{IsHeld};
+    ghost use Rattle.z80_chip.specs.Held.{IsHeld};
     ghost use Rattle.z80_chip.specs.Validity.{Chip80Value};
     ghost use Rattle.z80_chip.specs.States.{state_of};
 
@@ -35,7 +35,7 @@ impl Model for Chip80 {
 
     ghost view = { λ chip. record { cart = arc_value chip.cart; state = state_of chip.sequencer chip.parcel } };
 
-    ghost invariant = { λ chip. IsHeld (record { cart = arc_value chip.cart; state = state_of chip.sequencer chip.parcel }) chip.sequencer.completion };
+    ghost invariant = { λ chip. IsHeld (record { cart = arc_value chip.cart; state = state_of chip.sequencer chip.parcel }) chip.sequencer.request chip.sequencer.predicted };
 }
 
 impl Chip80 {
@@ -85,8 +85,7 @@ impl Chip80 {
         ensures request { request_value80_of result ≡ asked_of self.old.cart self.old.state }
         ensures chip { self.new ≡ record self.old { state = handed self.old.state } }
     {
-        self.sequencer
-            .request(&self.cart, &mut self.parcel, &mut self.progress)
+        self.sequencer.asked(&mut self.parcel)
     }
 
     /// Takes the answer to the access that is the next event, and continues to the event after it. RAM

@@ -5,7 +5,6 @@
 mod accesses;
 mod case;
 mod chip;
-mod completion;
 mod execution;
 mod known;
 mod need;

@@ -5,7 +5,7 @@ ghost use Rattle.md_word.specs.declared.sub_bus.Parcel.{Parcel as Held};
 ghost use Rattle.z80_chip.specs.Cases as cases;
 ghost use Rattle.z80_chip.specs.Events as events;
 ghost use Rattle.z80_chip.specs.Events.{WentAhead, begun, went_on};
-ghost use Rattle.z80_chip.specs.Prediction.{PredictsEnd, IsPredicted};
+ghost use Rattle.z80_chip.specs.Held.{IsPredicted, WaitsFor};
 ghost use Rattle.z80_chip.specs.States.{State80, state_of};
 ghost use Rattle.z80_chip.specs.declared.stage.Stage.TheVariants as stages;
 ghost use Rattle.z80_parcel.specs.Parcels.{Store, store_of};
@@ -83,7 +83,8 @@ impl Sequencer {
         requires start { self.old.start < cycle_limit }
         requires answers { self.old.answers.items ≡ [] }
         ensures state { state_of self.new parcel.new ≡ begun cart.now (state_of self.old parcel.old) pins.now }
-        ensures predicted { IsPredicted self.new.stage cart.now (state_of self.new parcel.new) self.new.completion }
+        ensures waiting { WaitsFor self.new.stage cart.now (state_of self.new parcel.new) self.new.request }
+        ensures predicted { IsPredicted self.new.stage cart.now (state_of self.new parcel.new) self.new.predicted }
     {
         self.see_reset(pins);
         match self.case_at(pins, parcel) {
@@ -126,7 +127,8 @@ impl Sequencer {
         requires end { end ≤ cycle_limit }
         requires answers { self.old.answers.items ≡ [] }
         ensures state { WentAhead result end cart.now pins.now (state_of self.old parcel.old) (state_of self.new parcel.new) }
-        ensures predicted { IsPredicted self.new.stage cart.now (state_of self.new parcel.new) self.new.completion }
+        ensures waiting { WaitsFor self.new.stage cart.now (state_of self.new parcel.new) self.new.request }
+        ensures predicted { IsPredicted self.new.stage cart.now (state_of self.new parcel.new) self.new.predicted }
         ensures few { result ≤ cycle_limit + 1 }
         ensures all { cases.is_rest (cases.case_of (state_of self.old parcel.old) pins.now) ≡ true → end ≤ self.new.next }
     {

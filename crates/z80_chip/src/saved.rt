@@ -6,14 +6,13 @@ ghost use Rattle.z80_chip.specs.Saved as rules;
 ghost use Rattle.z80_chip.specs.States.{state_of};
 ghost use Rattle.z80_parcel.specs.Parcels.{store_of};
 
-use crate::completion::Completion;
 use crate::numbers::{ACCESS, four_at, mode_number, mode_of, padded, stage_number, stage_of};
 use crate::resuming::first_answers;
 use crate::sequencer::{FIRST_STEP, STEP, Sequencer};
 use md_fields::{Field, are_zeros, is_after, is_soon, u8_at, u16_at, u64_at};
 use md_word::Parcel;
 use rom_header::Cart;
-use z80_exec::Regs80;
+use z80_exec::{Predicted80, Regs80};
 
 /// The numbers that a saved state keeps of the Z80, whatever they are, in their order. Cycles are
 /// master cycles.
@@ -203,7 +202,7 @@ impl Saved80 {
     pub fn sequencer(&self) -> Sequencer
         requires { self.now.count ≤ 4 }
         ensures state { (parcel : Option Held) → state_of result parcel ≡ rules.state_from self.now (option_map store_of parcel) }
-        ensures unknown { result.completion.end.known ≡ false }
+        ensures unknown { result.predicted.known ≡ false }
     {
         Sequencer {
             regs: self.regs(),
@@ -215,7 +214,8 @@ impl Saved80 {
             resets: self.resets,
             cause: self.cause,
             answers: first_answers(&self.answers, usize::from(self.count)),
-            completion: Completion::nothing(),
+            request: None,
+            predicted: Predicted80::nothing(),
         }
     }
 

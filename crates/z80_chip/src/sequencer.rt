@@ -6,12 +6,11 @@ ghost use Rattle.z80_chip.specs.declared.stage.Stage.TheVariants as stages;
 ghost use Rattle.z80_chip.specs.States.{State80, no_regs, power_on, state_of};
 ghost use Rattle.z80_parcel.specs.Parcels.{Store, store_of};
 
-use crate::completion::Completion;
 use crate::stage::Stage;
 use arrayvec::ArrayVec;
 use md_word::clock::SUB_GAP;
 use z80_decode::InterruptMode;
-use z80_exec::Regs80;
+use z80_exec::{Predicted80, Regs80, Waiting};
 
 /// The master cycles from a sample to the first access, to a yield and to a take, and for which a
 /// halted Z80 waits.
@@ -40,8 +39,10 @@ pub struct Sequencer {
     pub cause: u8,
     /// What its accesses have answered so far.
     pub answers: ArrayVec<u8, 4>,
-    /// What follows the answer to the write that waits, where it is predicted.
-    pub completion: Completion,
+    /// The request that waits for its answer at an access; at other events it may be any that did.
+    pub request: Option<Waiting>,
+    /// What follows the answer, where that is known.
+    pub predicted: Predicted80,
 }
 
 impl Sequencer {
@@ -78,7 +79,8 @@ impl Sequencer {
             resets: 0,
             cause: 0,
             answers: ArrayVec::new(),
-            completion: Completion::nothing(),
+            request: None,
+            predicted: Predicted80::nothing(),
         }
     }
 

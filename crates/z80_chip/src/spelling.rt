@@ -85,10 +85,12 @@ impl Chip80 {
             return Err(Unspell::Rule { place: RAM as u64 });
         }
         let cache = DecodeCache80::empty(alloc)?;
+        let mut sequencer = saved.sequencer();
+        sequencer.resume(&cart, &parcel);
         Ok(Chip80 {
             cart,
             parcel,
-            sequencer: saved.sequencer(),
+            sequencer,
             cache,
             progress: Progress80::new(),
         })

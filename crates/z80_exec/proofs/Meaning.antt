@@ -4,6 +4,7 @@ use Rattle.std.specs.Prelude.{◌≢◌, IsTrue, if◌then◌else◌, slice_set}
 use Rattle.std.proofs.lemmas.Bool.Decides.{nat_tests}
 use Rattle.std.proofs.Math.ListN.{length-set}
 use Rattle.std.proofs.lemmas.List.{get_or-set_other, get_or-set_same}
+use Rattle.md_word.specs.Answers.{Done}
 use Rattle.z80_decode.specs.Fields.{word}
 use Rattle.z80_decode.specs.declared.decoded80.Decoded80.{Decoded80}
 use Rattle.z80_decode.specs.declared.interrupt_mode.InterruptMode.TheVariants.{Mode0, Mode1, Mode2}
@@ -11,7 +12,7 @@ use Rattle.z80_decode.specs.declared.interrupt_mode.InterruptMode.{InterruptMode
 use Rattle.z80_decode.specs.declared.op80.Op80.TheVariants as ops
 use Rattle.z80_decode.specs.declared.op80.Op80.{Op80}
 use Rattle.z80_exec.specs.Access.Actions as actions
-use Rattle.z80_exec.specs.Access.Actions.{Done, ◌>>=◌}
+use Rattle.z80_exec.specs.Access.Actions.{◌>>=◌}
 use Rattle.z80_exec.specs.Access.Memory.{Memory, byte_at, is_ram, is_shared_read, is_shared_write, next, ram_after, ram_place, stored}
 use Rattle.z80_exec.specs.Access.Operands as operands
 use Rattle.z80_exec.specs.Access.Outcomes.{taken}

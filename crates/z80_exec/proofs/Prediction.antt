@@ -1,7 +1,8 @@
 -- What follows a write that waits for its answer.
-use Rattle.std.proofs.Common.{◌≡◌, ℕ, ◌+◌, ◌≤◌, ◌∙◌, true, false, nat_lt, List, [], ◌∷◌, length, length-append, slice_index, Result, Ok, Err, refl, sym, ap, arith}
+use Rattle.std.proofs.Common.{◌≡◌, ℕ, ◌+◌, ◌≤◌, ◌∙◌, true, false, nat_lt, List, [], ◌∷◌, length, slice_index, Result, Ok, Err, refl, sym, ap, arith}
 use Rattle.std.proofs.lemmas.Bool.Decides.{nat_tests}
-use Rattle.std.proofs.lemmas.List.{get_or_append_left}
+use Rattle.md_word.specs.Answers.{Done}
+use Rattle.md_word.proofs.Answered.{answered-same, as-last, one-longer}
 use Rattle.md_word.proofs.Choices.{split}
 use Rattle.md_word.specs.declared.sub_bus.Request80.{Request80}
 use Rattle.md_word.specs.declared.sub_bus.Request80.TheVariants.{Write}
@@ -9,11 +10,10 @@ use Rattle.z80_decode.specs.Instructions.{instruction_of}
 use Rattle.z80_decode.specs.declared.decoded80.Decoded80.{Decoded80}
 use Rattle.z80_decode.specs.declared.place8.Place8.{Place8}
 use Rattle.z80_exec.specs.Access.Actions as actions
-use Rattle.z80_exec.specs.Access.Actions.{Act, Done}
-use Rattle.z80_exec.specs.Access.Memory.{Memory, instruction_byte, instruction_bytes, is_shared_write}
+use Rattle.z80_exec.specs.Access.Actions.{Act}
+use Rattle.z80_exec.specs.Access.Memory.{Memory, answers_of, instruction_byte, instruction_bytes, is_shared_write, private_of}
 use Rattle.z80_exec.specs.Access.Operands as operands
 use Rattle.z80_exec.specs.Access.Outcomes.{Outcome, plain}
-use Rattle.z80_exec.specs.Laws.{SameBelow}
 use Rattle.z80_exec.specs.Rows.Loads as loads
 use Rattle.z80_exec.specs.Sample.Prediction.{EndsPredicted, Predicts, WaitsForLast, all_answered, answered_with}
 use Rattle.z80_exec.specs.Sample.Samples as samples
@@ -34,39 +34,21 @@ pub nothing_waits : {A B : Type 0} (result : Result A Waiting) (predicted : Pred
 nothing_waits (Ok x) predicted regs act given memory done none = none
 nothing_waits (Err waiting) predicted regs act given memory done none = λ known. absurd (let no_way = sym none ∙ known in cc)
 
--- ---- one answer more
-
-one-longer : (value : ℕ) (memory : Memory) → length (answered_with value memory).answers ≡ length memory.answers + 1
-one-longer value memory = length-append memory.answers (value ∷ [])
-
--- what was taken is the same
-answered-same : (count value : ℕ) (memory : Memory) → count ≤ length memory.answers → SameBelow count memory (answered_with value memory)
-answered-same count value memory few = record {
-  rom = refl;
-  ram = refl;
-  bank = refl;
-  enough = (let e = one-longer value memory in omega (arith, e, few));
-  answers = λ k below. get_or_append_left memory.answers (value ∷ []) 0 k (omega (arith, below, few));
-}
-
 -- ---- a write that waits
 
 reported-following : (request : Request80) (memory : Memory) (done : Done) (value : ℕ) → done.used ≡ length memory.answers → actions.reported request (answered_with value memory) done ≡ Ok (tt, record done { used = length memory.answers + 1 })
 unfolding actions.reported
 reported-following request memory done value last =
-    let e = one-longer value memory in
+    let e = one-longer value memory.answers in
     let more : nat_lt done.used (length (answered_with value memory).answers) ≡ true = grind (arith, nat_tests, e, last) in
     rw (answered request (answered_with value memory) done more) (rw last refl)
-
-as-last : (memory : Memory) (done : Done) → done.writes ≡ [] → record done { used = length memory.answers + 1 } ≡ all_answered memory
-as-last memory done empty = ap (λ (w : List (ℕ × ℕ)). record { used = length memory.answers + 1; writes = w }) empty
 
 pub write-following : (at written : ℕ) (memory : Memory) (done : Done) (request : Request80) → actions.write at written memory done ≡ Err request → done.used ≡ length memory.answers → done.writes ≡ []
     → (value : ℕ) → actions.write at written (answered_with value memory) done ≡ Ok (tt, all_answered memory)
 unfolding actions.write
 write-following at written memory done request e last empty value =
     split _ (is_shared_write at) _ _ _ e
-    (λ shared v. rw shared (reported-following (Write at written) memory done value last ∙ ap (λ (d : Done). Ok (tt, d)) (as-last memory done empty)))
+    (λ shared v. rw shared (reported-following (Write at written) memory done value last ∙ ap (λ (d : Done). Ok (tt, d)) (as-last (length memory.answers + 1) done empty)))
     (λ shared v. absurd (cc))
 
 -- ---- LD of 8 bits
@@ -77,7 +59,7 @@ pub load-following : (target source : Place8) (regs : Regs80) (memory : Memory) 
     → loads.load target source regs (answered_with value memory) done ≡ Ok (plain regs, all_answered memory)
 unfolding loads.load
 load-following target source regs memory done from mid value fetched few stored =
-    let again = (rows.fetch source regs).later.value memory (answered_with value memory) done from mid fetched (answered-same mid.used value memory few) in
+    let again = (rows.fetch source regs).later.value memory (answered_with value memory) done from mid fetched (answered-same private_of answers_of mid.used value memory (answered_with value memory) refl refl few) in
     rw again (rw stored refl)
 
 pub predicts-load : (A : Type 0) (waiting : Waiting) (predicted : Predicted80) (target source : Place8) (regs : Regs80) (memory : Memory) (done : Done) (from : ℕ) (mid : Done)
@@ -97,6 +79,6 @@ bytes-answered address value memory = refl
 pub sample-predicts : (step : Step80) (predicted : Predicted80) (regs : Regs80) (memory : Memory) (found : Decoded80) (first : ℕ) → found ≡ instruction_of (instruction_bytes regs.pc memory) → first ≡ slice_index (instruction_bytes regs.pc memory) 0
     → EndsPredicted step predicted (samples.instruction found first regs) memory → EndsPredicted step predicted (samples.sampled 0 regs) memory
 unfolding samples.sampled
-sample-predicts (steps.Need request) predicted regs memory found first names begins ends = λ known value.
+sample-predicts (steps.Need waiting) predicted regs memory found first names begins ends = λ known value.
     rw (bytes-answered regs.pc value memory) (rw (sym names, sym begins) (ends known value))
 sample-predicts (steps.Done finish) predicted regs memory found first names begins ends = tt

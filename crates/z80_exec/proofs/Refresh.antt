@@ -2,6 +2,9 @@
 use Rattle.std.proofs.Common.{◌≡◌, ◌⊎◌, ℕ, ◌+◌, ◌/◌, ◌%◌, ◌==◌, ◌∙◌, Bool, true, false, Option, Some, None, Result, Ok, Err, refl, subst, slice_index}
 use Rattle.std.specs.Prelude.{◌≢◌, if◌then◌else◌}
 use Rattle.std.proofs.lemmas.Bool.{ne_eqb}
+use Rattle.md_word.proofs.Answered as answered
+use Rattle.md_word.proofs.Answered.{give}
+use Rattle.md_word.specs.Answers.{Done}
 use Rattle.md_word.specs.declared.bit.Bit.{Bit}
 use Rattle.md_word.specs.declared.sub_bus.Request80.{Request80}
 use Rattle.md_word.specs.declared.task80.Task80.{Task80}
@@ -22,7 +25,7 @@ use Rattle.z80_decode.specs.declared.special.Special.TheVariants.{Interrupt, Ref
 use Rattle.z80_decode.specs.declared.special.Special.{Special}
 use Rattle.z80_exec.proofs.Meaning.{high, low}
 use Rattle.z80_exec.specs.Access.Actions as actions
-use Rattle.z80_exec.specs.Access.Actions.{Act, Done, ◌>>=◌, go_on}
+use Rattle.z80_exec.specs.Access.Actions.{Act, ◌>>=◌, go_on}
 use Rattle.z80_exec.specs.Access.Conditions.{holds}
 use Rattle.z80_exec.specs.Access.Memory.{Memory, instruction_bytes}
 use Rattle.z80_exec.specs.Access.Operands as operands
@@ -47,16 +50,16 @@ use Rattle.z80_exec.specs.Sample.Samples as samples
 use Rattle.z80_exec.specs.Sample.Samples.{Ended, entered, fetched, finished_by, nothing}
 use Rattle.z80_exec.specs.declared.regs80.Regs80.{Regs80}
 
+-- a request that waits may be any
+abbrev pub AnyRequest : Request80 → Type 0
+AnyRequest request = Unit {0}
+
 -- where it results in a value, that value keeps this
 abbrev pub Fine : {A : Type 0} → (A → Type 0) → Result (A × Done) Request80 → Type 0
-Fine ok (Ok x) = ok x.0
-Fine ok (Err request) = Unit {0}
+Fine ok first = answered.Fine AnyRequest ok first
 
-pub record Keeps {A : Type 0} (ok : A → Type 0) (act : Act A) : Type 0 where
-  pub at : (memory : Memory) (before : Done) → Fine ok (act memory before)
-
-give : {A : Type 0} (ok : A → Type 0) (x : A) → ok x → Keeps ok (actions.give x)
-give ok x h = record { at = λ memory before. h }
+abbrev pub Keeps : {A : Type 0} → (A → Type 0) → Act A → Type 0
+Keeps ok act = answered.Keeps AnyRequest ok act
 
 bind_at : {A B : Type 0} (ok : A → Type 0) (good : B → Type 0) (following : A → Act B) → ((x : A) → ok x → Keeps good (following x)) → (memory : Memory) (first : Result (A × Done) Request80) → Fine ok first → Fine good (go_on first (λ x mid. following x memory mid))
 bind_at ok good following k memory (Ok x) h = (k x.0 h).at memory x.1
@@ -108,11 +111,11 @@ with_af a f regs = refl
 -- operands and the stack
 put_memory : (at value : ℕ) (regs : Regs80) → Keeps (Has regs.r) (operands.put_memory at value regs)
 unfolding operands.put_memory
-put_memory at value regs = after _ _ _ (λ written. give _ _ refl)
+put_memory at value regs = after _ _ _ (λ written. give _ _ _ refl)
 
 put_at : (at : Option ℕ) (place : Place8) (value : ℕ) (regs : Regs80) → Keeps (Has regs.r) (operands.put_at at place value regs)
 put_at (Some at) place value regs = put_memory at value regs
-put_at None place value regs = give _ _ (with_byte place value regs)
+put_at None place value regs = give _ _ _ (with_byte place value regs)
 
 put : (place : Place8) (value : ℕ) (regs : Regs80) → Keeps (Has regs.r) (operands.put place value regs)
 unfolding operands.put
@@ -120,16 +123,16 @@ put place value regs = put_at (address_of place regs) place value regs
 
 push : (value : ℕ) (regs : Regs80) → Keeps (Has regs.r) (operands.push value regs)
 unfolding operands.push
-push value regs = after _ (actions.write _ _) _ (λ first. after _ (actions.write _ _) _ (λ second. give _ _ refl))
+push value regs = after _ (actions.write _ _) _ (λ first. after _ (actions.write _ _) _ (λ second. give _ _ _ refl))
 
 pop : (regs : Regs80) → Keeps (HasPopped regs.r) (operands.pop regs)
 unfolding operands.pop
-pop regs = after _ (actions.read_word _) _ (λ value. give _ _ refl)
+pop regs = after _ (actions.read_word _) _ (λ value. give _ _ _ refl)
 
 -- loads and exchanges
 load : (target source : Place8) (regs : Regs80) → Keeps (HasAfter regs.r) (loads.load target source regs)
 unfolding loads.load
-load target source regs = after _ _ _ (λ value. bind _ _ _ _ (put target value regs) (λ x h. give _ _ h))
+load target source regs = after _ _ _ (λ value. bind _ _ _ _ (put target value regs) (λ x h. give _ _ _ h))
 
 load_from_special : (special : Special) (regs : Regs80) → (loads.load_from_special special regs).r ≡ regs.r
 unfolding loads.load_from_special
@@ -137,24 +140,24 @@ load_from_special special regs = with_af _ _ regs
 
 load_pair_from : (pair : Pair) (at : ℕ) (regs : Regs80) → Keeps (HasAfter regs.r) (loads.load_pair_from pair at regs)
 unfolding loads.load_pair_from
-load_pair_from pair at regs = after _ _ _ (λ value. give _ _ (with_pair pair value regs))
+load_pair_from pair at regs = after _ _ _ (λ value. give _ _ _ (with_pair pair value regs))
 
 store_pair : (at : ℕ) (pair : Pair) (regs : Regs80) → Keeps (HasAfter regs.r) (loads.store_pair at pair regs)
 unfolding loads.store_pair
-store_pair at pair regs = after _ _ _ (λ written. give _ _ refl)
+store_pair at pair regs = after _ _ _ (λ written. give _ _ _ refl)
 
 push_pair : (pair : Pair) (regs : Regs80) → Keeps (HasAfter regs.r) (loads.push_pair pair regs)
 unfolding loads.push_pair
-push_pair pair regs = bind _ _ _ _ (push _ regs) (λ x h. give _ _ h)
+push_pair pair regs = bind _ _ _ _ (push _ regs) (λ x h. give _ _ _ h)
 
 pop_pair : (pair : Pair) (regs : Regs80) → Keeps (HasAfter regs.r) (loads.pop_pair pair regs)
 unfolding loads.pop_pair
-pop_pair pair regs = bind _ _ _ _ (pop regs) (λ x h. give _ _ (with_pair pair x.value x.regs ∙ h))
+pop_pair pair regs = bind _ _ _ _ (pop regs) (λ x h. give _ _ _ (with_pair pair x.value x.regs ∙ h))
 
 exchange_stack : (index : Index) (regs : Regs80) → Keeps (HasAfter regs.r) (exchanges.exchange_stack index regs)
 unfolding exchanges.exchange_stack
 exchange_stack index regs =
-    after _ (actions.read _) _ (λ lower. after _ (actions.read _) _ (λ upper. after _ (actions.write _ _) _ (λ first. after _ (actions.write _ _) _ (λ second. give _ _ (with_pair (parts.pair_at index) _ regs)))))
+    after _ (actions.read _) _ (λ lower. after _ (actions.read _) _ (λ upper. after _ (actions.write _ _) _ (λ first. after _ (actions.write _ _) _ (λ second. give _ _ _ (with_pair (parts.pair_at index) _ regs)))))
 
 -- block instructions
 going_on : (again : Bool) (regs : Regs80) → (blocks.going_on again regs).regs.r ≡ regs.r
@@ -164,28 +167,28 @@ going_on false regs = refl
 
 block_load : (block : Block) (regs : Regs80) → Keeps (HasAfter regs.r) (blocks.block_load block regs)
 unfolding blocks.block_load
-block_load block regs = after _ (actions.read _) _ (λ value. after _ (actions.write _ _) _ (λ written. give _ _ (going_on _ (blocks.transferred block regs))))
+block_load block regs = after _ (actions.read _) _ (λ value. after _ (actions.write _ _) _ (λ written. give _ _ _ (going_on _ (blocks.transferred block regs))))
 
 block_compare : (block : Block) (regs : Regs80) → Keeps (HasAfter regs.r) (blocks.block_compare block regs)
 unfolding blocks.block_compare
-block_compare block regs = after _ _ _ (λ value. give _ _ (going_on _ (blocks.searched block value regs)))
+block_compare block regs = after _ _ _ (λ value. give _ _ _ (going_on _ (blocks.searched block value regs)))
 
 block_input : (block : Block) (regs : Regs80) → Keeps (HasAfter regs.r) (ports.block_input block regs)
 unfolding ports.block_input
-block_input block regs = after _ _ _ (λ written. give _ _ (going_on _ (ports.passed block regs)))
+block_input block regs = after _ _ _ (λ written. give _ _ _ (going_on _ (ports.passed block regs)))
 
 block_output : (block : Block) (regs : Regs80) → Keeps (HasAfter regs.r) (ports.block_output block regs)
 unfolding ports.block_output
-block_output block regs = after _ _ _ (λ value. give _ _ (going_on _ (ports.passed block regs)))
+block_output block regs = after _ _ _ (λ value. give _ _ _ (going_on _ (ports.passed block regs)))
 
 -- arithmetic, bits and ports
 operate : (task : Task80) (place : Place8) (regs : Regs80) → Keeps (HasAfter regs.r) (arithmetic.arithmetic task place regs)
 unfolding arithmetic.arithmetic
-operate task place regs = after _ _ _ (λ value. give _ _ (with_af _ _ regs))
+operate task place regs = after _ _ _ (λ value. give _ _ _ (with_af _ _ regs))
 
 change : (task : Task80) (place : Place8) (regs : Regs80) → Keeps (HasAfter regs.r) (arithmetic.change task place regs)
 unfolding arithmetic.change
-change task place regs = after _ _ _ (λ value. bind _ _ _ _ (put place _ regs) (λ x h. give _ _ (with_f _ x ∙ h)))
+change task place regs = after _ _ _ (λ value. bind _ _ _ _ (put place _ regs) (λ x h. give _ _ _ (with_f _ x ∙ h)))
 
 accumulator : (task : Task80) (regs : Regs80) → (control.accumulator task regs).r ≡ regs.r
 unfolding control.accumulator
@@ -193,19 +196,19 @@ accumulator task regs = with_af _ _ regs
 
 test_bit : (bit : Bit) (place : Place8) (regs : Regs80) → Keeps (HasAfter regs.r) (bits.test_bit bit place regs)
 unfolding bits.test_bit
-test_bit bit place regs = after _ _ _ (λ value. give _ _ (with_f _ regs))
+test_bit bit place regs = after _ _ _ (λ value. give _ _ _ (with_f _ regs))
 
 rotate_digits_left : (regs : Regs80) → Keeps (HasAfter regs.r) (rotates.rotate_digits_left regs)
 unfolding rotates.rotate_digits_left
-rotate_digits_left regs = after _ (actions.read _) _ (λ value. after _ (actions.write _ _) _ (λ written. give _ _ (with_af _ _ regs)))
+rotate_digits_left regs = after _ (actions.read _) _ (λ value. after _ (actions.write _ _) _ (λ written. give _ _ _ (with_af _ _ regs)))
 
 rotate_digits_right : (regs : Regs80) → Keeps (HasAfter regs.r) (rotates.rotate_digits_right regs)
 unfolding rotates.rotate_digits_right
-rotate_digits_right regs = after _ (actions.read _) _ (λ value. after _ (actions.write _ _) _ (λ written. give _ _ (with_af _ _ regs)))
+rotate_digits_right regs = after _ (actions.read _) _ (λ value. after _ (actions.write _ _) _ (λ written. give _ _ _ (with_af _ _ regs)))
 
 input : (place : Place8) (regs : Regs80) → Keeps (HasAfter regs.r) (ports.input place regs)
 unfolding ports.input
-input place regs = bind _ _ _ _ (put place _ regs) (λ x h. give _ _ (with_f _ x ∙ h))
+input place regs = bind _ _ _ _ (put place _ regs) (λ x h. give _ _ _ (with_f _ x ∙ h))
 
 input_at_number : (regs : Regs80) → (ports.input_at_number regs).r ≡ regs.r
 unfolding ports.input_at_number
@@ -263,19 +266,19 @@ decrement_and_jump distance regs =
 
 call : (target : ℕ) (regs : Regs80) → Keeps (HasAfter regs.r) (calls.call target regs)
 unfolding calls.call
-call target regs = bind _ _ _ _ (push regs.pc regs) (λ x h. give _ _ h)
+call target regs = bind _ _ _ _ (push regs.pc regs) (λ x h. give _ _ _ h)
 
 call_if : (condition : Condition) (target : ℕ) (regs : Regs80) → Keeps (HasAfter regs.r) (calls.call_if condition target regs)
 unfolding calls.call_if
-call_if condition target regs = choice _ (holds condition (parts.f_of regs)) _ _ (call target regs) (give _ _ refl)
+call_if condition target regs = choice _ (holds condition (parts.f_of regs)) _ _ (call target regs) (give _ _ _ refl)
 
 return_from : (regs : Regs80) → Keeps (HasAfter regs.r) (calls.return_from regs)
 unfolding calls.return_from
-return_from regs = bind _ _ _ _ (pop regs) (λ x h. give _ _ h)
+return_from regs = bind _ _ _ _ (pop regs) (λ x h. give _ _ _ h)
 
 return_if : (condition : Condition) (regs : Regs80) → Keeps (HasAfter regs.r) (calls.return_if condition regs)
 unfolding calls.return_if
-return_if condition regs = choice _ (holds condition (parts.f_of regs)) _ _ (return_from regs) (give _ _ refl)
+return_if condition regs = choice _ (holds condition (parts.f_of regs)) _ _ (return_from regs) (give _ _ _ refl)
 
 return_from_non_maskable : (regs : Regs80) → Keeps (HasAfter regs.r) (calls.return_from_non_maskable regs)
 unfolding calls.return_from_non_maskable
@@ -312,45 +315,45 @@ load_to_interrupt regs = refl
 
 row : (op : Op80) (regs : Regs80) → loads_r op ≡ false → Keeps (HasAfter regs.r) (execution.row op regs)
 row (ops.Load target source) regs e = load target source regs
-row (ops.LoadFromSpecial special) regs e = give _ _ (load_from_special special regs)
-row (ops.LoadToSpecial Interrupt) regs e = give _ _ (load_to_interrupt regs)
+row (ops.LoadFromSpecial special) regs e = give _ _ _ (load_from_special special regs)
+row (ops.LoadToSpecial Interrupt) regs e = give _ _ _ (load_to_interrupt regs)
 row (ops.LoadToSpecial Refresh) regs e = absurd (cc)
-row (ops.LoadPair pair value) regs e = give _ _ (with_pair pair value regs)
+row (ops.LoadPair pair value) regs e = give _ _ _ (with_pair pair value regs)
 row (ops.LoadIndex index at) regs e = load_pair_from _ at regs
 row (ops.LoadPairExtended pair at) regs e = load_pair_from pair at regs
 row (ops.StoreIndex at index) regs e = store_pair at _ regs
 row (ops.StorePairExtended at pair) regs e = store_pair at pair regs
-row (ops.LoadStackPointer index) regs e = give _ _ (load_stack_pointer index regs)
+row (ops.LoadStackPointer index) regs e = give _ _ _ (load_stack_pointer index regs)
 row (ops.Push pair) regs e = push_pair pair regs
 row (ops.Pop pair) regs e = pop_pair pair regs
-row ops.ExchangeDeHl regs e = give _ _ (exchanged regs).0
-row ops.ExchangeAf regs e = give _ _ (exchanged regs).1
-row ops.ExchangeAll regs e = give _ _ (exchanged regs).2
+row ops.ExchangeDeHl regs e = give _ _ _ (exchanged regs).0
+row ops.ExchangeAf regs e = give _ _ _ (exchanged regs).1
+row ops.ExchangeAll regs e = give _ _ _ (exchanged regs).2
 row (ops.ExchangeStack index) regs e = exchange_stack index regs
 row (ops.BlockLoad block) regs e = block_load block regs
 row (ops.BlockCompare block) regs e = block_compare block regs
 row (ops.Arithmetic task place) regs e = operate task place regs
 row (ops.Step task place) regs e = change task place regs
-row (ops.Accumulator task) regs e = give _ _ (accumulator task regs)
-row ops.Negate regs e = give _ _ (accumulator _ regs)
-row ops.DisableInterrupts regs e = give _ _ (disabled regs)
-row ops.EnableInterrupts regs e = give _ _ (enabled regs)
-row (ops.SetInterruptMode mode) regs e = give _ _ (with_mode mode regs)
-row (ops.AddPair index pair) regs e = give _ _ (add_pair index pair regs)
-row (ops.AddPairWithCarry pair) regs e = give _ _ (add_pair_with_carry pair regs)
-row (ops.SubtractPairWithCarry pair) regs e = give _ _ (subtract_pair_with_carry pair regs)
-row (ops.IncrementPair pair) regs e = give _ _ (increment_pair pair regs)
-row (ops.DecrementPair pair) regs e = give _ _ (decrement_pair pair regs)
+row (ops.Accumulator task) regs e = give _ _ _ (accumulator task regs)
+row ops.Negate regs e = give _ _ _ (accumulator _ regs)
+row ops.DisableInterrupts regs e = give _ _ _ (disabled regs)
+row ops.EnableInterrupts regs e = give _ _ _ (enabled regs)
+row (ops.SetInterruptMode mode) regs e = give _ _ _ (with_mode mode regs)
+row (ops.AddPair index pair) regs e = give _ _ _ (add_pair index pair regs)
+row (ops.AddPairWithCarry pair) regs e = give _ _ _ (add_pair_with_carry pair regs)
+row (ops.SubtractPairWithCarry pair) regs e = give _ _ _ (subtract_pair_with_carry pair regs)
+row (ops.IncrementPair pair) regs e = give _ _ _ (increment_pair pair regs)
+row (ops.DecrementPair pair) regs e = give _ _ _ (decrement_pair pair regs)
 row (ops.Change task place) regs e = change task place regs
 row (ops.TestBit bit place) regs e = test_bit bit place regs
 row ops.RotateDigitsLeft regs e = rotate_digits_left regs
 row ops.RotateDigitsRight regs e = rotate_digits_right regs
-row (ops.Jump target) regs e = give _ _ (jump target regs)
-row (ops.JumpIf condition target) regs e = give _ _ (jump_if condition target regs)
-row (ops.JumpRelative distance) regs e = give _ _ (jump_relative distance regs)
-row (ops.JumpRelativeIf condition distance) regs e = give _ _ (jump_relative_if condition distance regs)
-row (ops.JumpIndex index) regs e = give _ _ (jump_index index regs)
-row (ops.DecrementAndJump distance) regs e = give _ _ (decrement_and_jump distance regs)
+row (ops.Jump target) regs e = give _ _ _ (jump target regs)
+row (ops.JumpIf condition target) regs e = give _ _ _ (jump_if condition target regs)
+row (ops.JumpRelative distance) regs e = give _ _ _ (jump_relative distance regs)
+row (ops.JumpRelativeIf condition distance) regs e = give _ _ _ (jump_relative_if condition distance regs)
+row (ops.JumpIndex index) regs e = give _ _ _ (jump_index index regs)
+row (ops.DecrementAndJump distance) regs e = give _ _ _ (decrement_and_jump distance regs)
 row (ops.Call target) regs e = call target regs
 row (ops.CallIf condition target) regs e = call_if condition target regs
 row ops.Return regs e = return_from regs
@@ -358,16 +361,16 @@ row (ops.ReturnIf condition) regs e = return_if condition regs
 row ops.ReturnFromInterrupt regs e = return_from regs
 row ops.ReturnFromNonMaskable regs e = return_from_non_maskable regs
 row (ops.Restart target) regs e = call target regs
-row (ops.InputAtNumber port) regs e = give _ _ (input_at_number regs)
+row (ops.InputAtNumber port) regs e = give _ _ _ (input_at_number regs)
 row (ops.Input place) regs e = input place regs
 row (ops.BlockInput block) regs e = block_input block regs
 row (ops.BlockOutput block) regs e = block_output block regs
-row op regs e = give _ _ refl
+row op regs e = give _ _ _ refl
 
 -- an interrupt
 enter : (regs : Regs80) → Keeps (Has regs.r) (entries.enter regs)
 unfolding entries.enter
-enter regs = bind _ _ _ _ (push regs.pc (control.disabled regs)) (λ x h. after _ _ _ (λ target. give _ _ (h ∙ disabled regs)))
+enter regs = bind _ _ _ _ (push regs.pc (control.disabled regs)) (λ x h. after _ _ _ (λ target. give _ _ _ (h ∙ disabled regs)))
 
 -- samples
 abbrev EndsWith : ℕ → Result Ended Request80 → Type 0

@@ -1,5 +1,7 @@
 -- What holds of each instruction and each sample, for any registers, memory and answers.
-use Rattle.std.specs.Prelude.{ℕ, Bool, true, false, ◌≡◌, ◌≢◌, ◌⊎◌, ◌==◌, nat_le, nat_lt, not, ◌+◌, ◌-◌, ◌*◌, ◌/◌, ◌%◌, ◌^◌, ◌<◌, ◌≤◌, IsTrue, [], ◌∷◌, ◌++◌, length, slice_index, Ok, Err}
+use Rattle.std.specs.Prelude.{ℕ, Bool, true, false, ◌≡◌, ◌≢◌, ◌⊎◌, ◌==◌, nat_le, nat_lt, not, ◌+◌, ◌-◌, ◌*◌, ◌/◌, ◌%◌, ◌^◌, ◌<◌, ◌≤◌, IsTrue, [], ◌∷◌, ◌++◌, length, Ok, Err}
+use Rattle.md_word.specs.Answers as answers
+use Rattle.md_word.specs.Answers.{Done}
 use Rattle.md_word.specs.declared.sub_bus.Request80.{Request80}
 use Rattle.md_word.specs.declared.task80.Task80.TheVariants as tasks
 use Rattle.z80_alu.specs.Tasks.{computed}
@@ -10,9 +12,9 @@ use Rattle.z80_decode.specs.declared.op80.Op80.TheVariants as ops
 use Rattle.z80_decode.specs.declared.op80.Op80.{Op80}
 use Rattle.z80_decode.specs.declared.special.Special.TheVariants.{Refresh}
 use Rattle.z80_parcel.specs.Parcels.{ram_size}
-use Rattle.z80_exec.specs.Access.Actions.{Act, Done, ◌>>=◌}
+use Rattle.z80_exec.specs.Access.Actions.{Act, ◌>>=◌}
 use Rattle.z80_exec.specs.Access.Conditions.{holds}
-use Rattle.z80_exec.specs.Access.Memory.{Memory, instruction_bytes, is_ram}
+use Rattle.z80_exec.specs.Access.Memory.{Memory, answers_of, instruction_bytes, is_ram, private_of}
 use Rattle.z80_exec.specs.Access.Operands.{pop, push}
 use Rattle.z80_exec.specs.Access.Outcomes.{taken}
 use Rattle.z80_exec.specs.Access.Parts.{down, high, low}
@@ -25,12 +27,8 @@ use Rattle.z80_exec.specs.Sample.Samples.{Ended, sampled}
 use Rattle.z80_exec.specs.declared.regs80.Regs80.{Regs80}
 
 -- two memories are the same to what takes so many answers: the first answers are the same
-pub record SameBelow (count : ℕ) (one other : Memory) : Type 0 where
-  pub rom : other.rom ≡ one.rom
-  pub ram : other.ram ≡ one.ram
-  pub bank : other.bank ≡ one.bank
-  pub enough : count ≤ length other.answers
-  pub answers : (k : ℕ) → k < count → slice_index other.answers k ≡ slice_index one.answers k
+abbrev pub SameBelow : ℕ → Memory → Memory → Type 0
+SameBelow count one other = answers.SameBelow private_of answers_of count one other
 
 -- where it results in a value, it results in the same with any answers in place of those that it did not
 -- take; and it takes no answer back

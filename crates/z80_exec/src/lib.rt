@@ -10,7 +10,7 @@ mod sample;
 
 use access::view::Context;
 pub use access::view::Progress80;
-use access::waiting::Waiting;
+pub use access::waiting::Waiting;
 pub use regs80::Regs80;
 pub use sample::cache::DecodeCache80;
 pub use sample::step::{Finish80, Predicted80, Step80};

@@ -104,7 +104,7 @@ fn instruction(
         Err(waiting) => {
             predict_finish(found, predicted);
             *regs = before;
-            Step80::Need(waiting.request())
+            Step80::Need(waiting)
         }
     }
 }
@@ -125,7 +125,7 @@ fn interrupt(context: &Context, regs: &mut Regs80, progress: &mut Progress80) ->
         }),
         Err(waiting) => {
             *regs = before;
-            Step80::Need(waiting.request())
+            Step80::Need(waiting)
         }
     }
 }

@@ -88,7 +88,8 @@ pub fn sample(
             setting.cause,
             &mut progress,
         ) {
-            Step80::Need(request) => {
+            Step80::Need(waiting) => {
+                let request = waiting.request();
                 let answer = tell_access(&mut text, &request, wanted, &mut reads)?;
                 if !answers.is_full() {
                     answers.push(answer);

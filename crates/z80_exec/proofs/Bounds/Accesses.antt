@@ -3,11 +3,13 @@
 use Rattle.std.proofs.Common.{◌≡◌, ℕ, ◌+◌, ◌<◌, ◌≤◌, ◌∙◌, ◌%◌, ◌/◌, Bool, true, false, nat_lt, List, [], ◌∷◌, ◌++◌, length, Result, Ok, Err, refl, ap, sym, subst, arith, slice_index}
 use Rattle.std.specs.Prelude.{◌||◌, if◌then◌else◌}
 use Rattle.std.proofs.lemmas.Bool.Decides.{nat_tests}
+use Rattle.md_word.proofs.Answered.{lower, written-used}
+use Rattle.md_word.specs.Answers.{Done}
 use Rattle.md_word.specs.declared.sub_bus.Request80.TheVariants.{Read, Write}
 use Rattle.md_word.specs.declared.sub_bus.Request80.{Request80}
 use Rattle.z80_exec.specs.Access.Actions as actions
-use Rattle.z80_exec.specs.Access.Actions.{Act, Done, ◌>>=◌, go_on}
-use Rattle.z80_exec.specs.Access.Memory.{Memory, bank_after, byte_at, is_bank, is_ram, is_shared_read, is_shared_write, next, ram_after}
+use Rattle.z80_exec.specs.Access.Actions.{Act, ◌>>=◌, go_on}
+use Rattle.z80_exec.specs.Access.Memory.{Memory, answers_of, private_of, bank_after, byte_at, is_bank, is_ram, is_shared_read, is_shared_write, next, ram_after}
 use Rattle.z80_exec.specs.Laws.{IgnoresLaterAnswers, SameBelow}
 use Rattle.z80_exec.specs.Sample.Bounds.{IsAccess}
 
@@ -18,14 +20,9 @@ pub record Sound {A : Type 0} (most : ℕ) (act : Act A) : Type 0 where
   pub asks : (memory : Memory) (before : Done) (request : Request80) → act memory before ≡ Err request → before.used ≤ length memory.answers → (length memory.answers < before.used + most) × IsAccess request
   pub later : IgnoresLaterAnswers act
 
-pub lower : (fewer count : ℕ) (one other : Memory) → fewer ≤ count → SameBelow count one other → SameBelow fewer one other
-lower fewer count one other h same = record {
-  rom = same.rom;
-  ram = same.ram;
-  bank = same.bank;
-  enough = omega (arith, same.enough);
-  answers = λ k below. same.answers k (omega arith);
-}
+-- what looks at the private memory alone sees the same
+pub private_same : {A : Type 0} (f : List ℕ → List ℕ → ℕ → A) (count : ℕ) (one other : Memory) → SameBelow count one other → f other.rom other.ram other.bank ≡ f one.rom one.ram one.bank
+private_same f count one other same = ap (λ (m : Memory). f m.rom m.ram m.bank) same.same
 
 used_of : {A : Type 0} → Result (A × Done) Request80 → ℕ
 used_of (Ok x) = x.1.used
@@ -41,8 +38,8 @@ more fewer most act few h = record {
 -- what looks at the private memory, and takes no answer
 private_later : {A : Type 0} (f : List ℕ → List ℕ → ℕ → Done → A) (g : Done → Done) → ((done : Done) → (g done).used ≡ done.used) → IgnoresLaterAnswers (λ memory done. Ok (f memory.rom memory.ram memory.bank done, g done))
 unfolding used_of
-private_later f g kept = record {
-  value = λ one other before y after e same. (rw (same.rom, same.ram, same.bank) e);
+private_later {A} f g kept = record {
+  value = λ one other before y after e same. private_same {A = Result (A × Done) Request80} (λ rom ram bank. Ok (f rom ram bank before, g before)) after.used one other same ∙ e;
   taken = λ memory before y after e. (let u : (g before).used ≡ after.used = ap used_of e in let k = kept before in omega arith);
 }
 
@@ -82,7 +79,7 @@ bind_asks m n act following h k memory before request (Err stop) e g in_range =
 bind_same : {A B : Type 0} (act : Act A) (following : A → Act B) → IgnoresLaterAnswers act → ((x : A) → IgnoresLaterAnswers (following x)) → (one other : Memory) (before : Done) (y : B) (after : Done) (first : Result (A × Done) Request80) → act one before ≡ first → go_on first (λ x mid. following x one mid) ≡ Ok (y, after) → SameBelow after.used one other → go_on (act other before) (λ x mid. following x other mid) ≡ Ok (y, after)
 bind_same act following h k one other before y after (Ok p) e g same =
     let more = (k p.0).taken one p.1 y after g in
-    let again = h.value one other before p.0 p.1 e (lower p.1.used after.used one other more same) in
+    let again = h.value one other before p.0 p.1 e (lower private_of answers_of p.1.used after.used one other more same) in
     rw again ((k p.0).value one other p.1 y after g same)
 bind_same act following h k one other before y after (Err stop) e g same = absurd (cc)
 
@@ -172,7 +169,7 @@ byte_seen at =
 
 with_byte-used : (at value : ℕ) (done : Done) → (actions.with_byte at value done).used ≡ done.used
 unfolding actions.with_byte
-with_byte-used at value done = elim (is_ram at || is_bank at) as (λ b. (if b then record done { writes = done.writes ++ (at, value) ∷ [] } else done).used ≡ done.used) [ true ↦ refl | false ↦ refl ]
+with_byte-used at value done = written-used (is_ram at || is_bank at) at value done
 
 byte_put : (at value : ℕ) → Sound {A = Unit {0}} 1 (λ memory done. Ok (tt, actions.with_byte at value done))
 byte_put at value = more 0 1 _ (omega arith) (private (λ rom ram bank done. tt) (actions.with_byte at value) (with_byte-used at value))

@@ -1,6 +1,7 @@
 -- The clocks of an instruction cover its accesses: four for the fetch, and three for each.
 use Rattle.std.proofs.Common.{◌≡◌, ℕ, ◌+◌, ◌*◌, ◌≤◌, Bool, true, false, length, Result, Ok, Err, refl, ap, sym, subst, arith}
 use Rattle.std.specs.Prelude.{if◌then◌else◌}
+use Rattle.md_word.specs.Answers.{Done}
 use Rattle.md_word.specs.declared.sub_bus.Request80.{Request80}
 use Rattle.z80_decode.specs.declared.condition.Condition.{Condition}
 use Rattle.z80_decode.specs.declared.index.Index.TheVariants as indexes
@@ -13,7 +14,7 @@ use Rattle.z80_exec.proofs.Bounds.Accesses.{Sound}
 use Rattle.z80_exec.proofs.Bounds.Rows as rows
 use Rattle.z80_exec.proofs.Bounds.Rows.{accesses_of, touches, touches_few}
 use Rattle.z80_exec.specs.Access.Actions as actions
-use Rattle.z80_exec.specs.Access.Actions.{Act, Done, ◌>>=◌, go_on}
+use Rattle.z80_exec.specs.Access.Actions.{Act, ◌>>=◌, go_on}
 use Rattle.z80_exec.specs.Access.Conditions.{holds}
 use Rattle.z80_exec.specs.Access.Memory.{Memory}
 use Rattle.z80_exec.specs.Access.Operands.{pop, push}

@@ -2,17 +2,18 @@
 -- cover its accesses, and that later answers change nothing.
 use Rattle.std.proofs.Common.{◌≡◌, ℕ, ◌+◌, ◌*◌, ◌<◌, ◌≤◌, ◌==◌, Bool, true, false, length, Result, Ok, Err, refl, ap, subst, arith}
 use Rattle.std.specs.Prelude.{if◌then◌else◌}
+use Rattle.md_word.specs.Answers.{Done}
+use Rattle.md_word.proofs.Answered.{lower}
 use Rattle.md_word.proofs.Choices.{split}
 use Rattle.md_word.specs.declared.sub_bus.Request80.{Request80}
 use Rattle.z80_decode.specs.declared.decoded80.Decoded80.{Decoded80}
 use Rattle.z80_decode.specs.declared.interrupt_mode.InterruptMode.TheVariants.{Mode0}
 use Rattle.z80_decode.specs.declared.interrupt_mode.InterruptMode.{InterruptMode}
 use Rattle.z80_decode.specs.declared.op80.Op80.{Op80}
-use Rattle.z80_exec.proofs.Bounds.Accesses.{Sound, lower, more}
+use Rattle.z80_exec.proofs.Bounds.Accesses.{Sound, more}
 use Rattle.z80_exec.proofs.Bounds.Cover as cover
 use Rattle.z80_exec.proofs.Bounds.Rows as rows
-use Rattle.z80_exec.specs.Access.Actions.{Done}
-use Rattle.z80_exec.specs.Access.Memory.{Memory, instruction_bytes, instruction_byte}
+use Rattle.z80_exec.specs.Access.Memory.{Memory, answers_of, instruction_bytes, instruction_byte, private_of}
 use Rattle.z80_exec.specs.Access.Outcomes.{Outcome}
 use Rattle.z80_exec.specs.Laws.{IgnoresLaterAnswers, SameBelow}
 use Rattle.z80_exec.specs.Sample.Bounds.{IsAccess}
@@ -103,7 +104,7 @@ finished_same : (op : Op80) (regs : Regs80) (one other : Memory) (ended : Ended)
 unfolding accesses
 finished_same op regs one other ended (Ok x) is e same =
     let count : x.1.used ≡ ended.used = ap accesses e in
-    let known = (rows.row op regs).later.value one other nothing x.0 x.1 is (lower _ _ one other (omega (arith, count)) same) in
+    let known = (rows.row op regs).later.value one other nothing x.0 x.1 is (lower private_of answers_of _ _ one other (omega (arith, count)) same) in
     rw known e
 finished_same op regs one other ended (Err request) is e same = absurd (cc)
 
@@ -116,7 +117,7 @@ entered_same : (time : ℕ) (regs : Regs80) (one other : Memory) (ended : Ended)
 unfolding accesses
 entered_same time regs one other ended (Ok x) is e same =
     let count : x.1.used ≡ ended.used = ap accesses e in
-    let known = (rows.enter regs).later.value one other nothing x.0 x.1 is (lower _ _ one other (omega (arith, count)) same) in
+    let known = (rows.enter regs).later.value one other nothing x.0 x.1 is (lower private_of answers_of _ _ one other (omega (arith, count)) same) in
     rw known e
 entered_same time regs one other ended (Err request) is e same = absurd (cc)
 
@@ -126,7 +127,7 @@ interrupt_same regs one other ended e same = entered_same _ regs one other ended
 
 same_bytes : (at count : ℕ) (one other : Memory) → SameBelow count one other → instruction_bytes at other ≡ instruction_bytes at one
 unfolding instruction_bytes instruction_byte
-same_bytes at count one other same = rw (same.rom, same.ram, same.bank) refl
+same_bytes at count one other same = ap (λ (m : Memory). instruction_bytes at m) same.same
 
 pub same_sample : (cause : ℕ) (regs : Regs80) (one other : Memory) (ended : Ended) → samples.sampled cause regs one ≡ Ok ended → SameBelow ended.used one other → samples.sampled cause regs other ≡ Ok ended
 unfolding samples.sampled

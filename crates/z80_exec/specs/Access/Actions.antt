@@ -2,15 +2,11 @@
 -- value with what was done then, or the shared access that waits for its answer.
 -- Zilog UM0080, "Z80 Instruction Description".
 use Rattle.std.specs.Prelude.{ℕ, ◌+◌, ◌/◌, ◌%◌, ◌||◌, nat_lt, if◌then◌else◌, List, [], ◌∷◌, ◌++◌, length, slice_index, Result, Ok, Err}
+use Rattle.md_word.specs.Answers.{Done}
 use Rattle.md_word.specs.declared.sub_bus.Request80.{Request80}
 use Rattle.md_word.specs.declared.sub_bus.Request80.TheVariants.{Read, Write}
 use Rattle.z80_decode.specs.Fields.{word}
 use Rattle.z80_exec.specs.Access.Memory.{Memory, bank_after, byte_at, is_bank, is_ram, is_shared_read, is_shared_write, next, ram_after}
-
--- what an instruction has done: the answers taken, and the private writes, the oldest first
-pub record Done : Type 0 where
-  pub used : ℕ
-  pub writes : List (ℕ × ℕ)
 
 -- from the memory and what was done before to a value with what was done then, or a shared access
 -- that waits

@@ -1,5 +1,6 @@
 -- What the contracts say of a call: it gave what the action means.
 use Rattle.std.specs.Prelude.{ℕ, ◌≡◌, Bool, Result, Ok, Err}
+use Rattle.md_word.specs.Answers.{Done}
 use Rattle.md_word.specs.declared.sub_bus.Request80.{Request80}
 use Rattle.md_word.specs.declared.sub_bus.Request80.TheVariants as requests
 use Rattle.z80_exec.specs.declared.access.view.Context.{Context}
@@ -7,7 +8,6 @@ use Rattle.z80_exec.specs.declared.access.view.Progress80.{Progress80}
 use Rattle.z80_exec.specs.declared.access.waiting.Waiting.{Waiting}
 use Rattle.z80_exec.specs.declared.access.waiting.Waiting.TheVariants as waitings
 use Rattle.z80_exec.specs.declared.regs80.Regs80.{Regs80}
-use Rattle.z80_exec.specs.Access.Actions.{Done}
 use Rattle.z80_exec.specs.Access.Memory.{Memory}
 use Rattle.z80_exec.specs.Access.Operands.{Popped}
 use Rattle.z80_exec.specs.Access.Outcomes.{Outcome, outcome_of}

@@ -16,6 +16,14 @@ pub record Memory : Type 0 where
 abbrev pub is_fm : ℕ → Bool
 is_fm at = nat_le 0x4000 at && nat_le at 0x5fff
 
+-- a memory without its answers
+abbrev pub private_of : Memory → Memory
+private_of memory = record memory { answers = [] }
+
+-- the answers alone
+abbrev pub answers_of : Memory → List ℕ
+answers_of memory = memory.answers
+
 -- what a read shares with other chips: the FM chip
 abbrev pub is_shared_read : ℕ → Bool
 is_shared_read at = is_fm at

@@ -1,7 +1,8 @@
 -- What follows a write that waits for its answer, which has no value. Zilog UM0080, "CPU Timing".
 use Rattle.std.specs.Prelude.{◌≡◌, ℕ, ◌+◌, ◌≤◌, true, false, [], ◌∷◌, ◌++◌, length, Result, Ok, Err}
+use Rattle.md_word.specs.Answers.{Done, taken_alone}
 use Rattle.md_word.specs.declared.sub_bus.Request80.{Request80}
-use Rattle.z80_exec.specs.Access.Actions.{Act, Done}
+use Rattle.z80_exec.specs.Access.Actions.{Act}
 use Rattle.z80_exec.specs.Access.Memory.{Memory}
 use Rattle.z80_exec.specs.Access.Outcomes.{Outcome, plain}
 use Rattle.z80_exec.specs.Sample.Samples.{Ended, reported_by}
@@ -17,7 +18,7 @@ answered_with value memory = record memory { answers = memory.answers ++ value �
 
 -- the answer that waits is the last one, and nothing private is written
 abbrev pub all_answered : Memory → Done
-all_answered memory = record { used = length memory.answers + 1; writes = [] }
+all_answered memory = taken_alone (length memory.answers + 1)
 
 -- an action whose access waits gives this, whatever it is answered, and these registers are predicted; where
 -- it does not wait nothing is predicted
@@ -35,6 +36,6 @@ Predicts (Err waiting) predicted act memory done =
 
 -- a sample that waits results in what is predicted, whatever it is answered
 abbrev pub EndsPredicted : Step80 → Predicted80 → (Memory → Result Ended Request80) → Memory → Type 0
-EndsPredicted (steps.Need request) predicted sample memory =
+EndsPredicted (steps.Need waiting) predicted sample memory =
     predicted.known ≡ true → (value : ℕ) → sample (answered_with value memory) ≡ reported_by (steps.Done predicted.finish) predicted.regs (all_answered memory)
 EndsPredicted (steps.Done finish) predicted sample memory = Unit {0}

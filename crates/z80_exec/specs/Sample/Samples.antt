@@ -2,6 +2,7 @@
 -- Zilog UM0080, "Instruction Op Code Fetch", "Interrupt Response"; the rises of R, this project's
 -- profile.
 use Rattle.std.specs.Prelude.{ℕ, ◌≡◌, ◌+◌, ◌*◌, ◌/◌, ◌%◌, ◌<◌, ◌≤◌, Bool, true, false, ◌==◌, ◌||◌, if◌then◌else◌, List, [], slice_index, Result, Ok, Err}
+use Rattle.md_word.specs.Answers.{Done}
 use Rattle.md_word.specs.declared.sub_bus.Request80.{Request80}
 use Rattle.z80_decode.specs.Instructions.{instruction_of}
 use Rattle.z80_decode.specs.declared.decoded80.Decoded80.{Decoded80}
@@ -10,7 +11,7 @@ use Rattle.z80_decode.specs.declared.op80.Op80.TheVariants as ops
 use Rattle.z80_exec.specs.declared.regs80.Regs80.{Regs80}
 use Rattle.z80_exec.specs.declared.sample.step.Step80.{Step80}
 use Rattle.z80_exec.specs.declared.sample.step.Step80.TheVariants as steps
-use Rattle.z80_exec.specs.Access.Actions.{Done}
+use Rattle.z80_exec.specs.Access.Clauses.{request_of}
 use Rattle.z80_exec.specs.Access.Memory.{Memory, instruction_bytes}
 use Rattle.z80_exec.specs.Access.Outcomes.{Outcome}
 use Rattle.z80_exec.specs.Sample.Bounds.{IsAccess}
@@ -99,7 +100,7 @@ sampled cause regs memory =
 
 -- what a step reports, with the registers and what was done then
 abbrev pub reported_by : Step80 → Regs80 → Done → Result Ended Request80
-reported_by (steps.Need request) regs done = Err request
+reported_by (steps.Need waiting) regs done = Err (request_of waiting)
 reported_by (steps.Done finish) regs done = Ok (record {
   regs = regs;
   used = done.used;
@@ -111,20 +112,20 @@ reported_by (steps.Done finish) regs done = Ok (record {
 
 -- where it waits the registers stay
 abbrev pub Keeps : Step80 → Regs80 → Regs80 → Type 0
-Keeps (steps.Need request) old new = new ≡ old
+Keeps (steps.Need waiting) old new = new ≡ old
 Keeps (steps.Done finish) old new = Unit {0}
 
 -- it waits only where there are fewer answers
 abbrev pub WaitsBelow : Step80 → ℕ → ℕ → Type 0
-WaitsBelow (steps.Need request) answers limit = answers < limit
+WaitsBelow (steps.Need waiting) answers limit = answers < limit
 WaitsBelow (steps.Done finish) answers limit = Unit {0}
 
 -- it waits for a shared read or write alone
 abbrev pub WaitsRightly : Step80 → Type 0
-WaitsRightly (steps.Need request) = IsAccess request
+WaitsRightly (steps.Need waiting) = IsAccess (request_of waiting)
 WaitsRightly (steps.Done finish) = Unit {0}
 
 -- its clocks cover its accesses: four for the fetch, and three for each
 abbrev pub CoversAccesses : Step80 → ℕ → Type 0
-CoversAccesses (steps.Need request) used = Unit {0}
+CoversAccesses (steps.Need waiting) used = Unit {0}
 CoversAccesses (steps.Done finish) used = (4 + 3 * used ≤ finish.t) × (finish.t ≤ 23)

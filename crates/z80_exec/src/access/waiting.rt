@@ -6,12 +6,14 @@ use md_word::Request80;
 /// A shared access that waits for its answer. Addresses are the Z80's.
 #[derive(Clone, Copy)]
 pub enum Waiting {
+    /// A read of the byte at an address.
     Read(u16),
+    /// A write of a byte at an address.
     Write(u16, u8),
 }
 
 impl Waiting {
-    /// As a request on the bus.
+    /// The access as a request on the bus.
     pub fn request(self) -> Request80
         ensures { result ≡ request_of self }
     {

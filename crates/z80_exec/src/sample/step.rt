@@ -1,7 +1,6 @@
 ghost use Rattle.std.specs.Prelude.{◌≡◌, false};
 
-use crate::Regs80;
-use md_word::Request80;
+use crate::{Regs80, Waiting};
 use z80_decode::InterruptMode;
 
 /// What a sample of the Z80 results in, once its shared accesses are answered.
@@ -16,10 +15,10 @@ pub struct Finish80 {
 }
 
 /// How far a sample of the Z80 comes with the answers so far.
-#[derive(Drop)]
+#[derive(Clone, Copy)]
 pub enum Step80 {
-    /// The next shared access, a read or a write, which waits for its answer.
-    Need(Request80),
+    /// The next shared access, which waits for its answer.
+    Need(Waiting),
     /// All are answered.
     Done(Finish80),
 }

@@ -3,7 +3,7 @@ use Rattle.std.specs.Arc.{arc_value}
 use Rattle.rom_header.specs.Cartridge.{IsImage}
 use Rattle.z80_chip.specs.Validity.{IsChip80}
 use Rattle.z80_chip.specs.States.{State80, power_on, state_of}
-use Rattle.z80_chip.proofs.Prediction.{sample-predicted}
+use Rattle.z80_chip.proofs.Waiting.{sample-predicted, sample-waits}
 use Rattle.z80_parcel.specs.Parcels.{ram_size}
 use Rattle.z80_chip.proofs.Laws.{of, power_on-ok}
 use Rattle.z80_chip.proofs.chip.Chip80.power_on.Goals as goal
@@ -21,7 +21,8 @@ unfolding power_on
 invariant_of-result c = record {
   valid = subst (λ (state : State80). IsChip80 (of (arc_value c.args.cart) state)) (sym (made c))
       (power_on-ok (arc_value c.args.cart) (subst (λ (image : List ℕ). IsImage image) c.deref.ensures c.bytes.ensures.image));
-  predicts = sample-predicted c.power_on.result.stage (arc_value c.args.cart) (state_of c.power_on.result (Some c.in_ok-parcel.parcel)) c.power_on.result.completion (ap (λ (s : State80). s.stage) (made c));
+  waiting = sample-waits c.power_on.result.stage (arc_value c.args.cart) (state_of c.power_on.result (Some c.in_ok-parcel.parcel)) c.power_on.result.request (ap (λ (s : State80). s.stage) (made c));
+  predicts = sample-predicted c.power_on.result.stage (arc_value c.args.cart) (state_of c.power_on.result (Some c.in_ok-parcel.parcel)) c.power_on.result.predicted (ap (λ (s : State80). s.stage) (made c));
 }
 
 pub returns : goal.returns

@@ -7,4 +7,4 @@ begin_ahead-requires-clause-answers c = no_answers _ (state_of c.self.inside.seq
 
 pub invariant_of-self : goal.invariant_of-self
 invariant_of-self c =
-    ahead_kept _ c.deref.result.now (state_of c.self.inside.sequencer c.self.inside.parcel) _ _ _ c.args.pins.now c.begin_ahead.result c.args.end c.self.view_is c.self.invariant.valid c.requires.sampling c.deref.ensures c.begin_ahead.ensures.state c.begin_ahead.ensures.predicted
+    ahead_kept _ c.deref.result.now (state_of c.self.inside.sequencer c.self.inside.parcel) _ _ _ _ c.args.pins.now c.begin_ahead.result c.args.end c.self.view_is c.self.invariant.valid c.requires.sampling c.deref.ensures c.begin_ahead.ensures.state c.begin_ahead.ensures.waiting c.begin_ahead.ensures.predicted

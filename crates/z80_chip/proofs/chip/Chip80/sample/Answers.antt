@@ -7,4 +7,4 @@ begin-requires-clause-answers c = no_answers _ (state_of c.self.inside.sequencer
 
 pub invariant_of-self : goal.invariant_of-self
 invariant_of-self c =
-    after_sample _ c.deref.result.now (state_of c.self.inside.sequencer c.self.inside.parcel) _ _ _ c.args.pins c.self.view_is c.self.invariant.valid c.requires.sampling c.deref.ensures c.begin.ensures.state c.begin.ensures.predicted
+    after_sample _ c.deref.result.now (state_of c.self.inside.sequencer c.self.inside.parcel) _ _ _ _ c.args.pins c.self.view_is c.self.invariant.valid c.requires.sampling c.deref.ensures c.begin.ensures.state c.begin.ensures.waiting c.begin.ensures.predicted

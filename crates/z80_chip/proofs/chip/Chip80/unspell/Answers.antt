@@ -2,13 +2,17 @@ use Rattle.std.proofs.Common.{◌≡◌, ℕ, Bool, true, List, Option, Ok, Err,
 use Rattle.std.specs.Prelude.{option_map}
 use Rattle.std.specs.Arc.{arc_value}
 use Rattle.md_fields.specs.Items.{IsRight, Keeps}
+use Rattle.md_fields.specs.Places.{IsBytes}
 use Rattle.md_word.specs.declared.unspell.Unspell.TheVariants.{Rule}
 use Rattle.rom_header.specs.Cartridge.{IsImage}
+use Rattle.z80_exec.specs.declared.sample.step.Predicted80.{Predicted80}
 use Rattle.z80_parcel.specs.Parcels.{Store, store_of}
+use Rattle.z80_chip.specs.Events.{Waits}
+use Rattle.z80_chip.specs.Held.{WaitsFor}
 use Rattle.z80_chip.specs.Rules.{HasRules}
 use Rattle.z80_chip.specs.Saved.{asks_more, chip_fields, kept_of, state_from}
 use Rattle.z80_chip.specs.Validity.{IsChip80}
-use Rattle.z80_chip.specs.Spelling.{InvalidAt, Spells, ram_offset, store_at}
+use Rattle.z80_chip.specs.Spelling.{InvalidAt, IsRead, Spells, ram_offset, store_at}
 use Rattle.z80_chip.specs.States.{State80, state_of}
 use Rattle.z80_chip.specs.declared.saved.Saved80.{Saved80}
 use Rattle.z80_chip.proofs.Laws.{of}
@@ -16,7 +20,7 @@ use Rattle.md_fields.proofs.Refusals.{same_rule}
 use Rattle.z80_chip.proofs.RuleLaws.{rules_from}
 use Rattle.z80_chip.proofs.SavedLaws.{count_few, valid}
 use Rattle.z80_chip.proofs.SpellingLaws.{answers_four, breaks_ram, no_other, only_place, read_keeps, read_of, read_right, read_rules, read_store, right_not_refused, spelled_by}
-use Rattle.z80_chip.proofs.Prediction.{unknown-predicted}
+use Rattle.z80_chip.proofs.Waiting.{unknown-predicted, waits-at}
 use Rattle.z80_chip.proofs.chip.Chip80.unspell.Goals as goal
 
 pub returns-in-Err-clause-only : goal.returns-in-Err-clause-only
@@ -58,12 +62,31 @@ pub returns-then-not-asks_more-clause-refused : goal.returns-then-not-asks_more-
 returns-then-not-asks_more-clause-refused c = λ place invalid n.
     ap (λ (p : ℕ). Err (Rule p)) (only_place (arc_value c.args.cart) c.args.at c.args.bytes.now ram_offset place (invalid_ram c) invalid)
 
-pub sequencer-requires : goal.sequencer-requires
-sequencer-requires c = omega (arith, count_few c.args.at true _ (read_rules c.args.at c.args.bytes.now c.in-Ok.saved c.in-Ok.ensures.found))
+pub sequencer-sequencer-requires : goal.sequencer-sequencer-requires
+sequencer-sequencer-requires c = omega (arith, count_few c.args.at true _ (read_rules c.args.at c.args.bytes.now c.in-Ok.saved c.in-Ok.ensures.found))
+
+-- the Z80 that these bytes keep
+valid_in : (image : List ℕ) (at : ℕ) (bytes : List ℕ) (saved : Saved80) → IsImage image → IsBytes bytes → IsRead at bytes saved → asks_more image (read_of bytes saved) ≡ true → IsChip80 (of image (state_from saved (store_at bytes)))
+valid_in image at bytes saved ok fits is asks =
+    valid image at (read_of bytes saved) ok (read_store at bytes saved is) (answers_four image at bytes (read_of bytes saved) (read_keeps image at bytes saved fits is)) (read_rules at bytes saved is) asks
+
+-- it waits at an access
+waits_in : (image cart : List ℕ) (state at : State80) → cart ≡ image → state ≡ at → IsChip80 (of image at) → Waits state.stage cart state
+waits_in image cart state at same e valid =
+    subst (λ (s : State80). Waits s.stage cart s) (sym e) (subst (λ (l : List ℕ). Waits at.stage l at) (sym same) (waits-at at.stage image at valid.stands))
+
+pub resume-requires : goal.resume-requires
+resume-requires c =
+    waits_in (arc_value c.args.cart) c.deref-3.result.now _ (state_from c.in-Ok.saved (store_at c.args.bytes.now)) c.deref-3.ensures
+    (c.sequencer-sequencer.ensures.state c.in_ok-parcel.parcel ∙ ap (state_from c.in-Ok.saved) c.in_ok-parcel.ensures)
+    (valid_in (arc_value c.args.cart) c.args.at c.args.bytes.now c.in-Ok.saved
+    (subst (λ (image : List ℕ). IsImage image) c.deref.ensures c.bytes.ensures.image) (λ i. omega (arith, c.type_inv.bytes i)) c.in-Ok.ensures.found
+    (reported c.deref-2.result.now (arc_value c.args.cart) c.args.bytes.now c.in-Ok.saved (option_map store_of c.in_ok-parcel.parcel) c.asks_more.result c.deref-2.ensures c.in_ok-parcel.ensures c.asks_more.ensures
+    ∙ c.if-not-asks_more.false))
 
 -- what is made
-made : (c : goal.After-new) → state_of c.sequencer.result c.in_ok-parcel.parcel ≡ state_from c.in-Ok.saved (store_at c.args.bytes.now)
-made c = c.sequencer.ensures.state c.in_ok-parcel.parcel ∙ ap (state_from c.in-Ok.saved) c.in_ok-parcel.ensures
+made : (c : goal.After-new) → state_of c.resume.new.self c.in_ok-parcel.parcel ≡ state_from c.in-Ok.saved (store_at c.args.bytes.now)
+made c = c.resume.ensures.state c.in_ok-parcel.parcel ∙ c.sequencer-sequencer.ensures.state c.in_ok-parcel.parcel ∙ ap (state_from c.in-Ok.saved) c.in_ok-parcel.ensures
 
 asked_more : (c : goal.After-new) → asks_more (arc_value c.args.cart) (read_of c.args.bytes.now c.in-Ok.saved) ≡ true
 asked_more c =
@@ -79,13 +102,10 @@ right c = read_right (arc_value c.args.cart) c.args.at c.args.bytes.now c.in-Ok.
 pub invariant_of-result : goal.invariant_of-result
 invariant_of-result c = record {
   valid = subst (λ (state : State80). IsChip80 (of (arc_value c.args.cart) state)) (sym (made c))
-      (valid (arc_value c.args.cart) c.args.at (read_of c.args.bytes.now c.in-Ok.saved)
-      (subst (λ (image : List ℕ). IsImage image) c.deref.ensures c.bytes.ensures.image)
-      (read_store c.args.at c.args.bytes.now c.in-Ok.saved c.in-Ok.ensures.found)
-      (answers_four (arc_value c.args.cart) c.args.at c.args.bytes.now (read_of c.args.bytes.now c.in-Ok.saved) (keeps c))
-      (read_rules c.args.at c.args.bytes.now c.in-Ok.saved c.in-Ok.ensures.found)
-      (asked_more c));
-  predicts = unknown-predicted _ (arc_value c.args.cart) _ c.sequencer.result.completion c.sequencer.ensures.unknown;
+      (valid_in (arc_value c.args.cart) c.args.at c.args.bytes.now c.in-Ok.saved
+      (subst (λ (image : List ℕ). IsImage image) c.deref.ensures c.bytes.ensures.image) (λ i. omega (arith, c.type_inv.bytes i)) c.in-Ok.ensures.found (asked_more c));
+  waiting = subst (λ (image : List ℕ). WaitsFor c.resume.new.self.stage image (state_of c.resume.new.self c.in_ok-parcel.parcel) c.resume.new.self.request) c.deref-3.ensures c.resume.ensures.waiting;
+  predicts = unknown-predicted _ (arc_value c.args.cart) _ c.resume.new.self.predicted (ap (λ (p : Predicted80). p.known) c.resume.ensures.predicted ∙ c.sequencer-sequencer.ensures.unknown);
 }
 
 pub returns-clause-found : goal.returns-clause-found

@@ -1,35 +1,50 @@
-use Rattle.std.proofs.Common.{◌≡◌, ◌∙◌, ℕ, List, ap, sym, Some}
-use Rattle.z80_exec.specs.Access.Clauses.{done_of}
+use Rattle.std.proofs.Common.{◌≡◌, ◌∙◌, ℕ, List, Err, ap, subst, sym, Some}
+use Rattle.z80_exec.specs.Access.Clauses.{done_of, request_of}
+use Rattle.z80_exec.specs.Sample.Prediction.{EndsPredicted}
+use Rattle.z80_exec.specs.Sample.Samples.{CoversAccesses, Keeps, reported_by, sampled}
+use Rattle.z80_exec.specs.declared.regs80.Regs80.{Regs80}
+use Rattle.z80_exec.specs.declared.sample.step.Step80.{Step80}
 use Rattle.z80_parcel.specs.Parcels.{Store, bank_after, ram_after, store_of, written}
-use Rattle.z80_exec.specs.Sample.Samples.{Ended}
-use Rattle.z80_chip.specs.Events.{asking, carried_out, ended_at, ended_by, went_on}
+use Rattle.z80_chip.specs.Events.{asking, came_to, carried_out, ended_at, went_on}
 use Rattle.z80_chip.specs.States.{State80, state_of}
-use Rattle.z80_chip.specs.declared.sequencer.Sequencer.{Sequencer}
-use Rattle.z80_chip.proofs.Prediction.{asked-predicted}
-use Rattle.z80_chip.proofs.Steps.{ends, came_waiting}
+use Rattle.z80_chip.proofs.Waiting.{asked-predicted, asked-waits}
 use Rattle.z80_chip.proofs.sequencer.Sequencer.go_on.Goals as goal
 
-pub returns-in-None-clause-state : goal.returns-in-None-clause-state
-unfolding went_on
-returns-in-None-clause-state c =
+-- where it waits the registers are as before
+came : (c : goal.After-ask) → state_of c.ask.new.self (Some c.args.parcel.now) ≡ asking (state_of c.args.self.now (Some c.args.parcel.now)) c.args.cause
+came c =
     let old : State80 = state_of c.args.self.now (Some c.args.parcel.now) in
     c.ask.ensures.state (Some c.args.parcel.now)
-    ∙ ap (λ (s : Sequencer). asking (state_of s (Some c.args.parcel.now)) c.args.cause) (c.step.ensures.kept c.in-None.is)
-    ∙ came_waiting old c.args.cause (carried_out c.args.cart.now old c.args.cause) (sym (ap (λ r. ended_by r c.step.new.self.regs (done_of c.step.new.progress)) c.in-None.is) ∙ c.step.ensures.value)
+    ∙ ap (λ (r : Regs80). asking (record old { regs = r }) c.args.cause)
+    (subst (λ (step : Step80). Keeps step c.args.self.now.regs c.predict.new.regs) c.in-Need.is c.predict.ensures.kept)
 
-pub returns-in-Some-clause-state : goal.returns-in-Some-clause-state
+asks : (c : goal.After-ask) → carried_out c.args.cart.now (state_of c.args.self.now (Some c.args.parcel.now)) c.args.cause ≡ Err (request_of c.in-Need.waiting)
+asks c = sym (sym (ap (λ (step : Step80). reported_by step c.predict.new.regs (done_of c.predict.new.progress)) c.in-Need.is) ∙ c.predict.ensures.value)
+
+pub returns-in-Need-clause-state : goal.returns-in-Need-clause-state
 unfolding went_on
-returns-in-Some-clause-state c =
+returns-in-Need-clause-state c =
+    came c ∙ sym (ap (came_to (state_of c.args.self.now (Some c.args.parcel.now)) c.args.cause) (asks c))
+
+pub returns-in-Need-clause-waiting : goal.returns-in-Need-clause-waiting
+returns-in-Need-clause-waiting c =
+    asked-waits c.args.cart.now (state_of c.args.self.now (Some c.args.parcel.now)) _ c.args.cause c.in-Need.waiting _ (came c) c.ask.ensures.request (asks c)
+
+pub returns-in-Need-clause-predicted : goal.returns-in-Need-clause-predicted
+returns-in-Need-clause-predicted c =
+    asked-predicted c.args.cart.now (state_of c.args.self.now (Some c.args.parcel.now)) _ c.args.cause c.predict.new.predicted _ (came c) c.ask.ensures.predicted
+    (subst (λ (step : Step80). EndsPredicted step c.predict.new.predicted (sampled c.args.cause c.args.self.now.regs) (record { rom = c.args.cart.now; ram = c.args.parcel.now.ram.value; bank = c.args.parcel.now.bank; answers = c.args.self.now.answers.items }))
+    c.in-Need.is c.predict.ensures.predicted)
+
+pub finish-requires-clause-t : goal.finish-requires-clause-t
+finish-requires-clause-t c =
+    (subst (λ (step : Step80). CoversAccesses step c.predict.new.progress.used) c.in-Done.is c.predict.ensures.covers).1
+
+pub returns-in-Done-clause-state : goal.returns-in-Done-clause-state
+unfolding went_on
+returns-in-Done-clause-state c =
     let old : State80 = state_of c.args.self.now (Some c.args.parcel.now) in
-    let writes : List (ℕ × ℕ) = c.step.new.progress.writes.items in
-    let ended : Ended = record {
-      regs = c.step.new.self.regs;
-      used = c.step.new.progress.used;
-      writes = writes;
-      t = c.in-Some.finish.t;
-      halted = c.in-Some.finish.halted;
-      after_ei = c.in-Some.finish.after_ei;
-    } in
+    let writes : List (ℕ × ℕ) = c.predict.new.progress.writes.items in
     let ram : c.store_bytes.new.parcel.ram.value ≡ ram_after c.args.parcel.now.ram.value writes =
     c.store_bytes.ensures.ram ∙ ap (ram_after c.args.parcel.now.ram.value) c.as_slice.ensures.value in
     let bank : c.store_bytes.new.parcel.bank ≡ bank_after c.args.parcel.now.bank writes =
@@ -38,12 +53,6 @@ returns-in-Some-clause-state c =
     ap (λ (l : List ℕ). record { ram = l; bank = c.store_bytes.new.parcel.bank }) ram
     ∙ ap (λ (n : ℕ). record { ram = ram_after c.args.parcel.now.ram.value writes; bank = n }) bank in
     c.finish.ensures.state (Some c.store_bytes.new.parcel)
-    ∙ ap (λ (s : Sequencer). ended_at (state_of s (Some c.store_bytes.new.parcel)) c.in-Some.finish) c.step.ensures.others
-    ∙ ap (λ (s : Store). ended_at (record old { regs = c.step.new.self.regs; store = Some s }) c.in-Some.finish) stored
-    ∙ ends old c.args.cause (carried_out c.args.cart.now old c.args.cause) ended (sym (ap (λ r. ended_by r c.step.new.self.regs (done_of c.step.new.progress)) c.in-Some.is) ∙ c.step.ensures.value)
-
-pub returns-in-None-clause-predicted : goal.returns-in-None-clause-predicted
-returns-in-None-clause-predicted c =
-    asked-predicted c.args.cart.now (state_of c.args.self.now (Some c.args.parcel.now)) _ c.args.cause c.step.new.self.completion _
-    (c.ask.ensures.state (Some c.args.parcel.now) ∙ ap (λ (s : Sequencer). asking (state_of s (Some c.args.parcel.now)) c.args.cause) (c.step.ensures.kept c.in-None.is))
-    c.ask.ensures.completion (c.step.ensures.predicts_end c.in-None.is)
+    ∙ ap (λ (s : Store). ended_at (record old { regs = c.predict.new.regs; store = Some s }) c.in-Done.finish) stored
+    ∙ ap (came_to old c.args.cause)
+    (sym (ap (λ (step : Step80). reported_by step c.predict.new.regs (done_of c.predict.new.progress)) c.in-Done.is) ∙ c.predict.ensures.value)
