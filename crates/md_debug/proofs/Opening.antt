@@ -1,11 +1,12 @@
 -- The machines of a session have images.
-use Rattle.std.proofs.Common.{◌≡◌, ℕ, ◌≤◌, List, [], ◌∷◌, Result, Ok, Err, refl, sym, ap, subst, ◌∙◌}
+use Rattle.std.proofs.Common.{◌≡◌, ℕ, ◌≤◌, List, [], ◌∷◌, Result, Ok, Err, refl, ap, subst, ◌∙◌}
 use Rattle.std.specs.Prelude.{IfOk, OnErr}
 use Rattle.md_debug.specs.Kept.{padded}
 use Rattle.text_lines.specs.Lines.{lines_of}
 use Rattle.md_outer.specs.Outside.{SinkState}
 use Rattle.md_outer.specs.declared.sink.Failed.{Failed}
-use Rattle.md_debug.specs.Scripts.{ObeysAll, Plays, PutsReplies, StopsAtReply}
+use Rattle.debug_text.proofs.Scripts.{first_none}
+use Rattle.md_debug.specs.Scripts.{ObeysLine, Plays, PutsReplies, StopsAtReply, replied}
 use Rattle.md_debug.specs.declared.script.SessionOutcome.{SessionOutcome}
 use Rattle.md_debug.specs.declared.script.SessionOutcome.TheVariants.{OutOfMemory}
 use Rattle.md_debug.specs.Opened.{PlaysScript, PutsScript, StopsScript, images_with, opened}
@@ -43,14 +44,10 @@ opened_is (Ok session) images machine first same there states cycles begun =
 opened_is (Err fault) images machine first same there states cycles begun = tt
 
 -- no line is obeyed
-none_obeyed : (session : SessionValue ImagesValue) → ObeysAll size_of image_of Keeps [] session session []
-unfolding ObeysAll
-none_obeyed session = (refl, refl)
-
 pub plays_none : (cart script : List ℕ) → PlaysScript cart script [] OutOfMemory
 plays_none cart script =
     let session : SessionValue ImagesValue = opened (images_with cart) in
-    record { after = session; plays = ([], lines_of script, session, record { parts = refl; obeyed = none_obeyed session }) }
+    record { after = session; plays = (session, ([], lines_of script, first_none (ObeysLine size_of image_of Keeps) (lines_of script) (replied session []))) }
 
 -- what is put in the session at power-on
 pub puts_script : (observable : Type 0) (cart script : List ℕ) (old new : SessionValue ImagesValue) (out out' : SinkState) (result : Result SessionOutcome Failed) → old ≡ opened (images_with cart)

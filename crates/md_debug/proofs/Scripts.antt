@@ -1,24 +1,20 @@
--- One more line of a script is obeyed.
-use Rattle.std.proofs.Common.{◌≡◌, ◌≢◌, ◌↔◌, ℕ, ◌+◌, ◌<◌, ◌≤◌, ◌⊎◌, inl, inr, Bool, true, false, if◌then◌else◌, nat_lt, get_or, List, [], ◌∷◌, ◌++◌, length, Result, Ok, Err, refl, sym, ap, subst, ◌∙◌, append_assoc, append-nil, arith}
+-- Lines that are refused, and replies that are written.
+use Rattle.std.proofs.Common.{◌≡◌, ◌≢◌, ◌↔◌, ℕ, ◌+◌, ◌<◌, Bool, true, false, if◌then◌else◌, List, [], ◌∷◌, ◌++◌, length, Result, Ok, Err, refl, sym, ap, subst, ◌∙◌, append_assoc, append-nil, arith}
 use Rattle.std.specs.Prelude.{IfErr}
 use Rattle.std.specs.List.{list_all}
-use Rattle.std.specs.Str.{IsAscii, IsUtf8}
-use Rattle.std.proofs.lemmas.Bool.{true≢false}
-use Rattle.std.proofs.lemmas.List.{get_or_past}
-use Rattle.std.proofs.lemmas.List.Folds.{list_all_at}
+use Rattle.std.specs.Str.{IsUtf8}
 use Rattle.std.proofs.lemmas.Str.{IsUtf8-from_ascii}
 use Rattle.text_lines.proofs.Ascii.{ascii_of}
 use Rattle.md_outer.specs.Outside.{IsPrefix, PutsText, SinkState}
-use borrow.Author.Tests.{ltb-true}
 use Rattle.debug_text.specs.Commands.{following, command_of, is_seven_bit, read_by, word_in, word_of}
-use Rattle.debug_text.specs.declared.command.Command.{Command}
 use Rattle.debug_text.specs.declared.command.Command.TheVariants.{Back}
 use Rattle.debug_text.specs.declared.command.Misread.TheVariants as misread
 use Rattle.md_machine.specs.Machines.{MachineValue}
-use Rattle.md_debug.specs.Sessions.{Obeys, SessionValue, oldest_of, reply_to}
+use Rattle.md_debug.specs.Sessions.{SessionValue, oldest_of}
 use Rattle.md_debug.specs.declared.fault.DebugFault.{DebugFault}
 use Rattle.md_debug.specs.declared.fault.DebugFault.TheVariants.{BadNumber, NoMemory, NotKept, UnknownWord}
-use Rattle.md_debug.specs.Scripts.{FailsWithin, IsRefused, ObeysAll, ObeysFirst, Plays, PutsWhole}
+use Rattle.debug_text.specs.Scripts.{ObeysFirst}
+use Rattle.md_debug.specs.Scripts.{FailsWithin, IsRefused, ObeysLine, Plays, PutsWhole, replied}
 use Rattle.md_debug.specs.declared.script.SessionOutcome.{SessionOutcome}
 use Rattle.md_debug.specs.declared.script.SessionOutcome.TheVariants.{OutOfMemory, Refused}
 
@@ -79,67 +75,26 @@ not_text line other = by (list_all is_seven_bit line) refl where
   by false some = ap (λ (b : Bool). if b then read_by (word_of (word_in line)) (following line) else Err misread.UnknownWord) some
 
 module _ {Images : Type 0} (size : Images → ℕ) (spelling : Images → MachineValue → List ℕ) (keeps : Images → List ℕ → MachineValue → Type 0) where
-  pub obeys_none : (session : SessionValue Images) (replies : List ℕ) → replies ≡ [] → ObeysAll size spelling keeps [] session session replies
-  unfolding ObeysAll
-  obeys_none session replies none = (refl, none)
-
-  pub obeys_more : (before : List (List ℕ)) (line : List ℕ) (command : Command) (old mid new : SessionValue Images) (replies all : List ℕ)
-      → ObeysAll size spelling keeps before old mid replies → command_of line ≡ Ok command → Obeys size spelling keeps mid command new
-      → all ≡ replies ++ reply_to command new → ObeysAll size spelling keeps (before ++ line ∷ []) old new all
-  unfolding ObeysAll
-  obeys_more [] line command old mid new replies all so_far is obeys there = (
-    command,
-    new,
-    [],
-    is,
-    subst (λ (s : SessionValue Images). Obeys size spelling keeps s command new) so_far.0 obeys,
-    (refl, refl),
-    there ∙ ap (λ (l : List ℕ). l ++ reply_to command new) so_far.1 ∙ sym (append-nil (reply_to command new)),
-  )
-  obeys_more (first ∷ before) line command old mid new replies all so_far is obeys there = (
-    so_far.0,
-    so_far.1,
-    so_far.2 ++ reply_to command new,
-    so_far.3,
-    so_far.4,
-    obeys_more before line command so_far.1 mid new so_far.2 (so_far.2 ++ reply_to command new) so_far.5 is obeys refl,
-    there ∙ ap (λ (l : List ℕ). l ++ reply_to command new) so_far.6 ∙ append_assoc (reply_to so_far.0 so_far.1) so_far.2 (reply_to command new),
-  )
-
-  pub first_more : (lines before after : List (List ℕ)) (line : List ℕ) (command : Command) (old mid new : SessionValue Images) (replies all : List ℕ)
-      → ObeysFirst size spelling keeps lines before (line ∷ after) old mid replies → command_of line ≡ Ok command → Obeys size spelling keeps mid command new
-      → all ≡ replies ++ reply_to command new → ObeysFirst size spelling keeps lines (before ++ line ∷ []) after old new all
-  first_more lines before after line command old mid new replies all so_far is obeys there = record {
-    parts = so_far.parts ∙ sym (append_assoc before (line ∷ []) after);
-    obeyed = obeys_more before line command old mid new replies all so_far.obeyed is obeys there;
-  }
-
-  -- all lines are obeyed
-  pub plays_done : (lines before after : List (List ℕ)) (old new : SessionValue Images) (replies : List ℕ) → after ≡ [] → ObeysFirst size spelling keeps lines before after old new replies
-      → ObeysAll size spelling keeps lines old new replies
-  plays_done lines before after old new replies none so_far =
-      let all : lines ≡ before = so_far.parts ∙ ap (λ (l : List (List ℕ)). before ++ l) none ∙ append-nil before in
-      subst (λ (l : List (List ℕ)). ObeysAll size spelling keeps l old new replies) (sym all) so_far.obeyed
-
   -- a line is not obeyed
   refused_at : (lines before after : List (List ℕ)) (line : List ℕ) (old mid new : SessionValue Images) (replies : List ℕ) (session_outcome : SessionOutcome) (number : ℕ) (fault : DebugFault)
-      → ObeysFirst size spelling keeps lines before (line ∷ after) old mid replies → number ≡ length before + 1 → session_outcome ≡ Refused number fault → IsRefused mid line fault × (new ≡ mid)
-      → Plays size spelling keeps lines old new replies session_outcome
+      → ObeysFirst (ObeysLine size spelling keeps) lines before (line ∷ after) (replied old []) (replied mid replies) → number ≡ length before + 1 → session_outcome ≡ Refused number fault
+      → IsRefused mid line fault × (new ≡ mid) → Plays size spelling keeps lines old new replies session_outcome
   refused_at lines before after line old mid new replies session_outcome number fault so_far is ends refused =
       subst (Plays size spelling keeps lines old new replies) (sym ends) (
         before,
         line,
         after,
-        subst (λ (s : SessionValue Images). ObeysFirst size spelling keeps lines before (line ∷ after) old s replies) (sym refused.1) so_far,
+        subst (λ (s : SessionValue Images). ObeysFirst (ObeysLine size spelling keeps) lines before (line ∷ after) (replied old []) (replied s replies)) (sym refused.1) so_far,
         is,
         subst (λ (s : SessionValue Images). IsRefused s line fault) (sym refused.1) refused.0,
       )
 
   pub plays_stopped : (lines before after : List (List ℕ)) (line : List ℕ) (old mid new : SessionValue Images) (replies : List ℕ) (session_outcome : SessionOutcome) (number : ℕ) (fault : DebugFault)
-      → ObeysFirst size spelling keeps lines before (line ∷ after) old mid replies → number ≡ length before + 1 → (fault ≡ NoMemory → session_outcome ≡ OutOfMemory) → (fault ≢ NoMemory → session_outcome ≡ Refused number fault)
+      → ObeysFirst (ObeysLine size spelling keeps) lines before (line ∷ after) (replied old []) (replied mid replies) → number ≡ length before + 1
+      → (fault ≡ NoMemory → session_outcome ≡ OutOfMemory) → (fault ≢ NoMemory → session_outcome ≡ Refused number fault)
       → (fault ≢ NoMemory → IsRefused mid line fault × (new ≡ mid)) → Plays size spelling keeps lines old new replies session_outcome
   plays_stopped lines before after line old mid new replies session_outcome number NoMemory so_far is memory ends refused =
-      subst (Plays size spelling keeps lines old new replies) (sym (memory refl)) (before, line ∷ after, mid, so_far)
+      subst (Plays size spelling keeps lines old new replies) (sym (memory refl)) (mid, (before, line ∷ after, so_far))
   plays_stopped lines before after line old mid new replies session_outcome number UnknownWord so_far is memory ends refused =
       let other : UnknownWord ≢ NoMemory = λ e. cc in
       refused_at lines before after line old mid new replies session_outcome number UnknownWord so_far is (ends other) (refused other)

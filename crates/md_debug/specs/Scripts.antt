@@ -1,6 +1,7 @@
 -- The outcome of a script. This project's profile.
-use Rattle.std.specs.Prelude.{◌≡◌, ℕ, ◌+◌, ◌<◌, List, [], ◌∷◌, ◌++◌, length, Ok, Err}
+use Rattle.std.specs.Prelude.{◌≡◌, ℕ, ◌<◌, List, [], ◌∷◌, ◌++◌, length, Ok, Err}
 use Rattle.debug_text.specs.Commands.{command_of}
+use Rattle.debug_text.specs.Scripts.{ObeysAll, ObeysFirst, ObeysSome, RefusesLine}
 use Rattle.debug_text.specs.declared.command.Command.{Command}
 use Rattle.debug_text.specs.declared.command.Command.TheVariants.{Back}
 use Rattle.debug_text.specs.declared.command.Misread.TheVariants as misread
@@ -11,6 +12,14 @@ use Rattle.md_debug.specs.declared.fault.DebugFault.{DebugFault}
 use Rattle.md_debug.specs.declared.fault.DebugFault.TheVariants as faults
 use Rattle.md_debug.specs.declared.script.SessionOutcome.{SessionOutcome}
 use Rattle.md_debug.specs.declared.script.SessionOutcome.TheVariants.{Obeyed, Refused, OutOfMemory}
+
+-- a session, and the replies to the lines so far
+pub record Replied (Images : Type 0) : Type 0 where
+  pub session : SessionValue Images
+  pub replies : List ℕ
+
+abbrev pub replied : {Images : Type 0} → SessionValue Images → List ℕ → Replied Images
+replied session replies = record { session = session; replies = replies }
 
 -- why a line is refused by a session: it begins with no command's word, a number is wrong, or fewer states are
 -- kept than it goes back
@@ -28,27 +37,24 @@ PutsWhole observable text old new = PutsText {E = Unit {0}} observable text old 
 abbrev pub FailsWithin : Type 0 → List ℕ → SinkState → SinkState → Type 0
 FailsWithin observable text old new = PutsText {E = Unit {0}} observable text old new (Err tt)
 
-module _ {Images : Type 0} (size : Images → ℕ) (spelling : Images → MachineValue → List ℕ) (keeps : Images → List ℕ → MachineValue → Type 0) where
-  -- all lines were obeyed, one after another: the session then, and the replies in their order
-  unfoldable pub ObeysAll : List (List ℕ) → SessionValue Images → SessionValue Images → List ℕ → Type 0
-  ObeysAll [] old new replies = (new ≡ old) × (replies ≡ [])
-  ObeysAll (line ∷ lines) old new replies =
-      (command : Command) × (mid : SessionValue Images) × (later : List ℕ) × (command_of line ≡ Ok command)
-      × Obeys size spelling keeps old command mid × ObeysAll lines mid new later × (replies ≡ reply_to command mid ++ later)
+-- .. as a fact on a session and the replies so far
+abbrev pub RefusesFor : {Images : Type 0} → DebugFault → Replied Images → List ℕ → Type 0
+RefusesFor fault state line = IsRefused state.session line fault
 
-  -- the first lines were obeyed, and so many there were
-  pub record ObeysFirst (lines before after : List (List ℕ)) (old new : SessionValue Images) (replies : List ℕ) : Type 0 where
-    pub parts : lines ≡ before ++ after
-    pub obeyed : ObeysAll before old new replies
+module _ {Images : Type 0} (size : Images → ℕ) (spelling : Images → MachineValue → List ℕ) (keeps : Images → List ℕ → MachineValue → Type 0) where
+  -- a line was obeyed, and its reply follows those before it
+  pub record ObeysLine (line : List ℕ) (old new : Replied Images) : Type 0 where
+    pub command : Command
+    pub asks : command_of line ≡ Ok command
+    pub obeys : Obeys size spelling keeps old.session command new.session
+    pub replies : new.replies ≡ old.replies ++ reply_to command new.session
 
   -- how a script ends: each line was obeyed; or the line of a number, from 1 on, is the first that is refused, and
   -- those before it were obeyed; or memory ran out after lines that were obeyed
   abbrev pub Plays : List (List ℕ) → SessionValue Images → SessionValue Images → List ℕ → SessionOutcome → Type 0
-  Plays lines old new replies Obeyed = ObeysAll lines old new replies
-  Plays lines old new replies (Refused number fault) =
-      (before : List (List ℕ)) × (line : List ℕ) × (after : List (List ℕ)) × ObeysFirst lines before (line ∷ after) old new replies
-      × (number ≡ length before + 1) × IsRefused new line fault
-  Plays lines old new replies OutOfMemory = (before : List (List ℕ)) × (after : List (List ℕ)) × (mid : SessionValue Images) × ObeysFirst lines before after old mid replies
+  Plays lines old new replies Obeyed = ObeysAll ObeysLine lines (replied old []) (replied new replies)
+  Plays lines old new replies (Refused number fault) = RefusesLine ObeysLine (RefusesFor fault) lines (replied old []) (replied new replies) number
+  Plays lines old new replies OutOfMemory = (mid : SessionValue Images) × ObeysSome ObeysLine lines (replied old []) (replied mid replies)
 
   -- a script ended so, and the replies to the lines that were obeyed were written
   pub record PutsReplies (observable : Type 0) (lines : List (List ℕ)) (old new : SessionValue Images) (out out' : SinkState) (session_outcome : SessionOutcome) : Type 0 where
@@ -66,7 +72,7 @@ module _ {Images : Type 0} (size : Images → ℕ) (spelling : Images → Machin
     pub command : Command
     pub mid : SessionValue Images
     pub between : SinkState
-    pub first : ObeysFirst lines before (line ∷ after) old mid replies
+    pub first : ObeysFirst ObeysLine lines before (line ∷ after) (replied old []) (replied mid replies)
     pub puts : PutsWhole observable replies out between
     pub asks : command_of line ≡ Ok command
     pub obeys : Obeys size spelling keeps mid command new

@@ -10,7 +10,7 @@ use md_machine::Machine;
 use md_outer::{Failed, Sink};
 use page_ring::Images;
 use std::str::from_utf8;
-use text_lines::first_line;
+use text_lines::NumberedLines;
 
 /// The outcome of a script, of which each reply is written.
 #[derive(Clone, Copy)]
@@ -34,17 +34,14 @@ pub fn play<I: Images<Machine>, S: Sink>(
     ensures ends { IfOk result (λ session_outcome. PutsReplies I.size I.spelling I.keeps S.observable (lines_of script.now) session.old session.new (S.state out.old) (S.state out.new) session_outcome) }
     ensures stops { OnErr result (StopsAtReply I.size I.spelling I.keeps S.observable (lines_of script.now) session.old session.new (S.state out.old) (S.state out.new)) }
 {
-    let mut number = 0;
-    let mut rest = script;
-    while !rest.is_empty() {
-        let (line, after) = first_line(rest);
-        number += 1;
+    let mut lines = NumberedLines::of(script);
+    while let Some(line) = lines.next() {
         let reply = match obey(session, line) {
             Ok(reply) => reply,
-            Err(fault) => return Ok(session_outcome_of(number, fault)),
+            Err(fault) => return Ok(session_outcome_of(lines.number, fault)),
         };
         match out.put(reply.as_slice()) {
-            Ok(()) => rest = after,
+            Ok(()) => {}
             Err(failed) => return Err(failed),
         }
     }

@@ -3,6 +3,7 @@ pub mod Below
 pub mod Expected
 pub mod FixedFrames
 pub mod Followed
+pub mod Fronts
 pub mod Kept
 pub mod Near
 pub mod Numerals

@@ -1,10 +1,12 @@
 -- A script of which each line is obeyed has none that is refused.
-use Rattle.std.proofs.Common.{◌≡◌, ◌∙◌, sym, subst, ℕ, ◌<◌, ◌⊎◌, inl, inr, List, [], ◌∷◌, ◌++◌, Option, Some, arith}
+use Rattle.std.proofs.Common.{◌≡◌, ◌∙◌, refl, sym, subst, ℕ, ◌<◌, ◌⊎◌, inl, inr, List, Option, Some, arith}
+use Rattle.text_lines.specs.Lines.{lines_of}
+use Rattle.debug_text.proofs.Scripts.{none_refused}
 use Rattle.md_rollback.specs.Inputs.{IsConfirmed, Words}
 use Rattle.md_rollback.specs.Lines.{line_of}
 use Rattle.md_rollback.specs.declared.line.Line.{Line}
 use Rattle.md_rollback.specs.declared.line.Line.TheVariants.{Advance, Press}
-use Rattle.md_rollback.specs.Scripts.{IsRefused, Obeys, ObeysAll, Script, begun}
+use Rattle.md_rollback.specs.Scripts.{IsRefused, Obeys, ObeysLine, RefusesFor, Script, begun}
 use Rattle.md_rollback.specs.declared.line_fault.LineFault.{LineFault}
 use Rattle.md_rollback.specs.declared.line_fault.LineFault.TheVariants as faults
 use Rattle.md_rollback.specs.Rolls.{CompletesWith}
@@ -30,15 +32,11 @@ pub obeys_one : (window : ℕ) (old : Script) (asked : Line) (one two : Script) 
 obeys_one window old (Press player frame buttons) one two first second = first.3 ∙ sym second.3
 obeys_one window old Advance one two first second = first.4 ∙ sym second.4
 
--- where all lines are obeyed, so is the one after the first ones
-obeyed_line : (window : ℕ) (before : List (List ℕ)) (line : List ℕ) (after : List (List ℕ)) (old mid new : Script) → ObeysAll window (before ++ line ∷ after) old new → ObeysAll window before old mid
-    → (asked : Line) × (next : Script) × (line_of line ≡ Some asked) × Obeys window mid asked next
-unfolding ObeysAll
-obeyed_line window [] line after old mid new all first = (all.0, all.1, all.2, subst (λ (s : Script). Obeys window s all.0 all.1) (sym first) all.3)
-obeyed_line window (other ∷ before) line after old mid new all first =
-    let asked : all.0 ≡ first.0 = some_same all.0 first.0 (sym all.2 ∙ first.2) in
-    let same : all.1 ≡ first.1 = obeys_one window old first.0 all.1 first.1 (subst (λ (l : Line). Obeys window old l all.1) asked all.3) first.3 in
-    obeyed_line window before line after first.1 mid new (subst (λ (s : Script). ObeysAll window (before ++ line ∷ after) s new) same all.4) first.4
+-- the scripts after a line that both obey
+pub one_after : (window : ℕ) (line : List ℕ) (a b x y : Script) → a ≡ b → ObeysLine window line a x → ObeysLine window line b y → x ≡ y
+one_after window line a b x y same (asked, is, first) (other, is2, second) =
+    obeys_one window b asked x y (subst (λ (s : Script). Obeys window s asked x) same first)
+    (subst (λ (l : Line). Obeys window b l y) (some_same other asked (sym is2 ∙ is)) second)
 
 -- no line is both refused and obeyed
 pub not_both : (window : ℕ) (script next : Script) (line : List ℕ) (fault : LineFault) (asked : Line) → IsRefused window script line fault → line_of line ≡ Some asked → Obeys window script asked next → ⊥
@@ -60,13 +58,12 @@ not_both window script next line faults.Ended asked (observable, ended) is obeye
     let done = subst (λ (l : Line). Obeys window script l next) (some_same asked Advance (sym is ∙ observable)) obeyed in
     omega (arith, ended, done.2)
 
+pub never : (window : ℕ) (line : List ℕ) (a b x : Script) (fault : LineFault) → a ≡ b → ObeysLine window line a x → RefusesFor window fault b line → ⊥
+never window line a b x fault same (asked, is, obeyed) refused =
+    not_both window b x line fault asked refused is (subst (λ (s : Script). Obeys window s asked x) same obeyed)
+
 pub done_or_refused : (cart : List ℕ) (window : ℕ) (text : List ℕ) (rolled : Rolled) (line : ℕ) (fault : LineFault)
     → CompletesWith cart window text (Done rolled) → CompletesWith cart window text (Refused line fault) → ⊥
 done_or_refused cart window text rolled line fault done refused =
-    let script = refused.0 in
-    let before = refused.1.0 in
-    let at = refused.1.1 in
-    let first = refused.1.3 in
-    let all = subst (λ (l : List (List ℕ)). ObeysAll window l begun done.0) first.parts done.1 in
-    let obeyed = obeyed_line window before at refused.1.2 begun script done.0 all first.obeyed in
-    not_both window script obeyed.1 at fault obeyed.0 refused.1.5 obeyed.2 obeyed.3
+    none_refused (ObeysLine window) (RefusesFor window) (λ a b. a ≡ b) (one_after window) (never window)
+    (lines_of text) begun begun done.0 refused.0 line fault refl done.1 refused.1

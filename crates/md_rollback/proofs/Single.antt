@@ -1,5 +1,5 @@
 -- A script has one outcome alone, where memory suffices.
-use Rattle.std.proofs.Common.{◌≡◌, ◌≢◌, ◌∙◌, refl, sym, ap, ap₂, subst, false, ℕ, suc, ◌*◌, ◌<◌, ◌≤◌, ◌⊎◌, inl, inr, List, [], ◌∷◌, ◌++◌, length, Option, Some, None, add-one, arith}
+use Rattle.std.proofs.Common.{◌≡◌, ◌≢◌, ◌∙◌, refl, sym, ap, ap₂, subst, false, ℕ, ◌*◌, ◌<◌, ◌≤◌, List, length, Option, Some, None, arith}
 use Rattle.std.proofs.lemmas.List.{get_or_past, length-set}
 use Rattle.sha2.specs.Sha256.{sha256}
 use Rattle.md_word.specs.Clock.{frame}
@@ -9,21 +9,21 @@ use Rattle.md_machine.specs.Console.{Console, IsRunTo, power_on}
 use Rattle.md_machine.specs.Media.{Media}
 use Rattle.save_state.specs.States.{state_bytes}
 use Rattle.text_lines.specs.Lines.{lines_of}
+use Rattle.debug_text.proofs.Scripts.{alike_after, one_refused}
 use Rattle.md_rollback.specs.Inputs.{IsConfirmed, given, most_frames}
 use Rattle.md_rollback.proofs.Expected.{no-words-known}
-use Rattle.md_rollback.specs.Lines.{line_of}
 use Rattle.md_rollback.specs.declared.line.Line.{Line}
 use Rattle.md_rollback.specs.declared.line.Line.TheVariants.{Advance, Press}
 use Rattle.md_rollback.specs.declared.line.Player.{Player}
 use Rattle.md_rollback.specs.declared.line.Player.TheVariants.{Local, Remote}
-use Rattle.md_rollback.specs.Scripts.{IsRefused, Obeys, ObeysAll, Script, begun, words_of}
+use Rattle.md_rollback.specs.Scripts.{IsRefused, Obeys, ObeysLine, RefusesFor, Script, begun, words_of}
 use Rattle.md_rollback.specs.declared.line_fault.LineFault.{LineFault}
 use Rattle.md_rollback.specs.declared.line_fault.LineFault.TheVariants as faults
 use Rattle.md_rollback.specs.Rolls.{CompletesWith, IsDigestOf}
 use Rattle.md_rollback.specs.declared.rolled.Completion.{Completion}
 use Rattle.md_rollback.specs.declared.rolled.Completion.TheVariants.{Done, NoMemory, Refused}
 use Rattle.md_rollback.specs.declared.rolled.Rolled.{Rolled}
-use Rattle.md_rollback.proofs.Outcomes.{done_or_refused, not_both, obeys_one, one_confirmed, some_same}
+use Rattle.md_rollback.proofs.Outcomes.{done_or_refused, never, one_after, one_confirmed}
 
 -- there is a place for each player's word of each frame
 record HasPlaces (script : Script) : Type 0 where
@@ -109,55 +109,30 @@ one_fault window script line faults.Ended faults.Buttons places (observable, las
 one_fault window script line faults.Ended faults.Waiting places (observable, last) (confirmed2, observable2, more2, known2, late2) = absurd (more2 last)
 one_fault window script line faults.Ended faults.Ended places first second = refl
 
--- ---- one line is the first that is refused
+-- ---- scripts that are one, and have their places
 
--- a line of a number is the first that is refused
-RefusesAt : ℕ → List (List ℕ) → Script → ℕ → LineFault → Type 0
-RefusesAt window [] old number fault = ⊥
-RefusesAt window (line ∷ lines) old number fault =
-    (IsRefused window old line fault × (number ≡ 1))
-    ⊎ ((asked : Line) × (mid : Script) × (n : ℕ) × (line_of line ≡ Some asked) × Obeys window old asked mid × RefusesAt window lines mid n fault × (number ≡ suc n))
+record AreOne (a b : Script) : Type 0 where
+  places : HasPlaces a
+  same : a ≡ b
 
-refuses_at : (window : ℕ) (before after : List (List ℕ)) (line : List ℕ) (old new : Script) (fault : LineFault)
-    → ObeysAll window before old new → IsRefused window new line fault → RefusesAt window (before ++ line ∷ after) old (suc (length before)) fault
-unfolding ObeysAll RefusesAt
-refuses_at window [] after line old new fault so_far refused = inl (subst (λ (s : Script). IsRefused window s line fault) so_far refused, refl)
-refuses_at window (first ∷ before) after line old new fault so_far refused =
-    inr (so_far.0, so_far.1, suc (length before), so_far.2, so_far.3, refuses_at window before after line so_far.1 new fault so_far.4 refused, refl)
+first-one : AreOne begun begun
+first-one = record { places = first-places; same = refl }
 
--- the scripts after a line that both obey
-one_after : (window : ℕ) (line : List ℕ) (old one two : Script) (asked other : Line) → line_of line ≡ Some asked → line_of line ≡ Some other
-    → Obeys window old asked one → Obeys window old other two → one ≡ two
-one_after window line old one two asked other is is2 first second =
-    obeys_one window old asked one two first (subst (λ (l : Line). Obeys window old l two) (some_same other asked (sym is2 ∙ is)) second)
+turned : (a b : Script) → AreOne a b → AreOne b a
+turned a b one = record { places = subst HasPlaces one.same one.places; same = sym one.same }
 
-one_refused : (window : ℕ) (lines : List (List ℕ)) (old : Script) (n m : ℕ) (fault other : LineFault) → HasPlaces old
-    → RefusesAt window lines old n fault → RefusesAt window lines old m other → (n ≡ m) × (fault ≡ other)
-unfolding RefusesAt
-one_refused window [] old n m fault other places one two = absurd one
-one_refused window (line ∷ lines) old n m fault other places (inl one) (inl two) = (one.1 ∙ sym two.1, one_fault window old line fault other places one.0 two.0)
-one_refused window (line ∷ lines) old n m fault other places (inl one) (inr two) = absurd (not_both window old two.1 line fault two.0 one.0 two.3 two.4)
-one_refused window (line ∷ lines) old n m fault other places (inr one) (inl two) = absurd (not_both window old one.1 line other one.0 two.0 one.3 one.4)
-one_refused window (line ∷ lines) old n m fault other places (inr one) (inr two) =
-    let same : two.1 ≡ one.1 = one_after window line old two.1 one.1 two.0 one.0 two.3 one.3 two.4 one.4 in
-    let rest = one_refused window lines one.1 one.2 two.2 fault other (obeyed-places window old one.1 one.0 places one.4) one.5
-    (subst (λ (s : Script). RefusesAt window lines s two.2 other) same two.5) in
-    (one.6 ∙ ap suc rest.0 ∙ sym two.6, rest.1)
+follows : (window : ℕ) (line : List ℕ) (a b x y : Script) → AreOne a b → ObeysLine window line a x → ObeysLine window line b y → AreOne x y
+follows window line a b x y one first second = record {
+  places = obeyed-places window a x first.0 one.places first.2;
+  same = one_after window line a b x y one.same first second;
+}
 
-one_obeyed : (window : ℕ) (lines : List (List ℕ)) (old one two : Script) → ObeysAll window lines old one → ObeysAll window lines old two → one ≡ two
-unfolding ObeysAll
-one_obeyed window [] old one two first second = first ∙ sym second
-one_obeyed window (line ∷ lines) old one two first second =
-    let same : second.1 ≡ first.1 = one_after window line old second.1 first.1 second.0 first.0 second.2 first.2 second.3 first.3 in
-    one_obeyed window lines first.1 one two first.4 (subst (λ (s : Script). ObeysAll window lines s two) same second.4)
+never_one : (window : ℕ) (line : List ℕ) (a b x : Script) (fault : LineFault) → AreOne a b → ObeysLine window line a x → RefusesFor window fault b line → ⊥
+never_one window line a b x fault one = never window line a b x fault one.same
 
-refused_in : (cart : List ℕ) (window : ℕ) (text : List ℕ) (line : ℕ) (fault : LineFault) → CompletesWith cart window text (Refused line fault)
-    → RefusesAt window (lines_of text) begun line fault
-refused_in cart window text number fault (script, (before, line, after, first, at, refused)) =
-    let here = refuses_at window before after line begun script fault first.obeyed refused in
-    let there : RefusesAt window (lines_of text) begun (suc (length before)) fault =
-    subst (λ (l : List (List ℕ)). RefusesAt window l begun (suc (length before)) fault) (sym first.parts) here in
-    subst (λ (n : ℕ). RefusesAt window (lines_of text) begun n fault) (sym (add-one (length before)) ∙ sym at) there
+same_fault : (window : ℕ) (line : List ℕ) (a b : Script) (fault other : LineFault) → AreOne a b → RefusesFor window fault a line → RefusesFor window other b line → fault ≡ other
+same_fault window line a b fault other one first second =
+    one_fault window a line fault other one.places first (subst (λ (s : Script). IsRefused window s line other) (sym one.same) second)
 
 -- ---- one digest
 
@@ -173,7 +148,7 @@ one_digest cart script first second runs one two =
 
 one_done : (cart : List ℕ) (window : ℕ) (text : List ℕ) (first second : Rolled) → RunsAreOne → CompletesWith cart window text (Done first) → CompletesWith cart window text (Done second) → first ≡ second
 one_done cart window text first second runs (script, all, frames, confirmed, digest) (script2, all2, frames2, confirmed2, digest2) =
-    let same : script2 ≡ script = one_obeyed window (lines_of text) begun script2 script all2 all in
+    let same : script2 ≡ script = (alike_after (ObeysLine window) (RefusesFor window) AreOne (follows window) (never_one window) (lines_of text) begun begun script2 script first-one all2 all).same in
     let made : first.frames ≡ second.frames = frames ∙ ap (λ (s : Script). s.frames) (sym same) ∙ sym frames2 in
     let known : first.confirmed ≡ second.confirmed =
     one_confirmed script.local script.remote first.confirmed second.confirmed confirmed (subst (λ (s : Script). IsConfirmed s.local s.remote second.confirmed) same confirmed2) in
@@ -186,7 +161,8 @@ one_outcome runs cart window text (Done first) (Done second) one two there there
 one_outcome runs cart window text (Done first) (Refused line fault) one two there there2 = absurd (done_or_refused cart window text first line fault one two)
 one_outcome runs cart window text (Refused line fault) (Done second) one two there there2 = absurd (done_or_refused cart window text second line fault two one)
 one_outcome runs cart window text (Refused line fault) (Refused line2 fault2) one two there there2 =
-    let same = one_refused window (lines_of text) begun line line2 fault fault2 first-places (refused_in cart window text line fault one) (refused_in cart window text line2 fault2 two) in
-    ap₂ Refused same.0 same.1
+    let same = one_refused (ObeysLine window) (RefusesFor window) AreOne (follows window) (never_one window) turned (same_fault window)
+    (lines_of text) begun begun one.0 two.0 line line2 fault fault2 first-one one.1 two.1 in
+    ap₂ Refused same.1.0 same.1.1
 one_outcome runs cart window text NoMemory second one two there there2 = absurd (there refl)
 one_outcome runs cart window text first NoMemory one two there there2 = absurd (there2 refl)

@@ -1,5 +1,6 @@
 -- The outcome of a session's script. This project's profile.
-use Rattle.std.specs.Prelude.{◌≡◌, ◌≢◌, ℕ, ◌+◌, ◌<◌, ◌≤◌, ◌^◌, List, [], ◌∷◌, ◌++◌, length, slice_set, Option, Some, None}
+use Rattle.std.specs.Prelude.{◌≡◌, ◌≢◌, ℕ, ◌+◌, ◌<◌, ◌≤◌, ◌^◌, List, [], slice_set, Option, Some, None}
+use Rattle.debug_text.specs.Scripts.{ObeysAll, ObeysSome, RefusesLine}
 use Rattle.md_pads.specs.Recording.{Frame}
 use Rattle.md_rollback.specs.Inputs.{IsConfirmed, Words, expected_frames, given, most_frames, no_words}
 use Rattle.md_rollback.specs.declared.input_fault.InputFault.{InputFault}
@@ -82,21 +83,17 @@ abbrev pub session_outcome_at : ℕ → Option LineFault → SessionOutcome
 session_outcome_at number (Some fault) = Refused number fault
 session_outcome_at number None = OutOfMemory
 
--- all lines were obeyed, one after another
-unfoldable pub ObeysAll : ℕ → List (List ℕ) → Script → Script → Type 0
-ObeysAll window [] old new = new ≡ old
-ObeysAll window (line ∷ lines) old new = (asked : Line) × (mid : Script) × (line_of line ≡ Some asked) × Obeys window old asked mid × ObeysAll window lines mid new
+-- a line was obeyed
+abbrev pub ObeysLine : ℕ → List ℕ → Script → Script → Type 0
+ObeysLine window line old new = (asked : Line) × (line_of line ≡ Some asked) × Obeys window old asked new
 
--- the first lines were obeyed
-pub record ObeysFirst (window : ℕ) (lines before after : List (List ℕ)) (old new : Script) : Type 0 where
-  pub parts : lines ≡ before ++ after
-  pub obeyed : ObeysAll window before old new
+-- a line is refused
+abbrev pub RefusesFor : ℕ → LineFault → Script → List ℕ → Type 0
+RefusesFor window fault script line = IsRefused window script line fault
 
 -- how a script ends: each line was obeyed; or the line of a number, from 1 on, is the first that is refused, and
 -- those before it were obeyed; or memory ran out after lines that were obeyed
 abbrev pub Plays : ℕ → List (List ℕ) → Script → Script → SessionOutcome → Type 0
-Plays window lines old new Obeyed = ObeysAll window lines old new
-Plays window lines old new (Refused number fault) =
-    (before : List (List ℕ)) × (line : List ℕ) × (after : List (List ℕ)) × ObeysFirst window lines before (line ∷ after) old new
-    × (number ≡ length before + 1) × IsRefused window new line fault
-Plays window lines old new OutOfMemory = (before : List (List ℕ)) × (after : List (List ℕ)) × ObeysFirst window lines before after old new
+Plays window lines old new Obeyed = ObeysAll (ObeysLine window) lines old new
+Plays window lines old new (Refused number fault) = RefusesLine (ObeysLine window) (RefusesFor window fault) lines old new number
+Plays window lines old new OutOfMemory = ObeysSome (ObeysLine window) lines old new

@@ -1,8 +1,12 @@
-ghost use Rattle.std.specs.Prelude.{◌≡◌, ◌≤◌, ◌<◌, ◌∷◌, ℕ, [], drop, length, take, vec_capacity, IfOk};
+ghost use Rattle.std.specs.Prelude.{◌≡◌, ◌≤◌, ◌<◌, ◌-◌, ◌∷◌, ℕ, All, [], drop, length, take, vec_capacity, IfOk};
 ghost use Rattle.std.specs.VecDeque.{deque_capacity};
+ghost use Rattle.md_word.specs.Clock.{last_cycle};
+ghost use Rattle.save_state.specs.States.{settled_console};
 ghost use Rattle.md_rollback.specs.Images.{AreSlots, image_at};
 
+use md_machine::Machine;
 use md_word::NoMemory;
+use state_laws::Replays;
 use std::alloc::Global;
 use std::collections::VecDeque;
 use std::marker::Model;
@@ -16,19 +20,24 @@ struct Slot {
 }
 
 /// The newest images, each in a list of its own with room for so many bytes, with the number of frames after which it
-/// was kept. Contracts see them newest first.
+/// was kept. The next one is made in lists that are there already, so that none takes memory. Contracts see the images,
+/// newest first.
 #[derive(Drop)]
 pub struct KeptImages {
     /// The lists of the images, and after them those that keep none: as many as images are kept at most.
     slots: VecDeque<Slot>,
     /// How many images there are.
     count: usize,
+    /// The list in which the next image is made.
+    next: Vec<u8>,
+    /// Room for an image, which is used while one is made.
+    apart: Vec<u8>,
     /// How many bytes an image has at most.
     size: usize,
 }
 
 impl Model for KeptImages {
-    ghost use Rattle.std.specs.Prelude.{length, map, take};
+    ghost use Rattle.std.specs.Prelude.{◌≤◌, length, map, take, vec_capacity};
     ghost use Rattle.std.specs.VecDeque.{deque_capacity};
     ghost use Rattle.md_rollback.specs.Images.{AreSlots, Kept, image_of};
 
@@ -36,7 +45,8 @@ impl Model for KeptImages {
 
     ghost view = { λ k. record { most = length k.slots.items; size = k.size; images = map image_of (take k.count k.slots.items) } };
 
-    ghost invariant = { λ k. AreSlots k.slots.items (deque_capacity k.slots) k.count k.size };
+    ghost invariant = { λ k. AreSlots k.slots.items (deque_capacity k.slots) k.count k.size
+        × (k.size ≤ vec_capacity k.next) × (k.size ≤ vec_capacity k.apart) };
 }
 
 /// So many empty lists, each with room for an image. It fails only when memory runs out.
@@ -53,6 +63,22 @@ fn slots_of(alloc: Global, most: usize, size: usize) -> Result<VecDeque<Slot>, N
     Ok(slots)
 }
 
+/// Puts an image in front of the others, in its list, after so many frames. The last list comes in place of the
+/// image's.
+fn put_front(slots: &mut VecDeque<Slot>, frames: usize, image: &mut Vec<u8>)
+    requires some { 1 ≤ length slots.old.items }
+    requires placed { length slots.old.items ≤ deque_capacity slots.old }
+    ensures slots { slots.new.items ≡ record { frames = frames; bytes = image.old } ∷ take (length slots.old.items - 1) slots.old.items }
+    ensures places { deque_capacity slots.old ≤ deque_capacity slots.new }
+    ensures room { (size : ℕ) → All (λ slot. size ≤ vec_capacity slot.bytes) slots.old.items → size ≤ vec_capacity image.new }
+{
+    if let Some(slot) = slots.pop_back() {
+        let mut bytes = slot.bytes;
+        swap(&mut bytes, image);
+        slots.push_front_reserved(Slot { frames, bytes });
+    }
+}
+
 impl KeptImages {
     /// No images. All memory that they ever need is taken here. It fails only when memory runs out.
     pub fn make(alloc: Global, most: u32, size: usize) -> Result<KeptImages, NoMemory>
@@ -65,6 +91,8 @@ impl KeptImages {
         Ok(KeptImages {
             slots,
             count: 0,
+            next: Vec::with_capacity(alloc, size)?,
+            apart: Vec::with_capacity(alloc, size)?,
             size,
         })
     }
@@ -76,12 +104,22 @@ impl KeptImages {
         ensures kept { self.new ≡ record self.old { images = take self.old.most (record { frames = frames; bytes = image.old.items } ∷ self.old.images) } }
         ensures room { self.old.size ≤ vec_capacity image.new }
     {
-        if let Some(slot) = self.slots.pop_back() {
-            let mut bytes = slot.bytes;
-            swap(&mut bytes, image);
-            self.slots.push_front_reserved(Slot { frames, bytes });
-            self.count = (self.count + 1).min(self.slots.len());
-        }
+        put_front(&mut self.slots, frames, image);
+        self.count = (self.count + 1).min(self.slots.len());
+    }
+
+    /// Keeps the image of a machine after so many frames. The oldest one goes where there were as many as are kept.
+    pub(crate) fn keep<R: Replays>(&mut self, replays: &R, machine: &Machine, frames: usize)
+        requires cart { machine.now.console.cart ≡ R.cart replays.now }
+        requires cycle { machine.now.at ≤ last_cycle }
+        requires size { self.old.size ≡ R.size replays.now }
+        ensures kept { self.new ≡ record self.old { images = take self.old.most (record { frames = frames; bytes = R.spelling replays.now machine.now.at (settled_console machine.now.at machine.now.console) } ∷ self.old.images) } }
+        ensures own { R.is_ready replays.now machine.now.at machine.now.console → R.is_own replays.now machine.now.at (settled_console machine.now.at machine.now.console) }
+    {
+        self.next.clear();
+        replays.spell(machine, &mut self.apart, &mut self.next);
+        put_front(&mut self.slots, frames, &mut self.next);
+        self.count = (self.count + 1).min(self.slots.len());
     }
 
     /// How many images were kept after more than so many frames.

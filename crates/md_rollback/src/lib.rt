@@ -4,7 +4,6 @@
 
 mod fault;
 mod frames;
-mod images;
 mod input_fault;
 pub mod input_laws;
 mod inputs;

@@ -8,7 +8,7 @@ ghost use Rattle.md_rollback.specs.Inputs.{most_frames};
 ghost use Rattle.md_rollback.specs.Images.{AreImagesBelow, ReachBackTo, image_at};
 ghost use Rattle.md_rollback.specs.Played.{AreMade, IsImageOf, IsPlayed, IsPlayedAlike, KeepsReached};
 
-use crate::images::Images;
+use crate::KeptImages;
 use crate::recording::shared_recording;
 use machine_laws::{processors, saved};
 use md_machine::{Machine, laws};
@@ -83,7 +83,7 @@ fn stand_at<R: Replays>(
     replays: &R,
     machine: &mut Machine,
     here: bool,
-    images: &Images,
+    images: &KeptImages,
     newer: usize,
     recording: Arc<Recording>,
     right: usize,
@@ -126,7 +126,7 @@ fn play_next<R: Replays>(
     machine: &mut Machine,
     frame: usize,
     kept: bool,
-    images: &mut Images,
+    images: &mut KeptImages,
 )
     requires keeps { KeepsReached (R.cart replays.now) (R.is_ready replays.now) }
     requires played { IsPlayed (R.cart replays.now) machine.old.console.shared.recording.frames frame machine.old }
@@ -151,7 +151,7 @@ pub(crate) fn play<R: Replays>(
     from: usize,
     right: usize,
     to: usize,
-    images: &mut Images,
+    images: &mut KeptImages,
 )
     requires keeps { KeepsReached (R.cart replays.now) (R.is_ready replays.now) }
     requires played { IsPlayed (R.cart replays.now) machine.old.console.shared.recording.frames from machine.old }
@@ -178,7 +178,7 @@ pub(crate) fn remake<R: Replays>(
     alloc: Global,
     replays: &R,
     machine: &mut Machine,
-    images: &mut Images,
+    images: &mut KeptImages,
     newer: usize,
     expected: &[(u16, u16)],
     right: usize,

@@ -12,7 +12,7 @@ ghost use Rattle.md_rollback.specs.Scripts as scripts;
 use crate::line_fault::LineFault;
 use crate::{AdvanceFault, InputFault, Line, Player, Session, read_line};
 use state_laws::Replays;
-use text_lines::first_line;
+use text_lines::NumberedLines;
 
 /// The outcome of a script.
 #[derive(Clone, Copy)]
@@ -30,14 +30,11 @@ pub fn play<R: Replays>(session: &mut Session<R>, script: &[u8]) -> SessionOutco
     ensures { (cart : List ℕ) (old : Script) → Follows cart session.old old
         → (new : Script) × Plays session.old.window (lines_of script.now) old new result × Follows cart session.new new }
 {
-    let mut number = 0;
-    let mut rest = script;
-    while !rest.is_empty() {
-        let (line, after) = first_line(rest);
-        number += 1;
+    let mut lines = NumberedLines::of(script);
+    while let Some(line) = lines.next() {
         match obey(session, line) {
-            Ok(()) => rest = after,
-            Err(fault) => return session_outcome_of(number, fault),
+            Ok(()) => {}
+            Err(fault) => return session_outcome_of(lines.number, fault),
         }
     }
     SessionOutcome::Obeyed

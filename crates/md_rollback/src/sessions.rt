@@ -9,7 +9,6 @@ ghost use Rattle.md_rollback.specs.Played.{IsMachineOf, KeepsReached};
 
 use crate::fault::AdvanceFault;
 use crate::frames::same_frames;
-use crate::images::Images;
 use crate::replaying::remake;
 use crate::{InputFault, Inputs, KeptImages, MOST_FRAMES};
 use machine_laws::saved;
@@ -29,7 +28,7 @@ pub struct Session<R: Replays> {
     inputs: Inputs,
     /// The words with which the frames were made.
     played: Vec<(u16, u16)>,
-    images: Images,
+    images: KeptImages,
     machine: Machine,
     window: usize,
 }
@@ -65,7 +64,7 @@ impl<R: Replays> Session<R> {
     {
         saved::power_on_is_reached(machine.cart());
         let inputs = Inputs::make(alloc)?;
-        let mut images = Images::make(alloc, window + 1, replays.image_size())?;
+        let mut images = KeptImages::make(alloc, window + 1, replays.image_size())?;
         images.keep(&replays, &machine, 0);
         Ok(Session {
             alloc,
@@ -180,6 +179,6 @@ impl<R: Replays> Session<R> {
         ensures near { (f : ℕ) → f ≤ self.now.frames → self.now.frames ≤ f + self.now.window → ReachBackTo f result.now.images }
         ensures most { result.now.most ≡ self.now.window + 1 }
     {
-        self.images.kept()
+        &self.images
     }
 }

@@ -5,6 +5,7 @@ ghost use Rattle.text_lines.specs.Lines.{lines_of};
 use crate::lines::first_line;
 
 /// The lines of a text that are left, and how many were taken.
+#[derive(Drop)]
 pub struct NumberedLines<'a> {
     /// What follows the lines that were taken.
     pub rest: &'a [u8],

@@ -12,9 +12,9 @@ returns c =
     let n : ℕ = c.args.count in
     let few : n ≤ k.count = omega (arith, c.requires, ap (λ (v : Kept). length v.images) c.self.view_is, few-kept image_of k.count k.slots.items) in
     let is = c.rotate_left.ensures.items in
-    subst (λ (v : Kept). the_view (record { slots = c.rotate_left.new.self; count = k.count - n; size = k.size }) ≡ record v { images = drop n v.images }) c.self.view_is
+    subst (λ (v : Kept). the_view (record k { slots = c.rotate_left.new.self; count = k.count - n }) ≡ record v { images = drop n v.images }) c.self.view_is
     (λ i. record {
       most = (ap length is ∙ turned-long n k.slots.items) i;
       size = k.size;
-      images = (ap (λ (ls : List Slot). map image_of (take (k.count - n) ls)) is ∙ dropped image_of k.count n k.slots.items few c.self.invariant.within) i;
+      images = (ap (λ (ls : List Slot). map image_of (take (k.count - n) ls)) is ∙ dropped image_of k.count n k.slots.items few c.self.invariant.0.within) i;
     })

@@ -26,9 +26,9 @@ invariant_of-result g c =
     let none = c.in_ok-images.ensures in
     let only : c.keep.new.self.images ≡ record { frames = 0; bytes = bytes } ∷ [] =
     ap (λ (k : Kept). k.images) c.keep.ensures.kept
-    ∙ one-pushed c.in_ok-images.images.most c.args.window (record { frames = 0; bytes = bytes }) c.in_ok-images.images.images (ap (λ (k : Kept). k.most) none) (ap (λ (k : Kept). k.images) none) in (
+    ∙ one-pushed c.in_ok-images.images.most c.args.window (record { frames = 0; bytes = bytes }) c.in_ok-images.images.images none.most none.images in (
       subst (λ (p : List Frame). IsSession cart spelling is_ready is_own c.args.window c.in_ok-inputs.inputs p c.keep.new.self.images c.args.machine) (sym c.new.ensures.items)
           (first-session cart spelling is_ready is_own c.args.window c.in_ok-inputs.inputs c.keep.new.self.images bytes c.args.machine c.requires.some c.requires.most c.requires.keeps played image only),
-      ap (λ (k : Kept). k.most) (c.keep.ensures.kept) ∙ ap (λ (k : Kept). k.most) none,
-      ap (λ (k : Kept). k.size) (c.keep.ensures.kept) ∙ ap (λ (k : Kept). k.size) none ∙ c.image_size.ensures,
+      ap (λ (k : Kept). k.most) (c.keep.ensures.kept) ∙ none.most,
+      ap (λ (k : Kept). k.size) (c.keep.ensures.kept) ∙ none.size ∙ c.image_size.ensures,
     )
