@@ -1,7 +1,7 @@
 -- The levels of a run from power-on are those of the sound generator over the writes of its journal.
 use Rattle.std.proofs.Common.{◌≡◌, ℕ, zero, suc, ◌+◌, ◌*◌, ◌<◌, ◌≤◌, cond, Bool, true, false, not, List, [], ◌∷◌, ◌++◌, length, refl, sym, ap, ◌∙◌, subst, arith}
 use Rattle.std.specs.Prelude.{ℤ, is_some}
-use Rattle.md_machine.proofs.Counts.{fm-goes-on, psg-goes-on}
+use Rattle.md_chips.proofs.Counts.{fm-goes-on, psg-goes-on}
 use Rattle.fm_chip.specs.Batches as fm_batches
 use Rattle.fm_chip.specs.History as fm
 use Rattle.fm_port.specs.Port as fm_ports
@@ -31,13 +31,13 @@ use Rattle.bus_shared.proofs.Touches.{left_by_line}
 use Rattle.bus_shared.specs.Accesses.{line_board, main_reported, psg_board}
 use Rattle.bus_shared.specs.Fm.{fm_board}
 use Rattle.bus_shared.specs.Board.{Board}
-use Rattle.md_machine.specs.Console as consoles
-use Rattle.md_machine.specs.Console.{AllBelow, Console, IsRunTo, first_of, fm_moved, journal, line_moved, main_moved, media_after, moved, mover, power_on, psg_moved, ran, rendered, sub_moved}
-use Rattle.md_machine.specs.Media.{Media, no_media}
-use Rattle.md_machine.specs.Movers.{mover-lt}
-use Rattle.md_machine.specs.Owners.{HasOneOwner}
-use Rattle.md_machine.specs.Starts.{IsStart, Start, batches_below, first_batch}
-use Rattle.md_machine.proofs.Moves.{five-each}
+use Rattle.md_chips.specs.Console as consoles
+use Rattle.md_chips.specs.Console.{AllBelow, Console, IsRunTo, first_of, fm_moved, journal, line_moved, main_moved, media_after, moved, mover, power_on, psg_moved, ran, rendered, sub_moved}
+use Rattle.md_chips.specs.Media.{Media, no_media}
+use Rattle.md_chips.specs.Movers.{mover-lt}
+use Rattle.md_chips.specs.Owners.{HasOneOwner}
+use Rattle.md_chips.specs.Starts.{IsStart, Start, batches_below, first_batch}
+use Rattle.md_chips.proofs.Moves.{five-each}
 use Rattle.machine_laws.specs.Heard.{HearsLevels, HearsSides}
 use Rattle.journal_sound.specs.Heard.{after, heard_of, reported, has_after, request_after}
 use Rattle.journal_sound.specs.declared.hearing.Hearing.{Hearing}

@@ -20,14 +20,14 @@ use Rattle.bus_shared.specs.Board.{Board}
 use Rattle.bus_shared.specs.Fm.{fm_board}
 use Rattle.bus_shared.specs.Spelling.{IsCounted}
 use Rattle.md_pads.specs.Pad.{Port}
-use Rattle.md_machine.specs.Console.{AllBelow, Console, IsQuiet, IsRunTo, fm_moved, key_in, line_moved, main_moved, moved, mover, power_on, psg_moved, ran, sub_accessed, sub_moved}
-use Rattle.md_machine.specs.Laws.{answer-fits}
-use Rattle.md_machine.specs.Media.{Media}
-use Rattle.md_machine.specs.Movers.{mover-lt}
-use Rattle.md_machine.specs.ValidParts.{HasValidParts}
-use Rattle.md_machine.proofs.Lifts.{Movers}
-use Rattle.md_machine.proofs.Moves.{five-each}
-use Rattle.md_machine.proofs.ValidParts.{Stages, parts_ran}
+use Rattle.md_chips.specs.Console.{AllBelow, Console, IsQuiet, IsRunTo, fm_moved, key_in, line_moved, main_moved, moved, mover, power_on, psg_moved, ran, sub_accessed, sub_moved}
+use Rattle.md_chips.specs.Laws.{answer-fits}
+use Rattle.md_chips.specs.Media.{Media}
+use Rattle.md_chips.specs.Movers.{mover-lt}
+use Rattle.md_chips.specs.ValidParts.{HasValidParts}
+use Rattle.md_chips.proofs.Lifts.{Movers}
+use Rattle.md_chips.proofs.Moves.{five-each}
+use Rattle.md_chips.proofs.ValidParts.{Stages, parts_ran}
 use Rattle.machine_laws.specs.BoardLines.{HasLines}
 
 -- what holds below an end, and also before the next event of the 68000

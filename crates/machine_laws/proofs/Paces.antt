@@ -6,17 +6,17 @@ use Rattle.md_word.specs.declared.key.Key.{Key}
 use Rattle.chip_core.specs.Machines as machines
 use Rattle.chip_core.specs.Machines.{AllBelow, IsValid, Machine, key_of, made, move, run}
 use Rattle.bus_shared.specs.Board.{Board, IsBoard}
-use Rattle.md_machine.specs.Console as consoles
-use Rattle.md_machine.specs.Console.{Console, key_in, moved, mover}
-use Rattle.md_machine.specs.Refinement.{console_of}
-use Rattle.md_machine.specs.Rules.{IsChip, five, gap}
-use Rattle.md_machine.specs.declared.chips.Chip.{Chip}
+use Rattle.md_chips.specs.Console as consoles
+use Rattle.md_chips.specs.Console.{Console, key_in, moved, mover}
+use Rattle.md_chips.specs.Refinement.{console_of}
+use Rattle.md_chips.specs.Rules.{IsChip, five, gap}
+use Rattle.md_chips.specs.declared.chips.Chip.{Chip}
 use Rattle.machine_laws.specs.Paces.{ArePaced, IsPaced}
-use Rattle.md_machine.proofs.Lifts.{Movers, ValidTo, mover-same, ran-same}
-use Rattle.md_machine.proofs.Moves.{key-same, move-same}
-use Rattle.md_machine.proofs.Segments.{below-lift}
-use Rattle.md_machine.proofs.ValidParts.{console_again, machine_in, valid_in}
-use Rattle.md_machine.specs.ValidParts.{HasValidParts}
+use Rattle.md_chips.proofs.Lifts.{Movers, ValidTo, mover-same, ran-same}
+use Rattle.md_chips.proofs.Moves.{key-same, move-same}
+use Rattle.md_chips.proofs.Segments.{below-lift}
+use Rattle.md_chips.proofs.ValidParts.{console_again, machine_in, valid_in}
+use Rattle.md_chips.specs.ValidParts.{HasValidParts}
 
 -- what is known of the runs of the five chips
 pub record Stages : Type 0 where

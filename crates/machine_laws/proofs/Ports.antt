@@ -22,9 +22,9 @@ use Rattle.bus_shared.specs.Accesses.{line_board, psg_board, sub_access, taken_b
 use Rattle.bus_shared.specs.Z80Space.{is_psg80}
 use Rattle.bus_shared.specs.Board.{Board}
 use Rattle.bus_shared.specs.Fm.{fm_board, is_fm}
-use Rattle.md_machine.specs.Console.{AllBelow, Console, fm_moved, key_in, line_moved, main_moved, moved, mover, psg_moved, ran, sub_moved}
-use Rattle.md_machine.specs.Movers.{mover-lt}
-use Rattle.md_machine.proofs.Moves.{five-each}
+use Rattle.md_chips.specs.Console.{AllBelow, Console, fm_moved, key_in, line_moved, main_moved, moved, mover, psg_moved, ran, sub_moved}
+use Rattle.md_chips.specs.Movers.{mover-lt}
+use Rattle.md_chips.proofs.Moves.{five-each}
 use Rattle.journal_sound.specs.Heard.{fm_of, psg_of, reported}
 use Rattle.journal_sound.specs.declared.hearing.Hearing.{Hearing}
 use Rattle.journal_sound.specs.declared.sound_access.SoundAccess.{SoundAccess}

@@ -53,13 +53,13 @@ use Rattle.bus_shared.specs.declared.port.VideoPort.{VideoPort}
 use Rattle.bus_shared.specs.declared.port.VideoPort.TheVariants.{Data, Control, Counter, Sound, Unused as NoPort}
 use Rattle.bus_shared.specs.declared.register.Register.{Register}
 use Rattle.bus_shared.specs.declared.register.Register.TheVariants.{Version, Data1, Data2, DataExpansion, Control1, Control2, Unused}
-use Rattle.md_machine.specs.Console.{AllBelow, Console, IsRunTo, fm_moved, key_in, line_moved, main_moved, moved, mover, power_on, psg_moved, ran, sub_accessed, sub_moved}
-use Rattle.md_machine.specs.Laws.{answer-fits, handed-board, main-low, sub-low, reported-fits}
-use Rattle.md_machine.specs.Media.{Media}
-use Rattle.md_machine.specs.Owners.{HasOneOwner}
-use Rattle.md_machine.specs.Movers.{mover-lt}
-use Rattle.md_machine.proofs.Moves.{five-each}
-use Rattle.md_machine.proofs.Owners.{Owns, is_take, move-owns}
+use Rattle.md_chips.specs.Console.{AllBelow, Console, IsRunTo, fm_moved, key_in, line_moved, main_moved, moved, mover, power_on, psg_moved, ran, sub_accessed, sub_moved}
+use Rattle.md_chips.specs.Laws.{answer-fits, handed-board, main-low, sub-low, reported-fits}
+use Rattle.md_chips.specs.Media.{Media}
+use Rattle.md_chips.specs.Owners.{HasOneOwner}
+use Rattle.md_chips.specs.Movers.{mover-lt}
+use Rattle.md_chips.proofs.Moves.{five-each}
+use Rattle.md_chips.proofs.Owners.{Owns, is_take, move-owns}
 use Rattle.machine_laws.specs.Processors.{HasProcessors, IsValid}
 
 -- ---- the count of resets

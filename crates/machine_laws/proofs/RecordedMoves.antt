@@ -15,9 +15,9 @@ use Rattle.vdp_ports.specs.Control.{level}
 use Rattle.vdp_ports.specs.Vdp.{Vdp}
 use Rattle.bus_shared.specs.Board.{Board}
 use Rattle.bus_shared.specs.Entries.{line_entry}
-use Rattle.md_machine.specs.Console.{Console, renderer_state_in, fm_moved, key_in, line_done, line_moved, main_moved, moved, psg_moved, rendered, sub_accessed, sub_moved, reported}
-use Rattle.md_machine.specs.Lines.{drawn_from, frames_of}
-use Rattle.md_machine.proofs.Moves.{five-each}
+use Rattle.md_chips.specs.Console.{Console, renderer_state_in, fm_moved, key_in, line_done, line_moved, main_moved, moved, psg_moved, rendered, sub_accessed, sub_moved, reported}
+use Rattle.md_chips.specs.Lines.{drawn_from, frames_of}
+use Rattle.md_chips.proofs.Moves.{five-each}
 use Rattle.machine_laws.specs.Recorded.{AreAlikeBelow, board_with, frame_at, with_frames}
 use Rattle.machine_laws.proofs.RecordedBoard.{IsSame, answer-is, fm-with, line-region, line-vdp, line-with, line_pal, main-with, psg-with, sub-is, reported-is}
 

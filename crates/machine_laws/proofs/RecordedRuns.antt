@@ -3,10 +3,10 @@ use Rattle.std.proofs.Common.{◌≡◌, ◌∙◌, refl, sym, ap, ap₂, subst,
 use Rattle.md_word.specs.declared.event.Entry.{Entry}
 use Rattle.md_word.specs.declared.key.Key.{Key}
 use Rattle.md_pads.specs.Recording.{Frame}
-use Rattle.md_machine.specs.Console.{AllBelow, Console, IsRunTo, journal, key_in, media_after, moved, mover, ran, rendered, reported}
-use Rattle.md_machine.specs.Media.{Media, joined}
-use Rattle.md_machine.specs.Movers.{mover-lt}
-use Rattle.md_machine.proofs.Regions.{ran_stays}
+use Rattle.md_chips.specs.Console.{AllBelow, Console, IsRunTo, journal, key_in, media_after, moved, mover, ran, rendered, reported}
+use Rattle.md_chips.specs.Media.{Media, joined}
+use Rattle.md_chips.specs.Movers.{mover-lt}
+use Rattle.md_chips.proofs.Regions.{ran_stays}
 use Rattle.machine_laws.specs.Recorded.{AreAlikeBelow, with_frames}
 use Rattle.machine_laws.proofs.RecordedMoves.{moved-with, rendered-with, reported-with}
 

@@ -3,9 +3,9 @@ use Rattle.std.proofs.Common.{◌≡◌, ◌∙◌, refl, sym, ap, ap₂, subst,
 use Rattle.md_word.specs.declared.event.Entry.{Entry}
 use Rattle.md_word.specs.declared.key.Key.{Key}
 use Rattle.bus_shared.specs.Board.{Board}
-use Rattle.md_machine.specs.Console.{Console, IsRunTo, journal, key_in, media_after, moved, mover, ran, rendered, reported}
-use Rattle.md_machine.specs.Media.{Media, joined}
-use Rattle.md_machine.specs.Movers.{mover-lt}
+use Rattle.md_chips.specs.Console.{Console, IsRunTo, journal, key_in, media_after, moved, mover, ran, rendered, reported}
+use Rattle.md_chips.specs.Media.{Media, joined}
+use Rattle.md_chips.specs.Movers.{mover-lt}
 use Rattle.save_state.specs.States.{settled_console}
 use Rattle.machine_laws.specs.Settling.{AllFrom, GoesOn}
 use Rattle.machine_laws.proofs.SettledBoard.{settled-later}

@@ -21,12 +21,12 @@ use Rattle.vdp_ports.specs.Numbers.{numbers_of}
 use Rattle.vdp_ports.specs.Saved.{vdp_fields}
 use Rattle.bus_shared.proofs.Ruled.{batch_ruled, fm_batch_ruled, line_ruled, main_ruled, sub_ruled}
 use Rattle.bus_shared.specs.Accesses.{line_board}
-use Rattle.md_machine.specs.Console.{AllBelow, Console, IsQuiet, IsRunTo, renderer_state_in, fm_moved, key_in, line_done, line_moved, main_moved, moved, mover, power_on, psg_moved, ran, sub_moved}
-use Rattle.md_machine.specs.LineLaws.{renderer_state-ok}
-use Rattle.md_machine.specs.Lines.{drawn_from}
-use Rattle.md_machine.specs.Media.{Media}
-use Rattle.md_machine.specs.Movers.{mover-lt}
-use Rattle.md_machine.proofs.Moves.{five-each}
+use Rattle.md_chips.specs.Console.{AllBelow, Console, IsQuiet, IsRunTo, renderer_state_in, fm_moved, key_in, line_done, line_moved, main_moved, moved, mover, power_on, psg_moved, ran, sub_moved}
+use Rattle.md_chips.specs.LineLaws.{renderer_state-ok}
+use Rattle.md_chips.specs.Lines.{drawn_from}
+use Rattle.md_chips.specs.Media.{Media}
+use Rattle.md_chips.specs.Movers.{mover-lt}
+use Rattle.md_chips.proofs.Moves.{five-each}
 use Rattle.machine_laws.specs.Video.{HasVideo}
 
 -- ---- the moves, chip by chip

@@ -13,10 +13,10 @@ use Rattle.fm_port.specs.PortSpelling as fm_spelling
 use Rattle.fm_port.specs.PortSpelling.{is_write, saved_write_of}
 use Rattle.fm_port.specs.declared.write.FmWrite.{FmWrite}
 use Rattle.psg_sound.specs.declared.write.PsgWrite.{PsgWrite}
-use Rattle.md_machine.specs.Console.{AllBelow, Console, IsQuiet, IsRunTo, key_in, ran}
-use Rattle.md_machine.specs.Media.{Media}
-use Rattle.md_machine.specs.Starts.{IsStart, Start, first_batch}
-use Rattle.md_machine.proofs.Counts.{fm-goes-on, psg-goes-on}
+use Rattle.md_chips.specs.Console.{AllBelow, Console, IsQuiet, IsRunTo, key_in, ran}
+use Rattle.md_chips.specs.Media.{Media}
+use Rattle.md_chips.specs.Starts.{IsStart, Start, first_batch}
+use Rattle.md_chips.proofs.Counts.{fm-goes-on, psg-goes-on}
 use Rattle.machine_laws.specs.Paces.{ArePaced}
 use Rattle.machine_laws.specs.Writes.{HasRoom, HasWrites}
 use Rattle.machine_laws.proofs.Held.{early-held, held-kept, kept-held}

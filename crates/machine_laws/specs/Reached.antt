@@ -1,8 +1,8 @@
 -- What holds of each machine that a run reaches, from power-on and from a saved state.
 use Rattle.std.specs.Prelude.{ℕ}
-use Rattle.md_machine.specs.Console.{Console}
-use Rattle.md_machine.specs.ValidParts.{HasValidParts}
-use Rattle.md_machine.specs.Starts.{IsStart}
+use Rattle.md_chips.specs.Console.{Console}
+use Rattle.md_chips.specs.ValidParts.{HasValidParts}
+use Rattle.md_chips.specs.Starts.{IsStart}
 use Rattle.machine_laws.specs.BoardLines.{HasLines}
 use Rattle.machine_laws.specs.Processors.{HasProcessors}
 use Rattle.machine_laws.specs.Timers.{HasTimers}

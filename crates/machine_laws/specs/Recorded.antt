@@ -3,7 +3,7 @@ use Rattle.std.specs.Prelude.{◌≡◌, ℕ, ◌+◌, ◌*◌, ◌<◌, Bool, L
 use Rattle.md_pads.specs.Recording.{Frame, Recorded}
 use Rattle.md_word.specs.Region.{finished_at, frame_cycles}
 use Rattle.bus_shared.specs.Board.{Board}
-use Rattle.md_machine.specs.Console.{Console}
+use Rattle.md_chips.specs.Console.{Console}
 
 -- the board with other frames in its recording, whose version stays
 abbrev pub board_with : List Frame → Board → Board

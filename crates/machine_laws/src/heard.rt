@@ -3,8 +3,8 @@
 ghost use Rattle.std.specs.Prelude.{ℕ, Bool, ◌^◌, ◌≤◌, List};
 ghost use Rattle.md_word.specs.declared.event.Entry.{Entry};
 ghost use Rattle.md_pads.specs.Recording.{Recorded};
-ghost use Rattle.md_machine.specs.Console.{Console, IsRunTo, power_on};
-ghost use Rattle.md_machine.specs.Media.{Media};
+ghost use Rattle.md_chips.specs.Console.{Console, IsRunTo, power_on};
+ghost use Rattle.md_chips.specs.Media.{Media};
 ghost use Rattle.machine_laws.specs.Heard.{HearsLevels, HearsSides};
 
 use crate::writes::events_are_paced;

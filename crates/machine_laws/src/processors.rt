@@ -7,9 +7,9 @@ ghost use Rattle.md_pads.specs.Recording.{Recorded};
 ghost use Rattle.md_word.specs.declared.event.Entry.{Entry};
 ghost use Rattle.m68k_chip.specs.Spelling as main;
 ghost use Rattle.z80_chip.specs.Spelling as sub;
-ghost use Rattle.md_machine.specs.Console.{Console, IsRunTo, power_on};
-ghost use Rattle.md_machine.specs.Media.{Media};
-ghost use Rattle.md_machine.specs.Owners.{HasOneOwner};
+ghost use Rattle.md_chips.specs.Console.{Console, IsRunTo, power_on};
+ghost use Rattle.md_chips.specs.Media.{Media};
+ghost use Rattle.md_chips.specs.Owners.{HasOneOwner};
 ghost use Rattle.machine_laws.specs.Processors.{HasProcessors, IsValid};
 
 use md_machine::Machine;

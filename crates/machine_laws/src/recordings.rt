@@ -3,8 +3,8 @@
 ghost use Rattle.std.specs.Prelude.{ℕ, List};
 ghost use Rattle.md_word.specs.declared.event.Entry.{Entry};
 ghost use Rattle.md_pads.specs.Recording.{Frame};
-ghost use Rattle.md_machine.specs.Console.{Console, IsRunTo};
-ghost use Rattle.md_machine.specs.Media.{Media};
+ghost use Rattle.md_chips.specs.Console.{Console, IsRunTo};
+ghost use Rattle.md_chips.specs.Media.{Media};
 ghost use Rattle.machine_laws.specs.Recorded.{AreAlikeBelow, with_frames};
 
 /// A run to a cycle reads of a recording only the frames whose line after the picture, 224 or on PAL 240,

@@ -4,9 +4,9 @@
 ghost use Rattle.std.specs.Prelude.{ℕ, Bool, ◌^◌, ◌≤◌, All, List};
 ghost use Rattle.md_pads.specs.Recording.{IsFrame, Recorded};
 ghost use Rattle.md_word.specs.declared.event.Entry.{Entry};
-ghost use Rattle.md_machine.specs.Console.{Console, IsRunTo, power_on};
-ghost use Rattle.md_machine.specs.Media.{Media};
-ghost use Rattle.md_machine.specs.Starts.{IsStart, Start};
+ghost use Rattle.md_chips.specs.Console.{Console, IsRunTo, power_on};
+ghost use Rattle.md_chips.specs.Media.{Media};
+ghost use Rattle.md_chips.specs.Starts.{IsStart, Start};
 ghost use Rattle.save_state.specs.Ready.{IsReady};
 ghost use Rattle.md_word.specs.Clock.{last_cycle};
 ghost use Rattle.save_state.specs.Versions.{IsState};

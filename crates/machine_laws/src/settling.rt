@@ -3,9 +3,9 @@
 
 ghost use Rattle.std.specs.Prelude.{◌≡◌, ℕ, ◌^◌, ◌<◌, ◌≤◌, List};
 ghost use Rattle.md_word.specs.declared.event.Entry.{Entry};
-ghost use Rattle.md_machine.specs.Console.{Console, IsQuiet, IsRunTo, key_in, moved, rendered, reported};
-ghost use Rattle.md_machine.specs.Media.{Media};
-ghost use Rattle.md_machine.specs.ValidParts.{HasValidParts};
+ghost use Rattle.md_chips.specs.Console.{Console, IsQuiet, IsRunTo, key_in, moved, rendered, reported};
+ghost use Rattle.md_chips.specs.Media.{Media};
+ghost use Rattle.md_chips.specs.ValidParts.{HasValidParts};
 ghost use Rattle.save_state.specs.States.{settled_console};
 ghost use Rattle.machine_laws.specs.Settling.{GoesOn};
 

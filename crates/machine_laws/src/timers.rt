@@ -5,9 +5,9 @@ ghost use Rattle.std.specs.Prelude.{ℕ, Bool, ◌≤◌, List};
 ghost use Rattle.md_word.specs.declared.event.Entry.{Entry};
 ghost use Rattle.fm_port.specs.PortSpelling as fm_port;
 ghost use Rattle.md_pads.specs.Recording.{Recorded};
-ghost use Rattle.md_machine.specs.Console.{Console, IsRunTo, power_on};
-ghost use Rattle.md_machine.specs.Media.{Media};
-ghost use Rattle.md_machine.specs.Starts.{Start};
+ghost use Rattle.md_chips.specs.Console.{Console, IsRunTo, power_on};
+ghost use Rattle.md_chips.specs.Media.{Media};
+ghost use Rattle.md_chips.specs.Starts.{Start};
 ghost use Rattle.machine_laws.specs.Timers.{HasTimers};
 
 /// At power-on both timers are stopped.

@@ -7,8 +7,8 @@ ghost use Rattle.md_word.specs.declared.event.Entry.{Entry};
 ghost use Rattle.vdp_chip.specs.Spelling as renderer_states;
 ghost use Rattle.vdp_dma.specs.Settling.{settled};
 ghost use Rattle.vdp_ports.specs.Spelling as vdps;
-ghost use Rattle.md_machine.specs.Console.{Console, IsQuiet, IsRunTo, renderer_state_in, power_on};
-ghost use Rattle.md_machine.specs.Media.{Media};
+ghost use Rattle.md_chips.specs.Console.{Console, IsQuiet, IsRunTo, renderer_state_in, power_on};
+ghost use Rattle.md_chips.specs.Media.{Media};
 ghost use Rattle.machine_laws.specs.Video.{HasVideo};
 
 /// At power-on the rules of the VDP and of its renderer hold, at each cycle.

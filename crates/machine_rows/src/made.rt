@@ -1,7 +1,7 @@
 // What machines make.
 ghost use Rattle.std.specs.Prelude.{◌*◌, ◌≤◌, length};
 ghost use Rattle.md_machine.specs.Outputs.{frame_length};
-ghost use Rattle.md_machine.specs.Regions.{most_entries, most_pairs};
+ghost use Rattle.md_chips.specs.Regions.{most_entries, most_pairs};
 
 use md_machine::Machine;
 use std::alloc::{AllocError, Global};

@@ -14,8 +14,8 @@ use Rattle.md_debug.specs.Keeping.{image_in}
 use Rattle.md_debug.specs.Sessions.{KeptAndWent, Obeys, SessionValue, WentBack, oldest_of, reply_to}
 use Rattle.md_debug.specs.declared.fault.DebugFault.{DebugFault}
 use Rattle.md_debug.specs.declared.fault.DebugFault.TheVariants as faults
-use Rattle.md_machine.specs.Machines.{MachineValue}
-use Rattle.md_machine.specs.Starts.{Start}
+use Rattle.md_chips.specs.Machines.{MachineValue}
+use Rattle.md_chips.specs.Starts.{Start}
 use Rattle.page_ring.specs.Kept.{IsPushed}
 use Rattle.md_debug.proofs.Machines.{one_pushed, one_run, one_steps}
 

@@ -5,16 +5,16 @@ use Rattle.std.proofs.lemmas.Bool.{ne_eqb}
 use Rattle.md_word.specs.Clock.{last_cycle}
 use Rattle.md_word.specs.Keys.{key_lt}
 use Rattle.md_word.specs.declared.key.Key.{Key}
-use Rattle.md_machine.specs.Movers.{mover-lt}
+use Rattle.md_chips.specs.Movers.{mover-lt}
 use Rattle.m68k_chip.specs.Cases.{begins_at, case_of}
 use Rattle.m68k_chip.specs.States.{next_of}
 use Rattle.z80_chip.specs.States.{next_of as sub_next_of}
 use Rattle.bus_shared.specs.Accesses.{level_of}
-use Rattle.md_machine.specs.Console.{AllBelow, Console, begins_in, key_in, moved, mover, ran}
-use Rattle.md_machine.specs.Rules.{gap}
-use Rattle.md_machine.specs.ValidParts.{HasValidParts}
-use Rattle.md_machine.proofs.Joined.{ran-add}
-use Rattle.md_machine.proofs.Moves.{five-each}
+use Rattle.md_chips.specs.Console.{AllBelow, Console, begins_in, key_in, moved, mover, ran}
+use Rattle.md_chips.specs.Rules.{gap}
+use Rattle.md_chips.specs.ValidParts.{HasValidParts}
+use Rattle.md_chips.proofs.Joined.{ran-add}
+use Rattle.md_chips.proofs.Moves.{five-each}
 use Rattle.machine_laws.specs.Paces.{ArePaced, IsPaced}
 use Rattle.md_debug.specs.Going.{begun_by, least_of}
 

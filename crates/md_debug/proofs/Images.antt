@@ -1,7 +1,7 @@
 -- The kept states keep machines.
 use Rattle.std.proofs.Common.{◌≡◌, ℕ, zero, suc, ◌+◌, ◌-◌, ◌<◌, ◌≤◌, List, [], ◌∷◌, length, replicate, take, drop, get_or, sym, ap, subst, ◌∙◌, arith}
 use Rattle.std.proofs.lemmas.List.{get_or-drop, get_or-take, length-drop, length-take, take_at}
-use Rattle.md_machine.specs.Machines.{MachineValue}
+use Rattle.md_chips.specs.Machines.{MachineValue}
 use Rattle.page_ring.specs.Kept.{IsPushed}
 use Rattle.md_debug.specs.Kept.{all_pages, padded, per_state, state_size}
 use Rattle.md_debug.specs.Keeping.{AreImages, image_in}

@@ -3,7 +3,7 @@ use Rattle.std.proofs.Common.{◌≡◌, ℕ, ◌<◌, ◌≤◌, List, [], ◌�
 use Rattle.std.proofs.lemmas.List.{length-drop}
 use Rattle.circular_buffer.specs.Buffer.{Buffer}
 use Rattle.md_word.specs.Clock.{last_cycle}
-use Rattle.md_machine.specs.Machines.{MachineValue}
+use Rattle.md_chips.specs.Machines.{MachineValue}
 use Rattle.page_ring.specs.Kept.{IsPushed}
 use Rattle.md_debug.specs.Kept.{KeptValue, all_pages, padded, per_state, state_size}
 use Rattle.md_debug.specs.Debuggees.{IsDebuggee}

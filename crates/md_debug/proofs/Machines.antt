@@ -1,9 +1,9 @@
 -- How a session's machine continues is one way alone, and so are the states that are kept.
 use Rattle.std.proofs.Common.{◌≡◌, ℕ, zero, suc, ◌<◌, ◌≤◌, ◌⊎◌, inl, inr, List, ◌∷◌, ◌++◌, take, refl, sym, ap, ap₂, subst, ◌∙◌, arith}
 use Rattle.std.proofs.lemmas.Bool.{cases_lt}
-use Rattle.md_machine.specs.Console.{AllBelow, Console, IsQuiet, key_in, mover, ran}
-use Rattle.md_machine.specs.Movers.{mover-lt}
-use Rattle.md_machine.specs.Starts.{Start}
+use Rattle.md_chips.specs.Console.{AllBelow, Console, IsQuiet, key_in, mover, ran}
+use Rattle.md_chips.specs.Movers.{mover-lt}
+use Rattle.md_chips.specs.Starts.{Start}
 use Rattle.page_ring.specs.Kept.{IsPushed, cost}
 use Rattle.md_debug.specs.Going.{GoesTo, RunsTo, Steps, StepsOnce, arrives, begun_by, ends, goes_on, stays}
 

@@ -1,9 +1,9 @@
 -- Where the next event of a machine is.
 use Rattle.std.proofs.Common.{◌≡◌, ℕ, ◌+◌, ◌≤◌, refl, arith}
-use Rattle.md_machine.specs.Console.{Console, key_in, mover}
-use Rattle.md_machine.specs.Starts.{IsStart, Start, first_line}
+use Rattle.md_chips.specs.Console.{Console, key_in, mover}
+use Rattle.md_chips.specs.Starts.{IsStart, Start, first_line}
 use Rattle.md_debug.specs.Going.{least_of}
-use Rattle.md_machine.specs.Movers.{mover-lt}
+use Rattle.md_chips.specs.Movers.{mover-lt}
 
 line_key : (m : Console) → (key_in m 2).cycle ≡ m.line
 unfolding key_in

@@ -13,9 +13,9 @@ use Rattle.md_debug.specs.Opened.{PlaysScript, PutsScript, StopsScript, images_w
 use Rattle.md_debug.specs.Sessions.{SessionValue}
 use Rattle.md_word.specs.Clock.{last_cycle}
 use Rattle.md_word.specs.declared.event.Entry.{Entry}
-use Rattle.md_machine.specs.Console.{Console, IsRunTo}
-use Rattle.md_machine.specs.Machines.{MachineValue}
-use Rattle.md_machine.specs.Media.{Media}
+use Rattle.md_chips.specs.Console.{Console, IsRunTo}
+use Rattle.md_chips.specs.Machines.{MachineValue}
+use Rattle.md_chips.specs.Media.{Media}
 use Rattle.md_debug.specs.Keeping.{KeepsMachines}
 use Rattle.state_laws.specs.Images.{HasImage, ImagesValue, Keeps, drained, first_of, image_of, settled_of, size_of}
 

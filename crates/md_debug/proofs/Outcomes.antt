@@ -7,7 +7,7 @@ use Rattle.md_debug.specs.declared.script.SessionOutcome.{SessionOutcome}
 use Rattle.md_debug.specs.declared.script.SessionOutcome.TheVariants.{Obeyed, OutOfMemory, Refused}
 use Rattle.md_debug.specs.Sessions.{Obeys, SessionValue, reply_to}
 use Rattle.md_debug.specs.declared.fault.DebugFault.{DebugFault}
-use Rattle.md_machine.specs.Machines.{MachineValue}
+use Rattle.md_chips.specs.Machines.{MachineValue}
 use Rattle.md_debug.proofs.Alike.{Alike, IsSpelledByStart, KeepOne, alike_self, not_refused, obeys_alike, one_fault, reply_alike, same_ok}
 
 module _ {Images : Type 0} (size : Images → ℕ) (spelling : Images → MachineValue → List ℕ) (keeps : Images → List ℕ → MachineValue → Type 0)

@@ -5,7 +5,7 @@ use Rattle.md_debug.specs.declared.script.SessionOutcome.{SessionOutcome}
 use Rattle.md_debug.specs.declared.script.SessionOutcome.TheVariants.{OutOfMemory}
 use Rattle.md_debug.specs.Opened.{PlaysScript, images_with, opened}
 use Rattle.md_debug.proofs.Outcomes.{one_outcome}
-use Rattle.md_machine.specs.Starts.{Start}
+use Rattle.md_chips.specs.Starts.{Start}
 use Rattle.state_laws.specs.Images.{Keeps, drained, image_of, size_of}
 use Rattle.state_laws.proofs.Machines.{keep_one}
 

@@ -2,18 +2,18 @@
 use Rattle.std.proofs.Common.{◌≡◌, ℕ, zero, suc, ◌+◌, ◌<◌, ◌≤◌, List, [], ◌++◌, Option, option_to_list, inl, inr, add-one, refl, sym, ap, subst, ◌∙◌, append-nil, append_assoc, arith, add-suc, add-zero}
 use Rattle.md_word.specs.Clock.{last_cycle}
 use Rattle.md_word.specs.declared.event.Entry.{Entry}
-use Rattle.md_machine.specs.Console.{AllBelow, Console, IsQuiet, IsRunTo, begins_in, journal, key_in, media_after, mover, ran}
-use Rattle.md_machine.specs.Machines.{MachineValue}
-use Rattle.md_machine.specs.Media.{Media}
-use Rattle.md_machine.specs.Starts.{Start}
+use Rattle.md_chips.specs.Console.{AllBelow, Console, IsQuiet, IsRunTo, begins_in, journal, key_in, media_after, mover, ran}
+use Rattle.md_chips.specs.Machines.{MachineValue}
+use Rattle.md_chips.specs.Media.{Media}
+use Rattle.md_chips.specs.Starts.{Start}
 use Rattle.circular_buffer.specs.Buffer.{Buffer}
-use Rattle.md_machine.proofs.Joined.{ran-add, split}
+use Rattle.md_chips.proofs.Joined.{ran-add, split}
 use Rattle.md_debug.specs.Debuggees.{IsDebuggee, WentOn}
 use Rattle.md_debug.specs.declared.debuggee.Debuggee.{Debuggee}
 use Rattle.md_debug.specs.Going.{GoesTo, RunsTo, Steps, StepsOnce, begun_by, drained, latest, least_of}
 use Rattle.md_debug.specs.Going.{goes_on, ends, arrives, stays}
 use Rattle.md_debug.specs.Keeping.{KeepsMachines}
-use Rattle.md_machine.specs.Movers.{mover-lt}
+use Rattle.md_chips.specs.Movers.{mover-lt}
 use Rattle.md_debug.proofs.Latest.{latest_more, latest_same}
 
 -- ---- runs one after another

@@ -9,7 +9,7 @@ use Rattle.md_outer.specs.Outside.{IsPrefix, PutsText, SinkState}
 use Rattle.debug_text.specs.Commands.{following, command_of, is_seven_bit, read_by, word_in, word_of}
 use Rattle.debug_text.specs.declared.command.Command.TheVariants.{Back}
 use Rattle.debug_text.specs.declared.command.Misread.TheVariants as misread
-use Rattle.md_machine.specs.Machines.{MachineValue}
+use Rattle.md_chips.specs.Machines.{MachineValue}
 use Rattle.md_debug.specs.Sessions.{SessionValue, oldest_of}
 use Rattle.md_debug.specs.declared.fault.DebugFault.{DebugFault}
 use Rattle.md_debug.specs.declared.fault.DebugFault.TheVariants.{BadNumber, NoMemory, NotKept, UnknownWord}

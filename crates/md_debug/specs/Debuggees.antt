@@ -1,7 +1,7 @@
 -- What holds of the debugger's machine between commands.
 use Rattle.std.specs.Prelude.{◌≡◌, ℕ, ◌≤◌, List, [], ◌++◌, length}
-use Rattle.md_machine.specs.Media.{no_media}
-use Rattle.md_machine.specs.Starts.{IsStart}
+use Rattle.md_chips.specs.Media.{no_media}
+use Rattle.md_chips.specs.Starts.{IsStart}
 use Rattle.md_debug.specs.Going.{GoesTo, latest, most_begun, start_of}
 use Rattle.md_debug.specs.declared.debuggee.Debuggee.{Debuggee}
 

@@ -2,10 +2,10 @@
 use Rattle.std.specs.Prelude.{◌≡◌, ℕ, zero, suc, ◌+◌, ◌<◌, ◌≤◌, List, [], ◌++◌, option_to_list}
 use Rattle.circular_buffer.specs.Buffer.{keep_last}
 use Rattle.md_word.specs.Clock.{last_cycle}
-use Rattle.md_machine.specs.Console.{AllBelow, Console, IsQuiet, begins_in, key_in, mover, ran}
-use Rattle.md_machine.specs.Machines.{MachineValue}
-use Rattle.md_machine.specs.Media.{no_media}
-use Rattle.md_machine.specs.Starts.{Start}
+use Rattle.md_chips.specs.Console.{AllBelow, Console, IsQuiet, begins_in, key_in, mover, ran}
+use Rattle.md_chips.specs.Machines.{MachineValue}
+use Rattle.md_chips.specs.Media.{no_media}
+use Rattle.md_chips.specs.Starts.{Start}
 
 -- the cycle of the next event
 abbrev pub least_of : Console → ℕ

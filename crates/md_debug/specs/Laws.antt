@@ -1,9 +1,9 @@
 -- What holds of the debugger's scripts and kept states.
 use Rattle.std.specs.Prelude.{◌≡◌, ◌≢◌, ℕ, ◌^◌, ◌≤◌, List}
 use Rattle.md_word.specs.declared.event.Entry.{Entry}
-use Rattle.md_machine.specs.Console.{Console, IsRunTo}
-use Rattle.md_machine.specs.Machines.{MachineValue}
-use Rattle.md_machine.specs.Media.{Media}
+use Rattle.md_chips.specs.Console.{Console, IsRunTo}
+use Rattle.md_chips.specs.Machines.{MachineValue}
+use Rattle.md_chips.specs.Media.{Media}
 use Rattle.machine_laws.specs.Settling.{GoesOn}
 use Rattle.md_debug.specs.declared.script.SessionOutcome.{SessionOutcome}
 use Rattle.md_debug.specs.declared.script.SessionOutcome.TheVariants.{OutOfMemory}

@@ -5,7 +5,7 @@ use Rattle.debug_text.specs.Scripts.{ObeysAll, ObeysFirst, ObeysSome, RefusesLin
 use Rattle.debug_text.specs.declared.command.Command.{Command}
 use Rattle.debug_text.specs.declared.command.Command.TheVariants.{Back}
 use Rattle.debug_text.specs.declared.command.Misread.TheVariants as misread
-use Rattle.md_machine.specs.Machines.{MachineValue}
+use Rattle.md_chips.specs.Machines.{MachineValue}
 use Rattle.md_outer.specs.Outside.{PutsText, SinkState}
 use Rattle.md_debug.specs.Sessions.{Obeys, SessionValue, oldest_of, reply_to}
 use Rattle.md_debug.specs.declared.fault.DebugFault.{DebugFault}

@@ -7,7 +7,7 @@ use Rattle.debug_text.specs.declared.command.Misread.{Misread}
 use Rattle.debug_text.specs.declared.command.Misread.TheVariants as misread
 use Rattle.debug_text.specs.Replies.{address_reply, byte_reply, cycle_reply, instruction_reply, register_reply}
 use Rattle.debug_text.specs.Report.{report_reply}
-use Rattle.md_machine.specs.Machines.{MachineValue}
+use Rattle.md_chips.specs.Machines.{MachineValue}
 use Rattle.md_word.specs.Clock.{last_cycle}
 use Rattle.page_ring.specs.Kept.{IsPushed}
 use Rattle.md_debug.specs.Going.{RunsTo, Steps, latest, least_of, start_of}

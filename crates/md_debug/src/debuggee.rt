@@ -1,9 +1,9 @@
 ghost use Rattle.std.specs.Prelude.{◌≡◌, ℕ, ◌+◌, ◌<◌, ◌≤◌, [], ◌++◌, List, option_to_list, IfOk};
 ghost use Rattle.md_word.specs.Clock.{frame, last_cycle};
 ghost use Rattle.md_word.specs.declared.event.Entry.{Entry};
-ghost use Rattle.md_machine.specs.Console.{IsRunTo};
-ghost use Rattle.md_machine.specs.Media.{Media, no_media};
-ghost use Rattle.md_machine.specs.Starts.{IsStart};
+ghost use Rattle.md_chips.specs.Console.{IsRunTo};
+ghost use Rattle.md_chips.specs.Media.{Media, no_media};
+ghost use Rattle.md_chips.specs.Starts.{IsStart};
 ghost use Rattle.md_debug.specs.Debuggees.{IsDebuggee, WentOn};
 ghost use Rattle.md_debug.specs.Going.{RunsTo, Steps, StepsOnce, latest, least_of, start_of};
 

@@ -2,9 +2,9 @@
 
 ghost use Rattle.std.specs.Prelude.{◌≡◌, ℕ, ◌+◌, ◌<◌, ◌≤◌, option_to_list};
 ghost use Rattle.md_word.specs.Clock.{last_cycle, line};
-ghost use Rattle.md_machine.specs.Console.{AllBelow, Console, begins_in};
-ghost use Rattle.md_machine.specs.Starts.{IsStart, Start};
-ghost use Rattle.md_machine.specs.ValidParts.{HasValidParts};
+ghost use Rattle.md_chips.specs.Console.{AllBelow, Console, begins_in};
+ghost use Rattle.md_chips.specs.Starts.{IsStart, Start};
+ghost use Rattle.md_chips.specs.ValidParts.{HasValidParts};
 ghost use Rattle.md_debug.specs.Going.{begun_by, least_of};
 
 use chip_core::laws;

@@ -2,9 +2,9 @@
 
 ghost use Rattle.std.specs.Prelude.{◌≡◌, ◌≢◌, ℕ, ◌^◌, ◌≤◌, List};
 ghost use Rattle.md_word.specs.declared.event.Entry.{Entry};
-ghost use Rattle.md_machine.specs.Console.{Console, IsRunTo};
-ghost use Rattle.md_machine.specs.Machines.{MachineValue};
-ghost use Rattle.md_machine.specs.Media.{Media};
+ghost use Rattle.md_chips.specs.Console.{Console, IsRunTo};
+ghost use Rattle.md_chips.specs.Machines.{MachineValue};
+ghost use Rattle.md_chips.specs.Media.{Media};
 ghost use Rattle.machine_laws.specs.Settling.{GoesOn};
 ghost use Rattle.md_debug.specs.declared.script.SessionOutcome.{SessionOutcome};
 ghost use Rattle.md_debug.specs.declared.script.SessionOutcome.TheVariants.{OutOfMemory};

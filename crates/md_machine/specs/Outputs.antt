@@ -8,7 +8,7 @@ use Rattle.md_word.specs.Region.{picture_length}
 use Rattle.md_files.specs.Wav.{pair_bytes}
 use Rattle.md_word.specs.declared.event.Entry.{Entry}
 use Rattle.md_files.specs.Ppm.{ppm_head}
-use Rattle.md_machine.specs.Media.{Media}
+use Rattle.md_chips.specs.Media.{Media}
 
 -- the pair of a sample: the sums of the FM chip, mixed with the level of the PSG
 abbrev pub sample_bytes : ℤ × ℤ → ℤ → List ℕ

@@ -1,21 +1,17 @@
 ghost use Rattle.std.specs.Prelude.{◌≡◌, ◌<◌, ◌+◌, ◌*◌, ◌≤◌, ◌++◌, [], IfSome, drop, length, option_copied, vec_len, vec_capacity};
 ghost use Rattle.md_word.specs.Region.{picture_length};
-ghost use Rattle.md_machine.specs.Refinement.{renderer_of};
-ghost use Rattle.md_machine.specs.Lines.{frames_of};
+ghost use Rattle.md_chips.specs.Lines.{frames_of};
 ghost use Rattle.md_machine.specs.Outputs.{first_sums, frame_length, frames_bytes, journal_bytes, mixed_bytes, sample_bytes, sound_bytes};
 ghost use Rattle.chip_core.specs.Cores.{CoreValue, IsCore};
 ghost use Rattle.bus_shared.specs.Board.{Board, IsBoard};
-ghost use Rattle.md_machine.specs.declared.chips.Chip.{Chip};
-ghost use Rattle.md_machine.specs.Drained as drained;
-ghost use Rattle.md_machine.specs.Drained.{with_emptied};
-ghost use Rattle.md_machine.specs.Machines.{machine_at};
-ghost use Rattle.md_machine.specs.Media.{no_media};
-ghost use Rattle.md_machine.specs.Rules.{IsChip, five};
+ghost use Rattle.md_chips.specs.declared.chips.Chip.{Chip};
+ghost use Rattle.md_chips.specs.Drained.{with_emptied};
+ghost use Rattle.md_chips.specs.Machines.{machine_at};
+ghost use Rattle.md_chips.specs.Media.{no_media};
+ghost use Rattle.md_chips.specs.Rules.{IsChip, five};
 
-use crate::chips::Chip;
 use crate::machine::Machine;
-use crate::set::MdChips;
-use chip_core::Core;
+use md_chips::{empty_chip, frame_in, levels_in, sides_in};
 use md_files::{mix, ppm_head, put_entry, put_frame, put_pair};
 use md_word::Entry;
 
@@ -177,58 +173,4 @@ fn put_pair_of(sums: (i32, i32), level: &i32, into: &mut Vec<u8>)
 {
     let (left, right) = mix(sums, *level);
     put_pair(left, right, into);
-}
-
-/// The frame that a chip keeps: another chip than the drawing half of the VDP has none.
-fn frame_in(chip: &Chip) -> Option<&[u8]>
-    ensures value { option_copied result ≡ drained.frame_of chip.now }
-    ensures size { IfSome (option_copied result) (λ picture. length picture ≡ picture_length (renderer_of chip.now).chip.pal) }
-{
-    match chip {
-        Chip::Renderer(renderer) => renderer.frame(),
-        Chip::Main(_) | Chip::Sub(_) | Chip::Fm(_) | Chip::Psg(_) => None,
-    }
-}
-
-/// The sums that a chip keeps: another chip than the FM synthesis has none.
-fn sides_in(chip: &Chip) -> &[(i32, i32)]
-    ensures { result.now ≡ drained.sides_of chip.now }
-{
-    match chip {
-        Chip::Fm(fm) => fm.samples(),
-        Chip::Main(_) | Chip::Sub(_) | Chip::Renderer(_) | Chip::Psg(_) => &[],
-    }
-}
-
-/// The levels that a chip keeps: another chip than the PSG has none.
-fn levels_in(chip: &Chip) -> &[i32]
-    ensures { result.now ≡ drained.levels_of chip.now }
-{
-    match chip {
-        Chip::Psg(psg) => psg.samples(),
-        Chip::Main(_) | Chip::Sub(_) | Chip::Renderer(_) | Chip::Fm(_) => &[],
-    }
-}
-
-/// Drops the frame or the samples that the chip of a number keeps.
-fn empty_chip(core: &mut Core<MdChips>, number: usize)
-    requires { number < 5 }
-    ensures value { core.new ≡ with_emptied core.old number }
-    ensures core { IsCore five IsChip IsBoard core.new }
-{
-    core.chips();
-    core.change(number, empty);
-    core.chips();
-}
-
-/// Drops the frame or the samples that a chip keeps.
-fn empty(chip: &mut Chip)
-    ensures { chip.new ≡ drained.emptied chip.old }
-{
-    match chip {
-        Chip::Fm(fm) => fm.drain(),
-        Chip::Psg(psg) => psg.drain(),
-        Chip::Renderer(renderer) => renderer.drop_frame(),
-        Chip::Main(_) | Chip::Sub(_) => {}
-    }
 }

@@ -5,19 +5,18 @@ ghost use Rattle.md_word.specs.Region.{frame_cycles};
 ghost use Rattle.chip_core.specs.Cores.{IsCore, machine_of};
 ghost use Rattle.chip_core.specs.Machines.{IsQuiet};
 ghost use Rattle.bus_shared.specs.Board.{IsBoard};
-ghost use Rattle.md_machine.specs.Console.{AllBelow, IsRunTo, key_in, mover};
-ghost use Rattle.md_machine.specs.Lists.{ListsEndAsRun};
-ghost use Rattle.md_machine.specs.Regions.{IsOneRegion, most_entries, most_pairs};
-ghost use Rattle.md_machine.specs.Machines.{machine_at};
-ghost use Rattle.md_machine.specs.Rules.{IsChip, five};
-ghost use Rattle.md_machine.specs.ValidParts.{HasValidParts};
-ghost use Rattle.md_machine.specs.Media.{no_media};
+ghost use Rattle.md_chips.specs.Console.{AllBelow, IsRunTo, key_in, mover};
+ghost use Rattle.md_chips.specs.Lists.{ListsEndAsRun};
+ghost use Rattle.md_chips.specs.Regions.{IsOneRegion, most_entries, most_pairs};
+ghost use Rattle.md_chips.specs.Machines.{machine_at};
+ghost use Rattle.md_chips.specs.Rules.{IsChip, five};
+ghost use Rattle.md_chips.specs.ValidParts.{HasValidParts};
+ghost use Rattle.md_chips.specs.Media.{no_media};
 
-use crate::least::least_key;
-use crate::runs::{run_alone, run_workers};
-use crate::set::MdChips;
+use crate::runs::run_workers;
 use bus_shared::Shared;
 use chip_core::{Core, laws};
+use md_chips::{MdChips, least_key, run_alone};
 use md_outer::Gate;
 use md_pads::Recording;
 use md_word::{Key, NoMemory};
@@ -52,7 +51,7 @@ pub struct Machine {
 }
 
 impl Model for Machine {
-    ghost use Rattle.md_machine.specs.Machines.{MachineValue, IsMachine, core_held, machine_at};
+    ghost use Rattle.md_chips.specs.Machines.{MachineValue, IsMachine, core_held, machine_at};
 
     ghost Value = { MachineValue };
 

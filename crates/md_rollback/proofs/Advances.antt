@@ -3,9 +3,9 @@ use Rattle.std.proofs.Common.{◌≡◌, ◌≢◌, ◌∙◌, refl, sym, ap, su
 use Rattle.std.proofs.lemmas.Bool.{cases_lt}
 use Rattle.std.proofs.lemmas.List.{take_all}
 use Rattle.md_pads.specs.Recording.{Frame, IsRecording, no_frames, recording_of}
-use Rattle.md_machine.specs.Console.{Console, journal, media_after, power_on, ran}
-use Rattle.md_machine.specs.Machines.{MachineValue}
-use Rattle.md_machine.specs.Media.{no_media}
+use Rattle.md_chips.specs.Console.{Console, journal, media_after, power_on, ran}
+use Rattle.md_chips.specs.Machines.{MachineValue}
+use Rattle.md_chips.specs.Media.{no_media}
 use Rattle.machine_laws.specs.Reached.{IsReached}
 use Rattle.md_rollback.specs.Images.{AreImagesBelow, Image, Kept, ReachBackTo, image_at}
 use Rattle.md_rollback.proofs.Below.{dropped-below, reach-following, reach-dropped}

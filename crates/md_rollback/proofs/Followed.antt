@@ -3,7 +3,7 @@ use Rattle.std.proofs.Common.{◌≡◌, ◌≢◌, ◌∙◌, refl, sym, ap, su
 use Rattle.std.specs.Prelude.{◌↔◌, IfErr, OnOk}
 use Rattle.std.proofs.lemmas.Bool.{cases_lt}
 use Rattle.md_pads.specs.Recording.{Frame}
-use Rattle.md_machine.specs.Machines.{MachineValue}
+use Rattle.md_chips.specs.Machines.{MachineValue}
 use Rattle.md_rollback.specs.Inputs.{IsConfirmed, Words, expected_frames, given, most_frames}
 use Rattle.md_rollback.specs.declared.fault.AdvanceFault.{AdvanceFault}
 use Rattle.md_rollback.specs.declared.fault.AdvanceFault.TheVariants as advances

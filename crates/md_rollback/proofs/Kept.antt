@@ -1,7 +1,7 @@
 -- The images that a session keeps, once frames were made.
 use Rattle.std.proofs.Common.{◌≡◌, ◌∙◌, refl, sym, ap, subst, ℕ, ◌+◌, ◌<◌, ◌≤◌, List, ◌∷◌, take, arith}
 use Rattle.md_pads.specs.Recording.{Frame}
-use Rattle.md_machine.specs.Console.{Console}
+use Rattle.md_chips.specs.Console.{Console}
 use Rattle.md_rollback.specs.Images.{AreImagesBelow, Image, Kept}
 use Rattle.md_rollback.proofs.Below.{below-with, reach-pushed, taken-below, widened}
 use Rattle.md_rollback.specs.Inputs.{frame_at}

@@ -3,8 +3,8 @@ use Rattle.std.proofs.Common.{◌≡◌, ◌∙◌, refl, sym, ap, subst, false,
 use Rattle.sha2.specs.Sha256.{sha256}
 use Rattle.md_pads.specs.Recording.{no_frames}
 use Rattle.md_word.specs.Clock.{frame}
-use Rattle.md_machine.specs.Console.{power_on}
-use Rattle.md_machine.specs.Media.{no_media}
+use Rattle.md_chips.specs.Console.{power_on}
+use Rattle.md_chips.specs.Media.{no_media}
 use Rattle.save_state.specs.States.{kept_bytes, state_bytes}
 use Rattle.text_lines.specs.Lines.{lines_of}
 use Rattle.md_rollback.specs.Inputs.{IsConfirmed, no_words}

@@ -5,8 +5,8 @@ use Rattle.sha2.specs.Sha256.{sha256}
 use Rattle.md_word.specs.Clock.{frame}
 use Rattle.md_word.specs.declared.event.Entry.{Entry}
 use Rattle.md_pads.specs.Recording.{recording_of}
-use Rattle.md_machine.specs.Console.{Console, IsRunTo, power_on}
-use Rattle.md_machine.specs.Media.{Media}
+use Rattle.md_chips.specs.Console.{Console, IsRunTo, power_on}
+use Rattle.md_chips.specs.Media.{Media}
 use Rattle.save_state.specs.States.{state_bytes}
 use Rattle.text_lines.specs.Lines.{lines_of}
 use Rattle.debug_text.proofs.Scripts.{alike_after, one_refused}

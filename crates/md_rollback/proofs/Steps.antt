@@ -6,13 +6,13 @@ use Rattle.md_pads.specs.declared.version.Version.{Version}
 use Rattle.md_pads.specs.declared.version.Version.TheVariants.{First}
 use Rattle.md_word.specs.Clock.{frame}
 use Rattle.md_word.specs.declared.event.Entry.{Entry}
-use Rattle.md_machine.specs.Console.{Console, IsQuiet, IsRunTo, key_in, power_on}
-use Rattle.md_machine.specs.Machines.{MachineValue}
-use Rattle.md_machine.specs.Media.{Media, joined, no_media}
-use Rattle.md_machine.specs.ValidParts.{HasValidParts}
-use Rattle.md_machine.proofs.Kept.{cart-stays}
-use Rattle.md_machine.proofs.Pads.{pads-recorded}
-use Rattle.md_machine.proofs.Regions.{ran_stays}
+use Rattle.md_chips.specs.Console.{Console, IsQuiet, IsRunTo, key_in, power_on}
+use Rattle.md_chips.specs.Machines.{MachineValue}
+use Rattle.md_chips.specs.Media.{Media, joined, no_media}
+use Rattle.md_chips.specs.ValidParts.{HasValidParts}
+use Rattle.md_chips.proofs.Kept.{cart-stays}
+use Rattle.md_chips.proofs.Pads.{pads-recorded}
+use Rattle.md_chips.proofs.Regions.{ran_stays}
 use Rattle.machine_laws.proofs.SettledMoves.{console-again}
 use Rattle.machine_laws.specs.Processors.{IsValid}
 use Rattle.machine_laws.specs.Reached.{IsReached}

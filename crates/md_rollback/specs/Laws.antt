@@ -1,6 +1,6 @@
 -- What holds of the words of two players and of the outcomes of their scripts.
 use Rattle.std.specs.Prelude.{◌≡◌, ◌≢◌, ℕ, ◌≤◌, List}
-use Rattle.md_machine.specs.Machines.{MachineValue}
+use Rattle.md_chips.specs.Machines.{MachineValue}
 use Rattle.md_rollback.specs.Inputs.{IsConfirmed, IsExpected, IsMore, Words, expected, expected_frames}
 use Rattle.md_rollback.specs.Played.{IsMachineOf}
 use Rattle.md_rollback.specs.Rolls.{CompletesWith}

@@ -3,9 +3,9 @@ use Rattle.std.specs.Prelude.{◌≡◌, ℕ, false, ◌+◌, ◌*◌, ◌≤◌
 use Rattle.md_pads.specs.Recording.{Frame, Recorded, recording_of}
 use Rattle.md_word.specs.Clock.{frame, last_cycle}
 use Rattle.md_word.specs.declared.event.Entry.{Entry}
-use Rattle.md_machine.specs.Console.{Console, IsRunTo, power_on}
-use Rattle.md_machine.specs.Machines.{MachineValue}
-use Rattle.md_machine.specs.Media.{Media, no_media}
+use Rattle.md_chips.specs.Console.{Console, IsRunTo, power_on}
+use Rattle.md_chips.specs.Machines.{MachineValue}
+use Rattle.md_chips.specs.Media.{Media, no_media}
 use Rattle.machine_laws.specs.Reached.{IsReached}
 use Rattle.machine_laws.specs.Recorded.{AreAlikeBelow}
 use Rattle.save_state.specs.States.{settled_console}

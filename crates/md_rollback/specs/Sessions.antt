@@ -1,8 +1,8 @@
 -- A session of two players.
 use Rattle.std.specs.Prelude.{ℕ, ◌+◌, ◌<◌, ◌≤◌, List, length}
 use Rattle.md_pads.specs.Recording.{Frame}
-use Rattle.md_machine.specs.Console.{Console}
-use Rattle.md_machine.specs.Machines.{MachineValue}
+use Rattle.md_chips.specs.Console.{Console}
+use Rattle.md_chips.specs.Machines.{MachineValue}
 use Rattle.md_rollback.specs.Inputs.{InputsValue, IsFixed, Words, most_frames}
 use Rattle.md_rollback.specs.Images.{AreImagesBelow, Image, ReachBackTo}
 use Rattle.md_rollback.specs.Played.{IsImageOf, IsPlayed, KeepsReached}

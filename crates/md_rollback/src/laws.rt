@@ -1,7 +1,7 @@
 //! A law of sessions, as a call that does nothing and stands for what it ensures.
 
 ghost use Rattle.std.specs.Prelude.{ℕ, List, ◌≤◌};
-ghost use Rattle.md_machine.specs.Machines.{MachineValue};
+ghost use Rattle.md_chips.specs.Machines.{MachineValue};
 ghost use Rattle.md_rollback.specs.Inputs.{IsConfirmed, IsMore, Words, expected_frames};
 ghost use Rattle.md_rollback.specs.Played.{IsMachineOf};
 

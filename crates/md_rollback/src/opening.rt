@@ -1,8 +1,8 @@
 ghost use Rattle.std.specs.Prelude.{◌≡◌, ◌≤◌, false, [], IfOk};
 ghost use Rattle.std.specs.Arc.{arc_value};
 ghost use Rattle.md_pads.specs.Recording.{no_frames};
-ghost use Rattle.md_machine.specs.Console.{power_on};
-ghost use Rattle.md_machine.specs.Media.{no_media};
+ghost use Rattle.md_chips.specs.Console.{power_on};
+ghost use Rattle.md_chips.specs.Media.{no_media};
 ghost use Rattle.md_rollback.specs.Inputs.{no_words};
 
 use crate::Session;

@@ -3,7 +3,7 @@ ghost use Rattle.std.specs.Arc.{arc_value};
 ghost use Rattle.md_pads.specs.Recording.{Frame, IsFrame, IsRecording, recording_of};
 ghost use Rattle.md_pads.specs.declared.version.Version.TheVariants.{First};
 ghost use Rattle.md_word.specs.Clock.{frame as frame_length};
-ghost use Rattle.md_machine.specs.Media.{no_media};
+ghost use Rattle.md_chips.specs.Media.{no_media};
 ghost use Rattle.md_rollback.specs.Inputs.{most_frames};
 ghost use Rattle.md_rollback.specs.Images.{AreImagesBelow, ReachBackTo, image_at};
 ghost use Rattle.md_rollback.specs.Played.{AreMade, IsImageOf, IsPlayed, IsPlayedAlike, KeepsReached};

@@ -1,8 +1,8 @@
 ghost use Rattle.std.specs.Prelude.{◌≡◌, ◌≢◌, ◌≤◌, ◌<◌, ◌+◌, ◌*◌, ◌^◌, ◌↔◌, ℕ, false, [], Some, None, slice_set, IfOk, OnOk, OnErr, IsErrOf, Err};
 ghost use Rattle.md_pads.specs.Recording.{no_frames};
 ghost use Rattle.md_word.specs.Clock.{frame as frame_length, last_cycle};
-ghost use Rattle.md_machine.specs.Console.{power_on};
-ghost use Rattle.md_machine.specs.Media.{no_media};
+ghost use Rattle.md_chips.specs.Console.{power_on};
+ghost use Rattle.md_chips.specs.Media.{no_media};
 ghost use Rattle.md_rollback.specs.Inputs.{IsConfirmed, expected_frames, given, most_frames, no_words};
 ghost use Rattle.md_rollback.specs.Images.{ReachBackTo};
 ghost use Rattle.md_rollback.specs.Played.{IsMachineOf, KeepsReached};

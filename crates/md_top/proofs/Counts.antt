@@ -3,7 +3,7 @@ use Rattle.std.proofs.Common.{◌≡◌, ℕ, ◌+◌, ◌-◌, ◌*◌, ◌/◌
 use Rattle.std.specs.Prelude.{nat_lt}
 use Rattle.std.proofs.lemmas.Bool.Decides.{nat_tests}
 use Rattle.md_word.specs.Region.{finished_at, frame_cycles}
-use Rattle.md_machine.specs.Starts.{batches_below, frames_below}
+use Rattle.md_chips.specs.Starts.{batches_below, frames_below}
 use Rattle.md_top.specs.Counts.{count_of_frames, frames_between, pairs_between}
 
 -- a frame is counted from the cycle after its line of the pads on

@@ -8,7 +8,7 @@ use Rattle.md_top.specs.Limits.{IsEnd}
 use Rattle.md_top.specs.Loads.{Begins, LoadCause, MayBeginAt}
 use Rattle.md_top.specs.Outputs.{Adds, AddsParts, AreBegun, Holds, IsBegun, IsUnwritten, IsWriteFault, LeavesParts, Parts, Pieces, all_of, lengthened, nothing, number_in}
 use Rattle.md_top.specs.Runs.{RunLaws, frames_to, journal_to, pieces_of, pieces_until, sound_until, state_to}
-use Rattle.md_machine.specs.Starts.{IsStart, Start}
+use Rattle.md_chips.specs.Starts.{IsStart, Start}
 use Rattle.md_args.specs.Files.{run_output}
 use Rattle.md_args.specs.Words.{Run}
 use Rattle.md_args.specs.declared.files.Input.TheVariants.{State}

@@ -2,9 +2,9 @@
 use Rattle.std.proofs.Common.{◌≡◌, ℕ, Bool, ◌^◌, ◌≤◌, List, sym, subst, ap, ◌∙◌}
 use Rattle.md_word.specs.declared.event.Entry.{Entry}
 use Rattle.md_pads.specs.Recording.{Recorded}
-use Rattle.md_machine.specs.Console.{Console, IsRunTo, power_on}
-use Rattle.md_machine.specs.Media.{Media}
-use Rattle.md_machine.specs.Starts.{Start}
+use Rattle.md_chips.specs.Console.{Console, IsRunTo, power_on}
+use Rattle.md_chips.specs.Media.{Media}
+use Rattle.md_chips.specs.Starts.{Start}
 use Rattle.machine_laws.specs.Heard.{HearsLevels, HearsSides}
 use Rattle.md_top.specs.Heard.{HearsRuns}
 

@@ -2,10 +2,10 @@
 use Rattle.std.proofs.Common.{◌≡◌, ℕ, ◌+◌, ◌-◌, ◌<◌, ◌≤◌, ◌^◌, ◌⊎◌, inl, inr, true, false, List, ◌++◌, refl, sym, ap, ◌∙◌, subst, arith}
 use Rattle.std.proofs.lemmas.Bool.{le-leb, lt-leb, leb-false, leb-true}
 use Rattle.md_word.specs.declared.event.Entry.{Entry}
-use Rattle.md_machine.specs.Console.{AllBelow, Console, IsRunTo, journal, key_in, mover, ran, media_after}
-use Rattle.md_machine.specs.Media.{Media, joined}
-use Rattle.md_machine.specs.Movers.{mover-lt}
-use Rattle.md_machine.specs.Starts.{Start}
+use Rattle.md_chips.specs.Console.{AllBelow, Console, IsRunTo, journal, key_in, mover, ran, media_after}
+use Rattle.md_chips.specs.Media.{Media, joined}
+use Rattle.md_chips.specs.Movers.{mover-lt}
+use Rattle.md_chips.specs.Starts.{Start}
 use Rattle.md_top.specs.Runs.{RunLaws, entries_from, is_quiet, media_from, moves_from, run_from}
 use Rattle.md_top.proofs.Least.{least-below, least-found, least-is, least-le}
 

@@ -1,14 +1,14 @@
 -- A run that came to its end ends well.
 use Rattle.std.proofs.Common.{◌≡◌, ℕ, ◌^◌, ◌≤◌, Bool, List, ◌++◌, refl, sym, ap, subst, ◌∙◌, arith}
 use Rattle.md_word.specs.declared.event.Entry.{Entry}
-use Rattle.md_machine.specs.Lists.{ListsEndAsRun}
-use Rattle.md_machine.specs.Console.{Console, IsRunTo}
-use Rattle.md_machine.specs.Machines.{MachineValue}
-use Rattle.md_machine.specs.Media.{Media, joined}
+use Rattle.md_chips.specs.Lists.{ListsEndAsRun}
+use Rattle.md_chips.specs.Console.{Console, IsRunTo}
+use Rattle.md_chips.specs.Machines.{MachineValue}
+use Rattle.md_chips.specs.Media.{Media, joined}
 use Rattle.md_machine.specs.Outputs.{frames_bytes, journal_bytes, sound_bytes}
-use Rattle.md_machine.specs.Starts.{IsStart, Start}
-use Rattle.md_machine.proofs.Kept.{cart-stays}
-use Rattle.md_machine.proofs.Regions.{run_stays}
+use Rattle.md_chips.specs.Starts.{IsStart, Start}
+use Rattle.md_chips.proofs.Kept.{cart-stays}
+use Rattle.md_chips.proofs.Regions.{run_stays}
 use Rattle.machine_laws.specs.Reached.{IsReached}
 use Rattle.machine_laws.specs.Settling.{GoesOn}
 use Rattle.save_state.specs.Ready.{IsReady}

@@ -13,7 +13,7 @@ use Rattle.md_top.specs.Inputs.{CartCause, IsAccepted, IsValidated, IsVerdict, S
 use Rattle.md_top.specs.Loads.{BeginsWith, IsFound, IsFoundIn, IsLoadValidated, StateCause, recording_by, state_limit}
 use Rattle.state_laws.specs.Verdicts.{Keeps, OfOther, StateVerdict, StateInvalidAt}
 use Rattle.md_top.specs.Runs.{entries_from, halted_from, media_from, powered_on}
-use Rattle.md_machine.specs.Starts.{Start}
+use Rattle.md_chips.specs.Starts.{Start}
 use Rattle.md_args.specs.declared.files.Input.{Input}
 use Rattle.md_args.specs.declared.files.Input.TheVariants.{First, Recording, State}
 use Rattle.md_top.specs.declared.command_outcome.CommandOutcome.{CommandOutcome}

@@ -11,7 +11,7 @@ use Rattle.md_top.specs.Inputs.{AreInputs, CartCause, IsAccepted, IsValidated, I
 use Rattle.md_word.specs.Clock.{last_cycle}
 use Rattle.md_top.specs.Loads.{Begins, BeginsWith, IsFound, IsFoundIn, IsLoadValidated, IsStateValidated, LoadCause, inputs_by, state_limit}
 use Rattle.state_laws.specs.Verdicts.{Keeps, OfOther, StateVerdict, StateInvalidAt}
-use Rattle.md_machine.specs.Starts.{Start}
+use Rattle.md_chips.specs.Starts.{Start}
 use Rattle.md_args.specs.Words.{Run}
 use Rattle.md_args.specs.declared.files.Input.TheVariants.{First, Recording, State}
 use Rattle.md_top.specs.declared.command_outcome.CommandOutcome.{CommandOutcome}

@@ -6,12 +6,12 @@ use Rattle.md_outer.specs.Outside.{IsPrefix}
 use Rattle.md_files.specs.Journal.{entry_bytes}
 use Rattle.md_files.specs.Wav.{wav_head}
 use Rattle.md_word.specs.declared.event.Entry.{Entry}
-use Rattle.md_machine.specs.Console.{AllBelow, Console, IsRunTo, journal, mover, ran, media_after}
-use Rattle.md_machine.specs.Machines.{MachineValue}
+use Rattle.md_chips.specs.Console.{AllBelow, Console, IsRunTo, journal, mover, ran, media_after}
+use Rattle.md_chips.specs.Machines.{MachineValue}
 use Rattle.md_machine.specs.Outputs.{frame_bytes, frame_length, frames_bytes, journal_bytes, mixed_bytes, sample_bytes, sound_bytes}
-use Rattle.md_machine.specs.Media.{Media, joined, no_media}
-use Rattle.md_machine.specs.Movers.{mover-lt}
-use Rattle.md_machine.specs.Starts.{IsStart, Start, batches_below}
+use Rattle.md_chips.specs.Media.{Media, joined, no_media}
+use Rattle.md_chips.specs.Movers.{mover-lt}
+use Rattle.md_chips.specs.Starts.{IsStart, Start, batches_below}
 use Rattle.machine_laws.specs.Reached.{IsReached}
 use Rattle.save_state.specs.States.{state_bytes}
 use Rattle.md_top.specs.Courses.{CameTo}

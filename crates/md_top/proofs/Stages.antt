@@ -14,7 +14,7 @@ use Rattle.md_top.specs.declared.course.Course.{Course}
 use Rattle.md_top.specs.declared.command_outcome.CommandOutcome.{CommandOutcome}
 use Rattle.md_top.specs.declared.command_outcome.CommandOutcome.TheVariants.{Done, DemoDone, Memory, Usage, WriteFault}
 use Rattle.md_top.specs.declared.summary.Summary.{Summary}
-use Rattle.md_machine.specs.Starts.{Start}
+use Rattle.md_chips.specs.Starts.{Start}
 use Rattle.md_top.proofs.Ends.{AreOne, end-of-run, files-of-run, untouched}
 use Rattle.md_top.proofs.Rows.{causes_of, memory_answers, memory_causes, none_causes}
 use Rattle.md_top.proofs.Puts.{line_of}

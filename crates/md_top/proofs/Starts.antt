@@ -3,7 +3,7 @@ use Rattle.std.proofs.Common.{◌≡◌, ℕ, ◌≤◌, List, length, Option, S
 use Rattle.std.specs.Prelude.{IsSomeAnd}
 use Rattle.md_outer.specs.Outside.{Files}
 use Rattle.md_pads.specs.Recording.{Recorded, Spells}
-use Rattle.md_machine.specs.Starts.{Start}
+use Rattle.md_chips.specs.Starts.{Start}
 use Rattle.save_state.specs.Versions.{IsState}
 use Rattle.state_laws.specs.Verdicts.{Keeps}
 use Rattle.md_args.specs.Words.{Run}

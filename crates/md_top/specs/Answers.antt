@@ -7,7 +7,7 @@ use Rattle.md_top.specs.Inputs.{IsValidated, IsMissing, Verdict}
 use Rattle.md_word.specs.Clock.{last_cycle}
 use Rattle.md_top.specs.Loads.{Begins, IsLoadFound, IsStateValidated, MayBeginAt}
 use Rattle.state_laws.specs.Verdicts.{OfOther, StateInvalidAt}
-use Rattle.md_machine.specs.Starts.{Start}
+use Rattle.md_chips.specs.Starts.{Start}
 use Rattle.md_vgm.specs.Outcomes.{Outcome}
 use Rattle.md_args.specs.Files.{input_of, output_of}
 use Rattle.md_args.specs.Words.{Assemble, Command, Convert, Debug, Info, Rollback, RunCart, RunDemo, assembling_in, conversion_in, debugging_in, end_of, rolling_in, run_in}

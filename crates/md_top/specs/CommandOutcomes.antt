@@ -2,7 +2,7 @@
 use Rattle.std.specs.Prelude.{◌≡◌, ℕ, zero, suc, ◌<◌, ◌≤◌, List, Option, Some, None}
 use Rattle.rom_header.specs.Header.{header_lines}
 use Rattle.md_outer.specs.Outside.{DepotState, Files}
-use Rattle.md_machine.specs.Starts.{Start}
+use Rattle.md_chips.specs.Starts.{Start}
 use Rattle.md_args.specs.Words.{Assemble, Command, Convert, Debug, Info, Rollback, Run, RunCart, RunDemo}
 use Rattle.md_args.specs.declared.files.Input.TheVariants.{State}
 use Rattle.md_top.specs.Assemblies.{AsmEnds, AsmFiles, CanAssemble}

@@ -1,9 +1,9 @@
 -- A run on its way, at the end of a segment.
 use Rattle.std.specs.Prelude.{◌≡◌, ℕ, ◌≤◌, [], length}
-use Rattle.md_machine.specs.Console.{IsRunTo}
-use Rattle.md_machine.specs.Machines.{MachineValue}
-use Rattle.md_machine.specs.Media.{no_media}
-use Rattle.md_machine.specs.Starts.{IsStart, Start}
+use Rattle.md_chips.specs.Console.{IsRunTo}
+use Rattle.md_chips.specs.Machines.{MachineValue}
+use Rattle.md_chips.specs.Media.{no_media}
+use Rattle.md_chips.specs.Starts.{IsStart, Start}
 use Rattle.machine_laws.specs.Reached.{IsReached}
 use Rattle.md_top.specs.Heard.{HearsRuns}
 use Rattle.md_top.specs.Runs.{RunLaws, entries_from, media_from}

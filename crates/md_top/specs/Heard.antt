@@ -1,9 +1,9 @@
 -- What is heard of a run from power-on.
 use Rattle.std.specs.Prelude.{◌≡◌, ℕ, ◌^◌, ◌≤◌, List}
 use Rattle.md_word.specs.declared.event.Entry.{Entry}
-use Rattle.md_machine.specs.Console.{Console, IsRunTo}
-use Rattle.md_machine.specs.Media.{Media}
-use Rattle.md_machine.specs.Starts.{Start}
+use Rattle.md_chips.specs.Console.{Console, IsRunTo}
+use Rattle.md_chips.specs.Media.{Media}
+use Rattle.md_chips.specs.Starts.{Start}
 use Rattle.machine_laws.specs.Heard.{HearsLevels, HearsSides}
 use Rattle.md_top.specs.Runs.{entries_from, media_from, powered_on}
 use Rattle.md_top.specs.declared.inputs.Inputs.{Inputs}

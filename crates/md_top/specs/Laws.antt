@@ -2,10 +2,10 @@
 use Rattle.std.specs.Prelude.{◌≡◌, ℕ, Bool, ◌*◌, ◌-◌, List, length}
 use Rattle.md_word.specs.declared.event.Entry.{Entry}
 use Rattle.md_pads.specs.Recording.{Recorded}
-use Rattle.md_machine.specs.Console.{Console, IsRunTo, power_on, ran}
-use Rattle.md_machine.specs.Media.{Media}
-use Rattle.md_machine.specs.Pads.{ShowsPads}
-use Rattle.md_machine.specs.Starts.{IsStart, Start, batches_below, frames_below}
+use Rattle.md_chips.specs.Console.{Console, IsRunTo, power_on, ran}
+use Rattle.md_chips.specs.Media.{Media}
+use Rattle.md_chips.specs.Pads.{ShowsPads}
+use Rattle.md_chips.specs.Starts.{IsStart, Start, batches_below, frames_below}
 use Rattle.md_debug.specs.Laws.{DebugLaws}
 use Rattle.md_rollback.specs.Laws.{RollbackLaws}
 

@@ -2,7 +2,7 @@
 use Rattle.std.specs.Prelude.{◌≡◌, ℕ, ◌<◌, ◌≤◌, List, length, Option, Some, None, IsSomeAnd}
 use Rattle.md_outer.specs.Outside.{DepotState, Files, bytes_of}
 use Rattle.md_pads.specs.Recording.{Recorded, no_frames}
-use Rattle.md_machine.specs.Starts.{Start}
+use Rattle.md_chips.specs.Starts.{Start}
 use Rattle.state_laws.specs.Verdicts.{IsStateVerdict, Keeps, OfOther, StateVerdict, StateInvalidAt}
 use Rattle.md_args.specs.Words.{Run}
 use Rattle.md_args.specs.declared.files.Input.TheVariants.{State}

@@ -5,7 +5,7 @@ use Rattle.rom_header.specs.Header.{header_lines}
 use Rattle.rom_header.specs.declared.cart.CartFault.{CartFault}
 use Rattle.md_outer.specs.Outside.{Files}
 use Rattle.md_pads.specs.Recording.{Recorded, no_frames}
-use Rattle.md_machine.specs.Starts.{Start}
+use Rattle.md_chips.specs.Starts.{Start}
 use Rattle.state_laws.specs.Verdicts.{Keeps, OfOther, StateVerdict, StateInvalidAt}
 use Rattle.md_vgm.specs.Outcomes.{Outcome}
 use Rattle.md_rollback.specs.declared.rolled.Completion.{Completion}

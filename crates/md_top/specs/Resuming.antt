@@ -1,12 +1,12 @@
 -- What comes of a run at its end, and of its machine where it is saved there.
 use Rattle.std.specs.Prelude.{◌≡◌, ℕ, ◌^◌, ◌≤◌, List, ◌++◌, length, Option}
 use Rattle.md_word.specs.declared.event.Entry.{Entry}
-use Rattle.md_machine.specs.Console.{Console, IsQuiet, IsRunTo}
-use Rattle.md_machine.specs.Lists.{ListsEndAsRun}
-use Rattle.md_machine.specs.Media.{Media, joined}
+use Rattle.md_chips.specs.Console.{Console, IsQuiet, IsRunTo}
+use Rattle.md_chips.specs.Lists.{ListsEndAsRun}
+use Rattle.md_chips.specs.Media.{Media, joined}
 use Rattle.md_machine.specs.Outputs.{frames_bytes, journal_bytes, sound_bytes}
-use Rattle.md_machine.specs.ValidParts.{HasValidParts}
-use Rattle.md_machine.specs.Starts.{Start}
+use Rattle.md_chips.specs.ValidParts.{HasValidParts}
+use Rattle.md_chips.specs.Starts.{Start}
 use Rattle.machine_laws.specs.Reached.{IsReached}
 use Rattle.machine_laws.specs.Settling.{GoesOn}
 use Rattle.save_state.specs.Ready.{IsReady}

@@ -1,9 +1,9 @@
 -- What whoever makes the segments of a run does to the machine.
 use Rattle.std.specs.Prelude.{◌≡◌, ℕ, ◌+◌, ◌<◌, ◌≤◌, [], length}
-use Rattle.md_machine.specs.Console.{IsRunTo}
-use Rattle.md_machine.specs.Machines.{MachineValue}
-use Rattle.md_machine.specs.Media.{no_media}
-use Rattle.md_machine.specs.Regions.{most_entries, most_pairs}
+use Rattle.md_chips.specs.Console.{IsRunTo}
+use Rattle.md_chips.specs.Machines.{MachineValue}
+use Rattle.md_chips.specs.Media.{no_media}
+use Rattle.md_chips.specs.Regions.{most_entries, most_pairs}
 use Rattle.md_word.specs.Clock.{last_cycle}
 use Rattle.md_top.specs.Limits.{segment_cycles}
 

@@ -1,6 +1,6 @@
 ghost use Rattle.std.specs.Prelude.{◌*◌, ◌≤◌, vec_capacity};
 ghost use Rattle.md_machine.specs.Outputs.{frame_length};
-ghost use Rattle.md_machine.specs.Regions.{most_entries, most_pairs};
+ghost use Rattle.md_chips.specs.Regions.{most_entries, most_pairs};
 
 use md_machine::Machine;
 

@@ -2,7 +2,7 @@
 ghost use Rattle.std.specs.Prelude.{◌≡◌, ℕ, ◌<◌, ◌^◌, List, true, length};
 ghost use Rattle.md_outer.specs.Outside.{Files};
 ghost use Rattle.md_pads.specs.Recording.{Recorded, Spells};
-ghost use Rattle.md_machine.specs.Starts.{IsStart, Start};
+ghost use Rattle.md_chips.specs.Starts.{IsStart, Start};
 ghost use Rattle.md_args.specs.Words.{Run};
 ghost use Rattle.md_top.specs.Courses.{start_at};
 ghost use Rattle.md_top.specs.Counts.{frames_between, pairs_between};

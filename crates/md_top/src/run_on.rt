@@ -1,6 +1,6 @@
 ghost use Rattle.std.specs.Prelude.{◌≡◌, ◌≢◌, ℕ, ◌≤◌, ◌<◌, OnOk, OnErr, IfErr};
 ghost use Rattle.md_outer.specs.Outside.{Files, GoesOn};
-ghost use Rattle.md_machine.specs.Starts.{Start};
+ghost use Rattle.md_chips.specs.Starts.{Start};
 ghost use Rattle.md_top.specs.Courses.{CameFrom, IsAtStart, IsUnderway, cycle_of, start_in};
 ghost use Rattle.md_top.specs.Counts.{count_of_frames, frames_between, pairs_between, pairs_of};
 ghost use Rattle.md_top.specs.CommandOutcomes.{HoldsUntil, RunCause, RunLeaves};

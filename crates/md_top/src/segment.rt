@@ -1,6 +1,6 @@
 ghost use Rattle.std.specs.Prelude.{◌≡◌, ℕ, ◌+◌, ◌<◌, ◌≤◌, ◌++◌, IfOk};
 ghost use Rattle.md_machine.specs.Outputs.{frames_bytes, journal_bytes, sound_bytes};
-ghost use Rattle.md_machine.specs.Starts.{Start};
+ghost use Rattle.md_chips.specs.Starts.{Start};
 ghost use Rattle.md_top.specs.Courses.{CameFrom, IsAtStart, IsFresh, IsUnderway, cycle_of, start_at, start_in};
 ghost use Rattle.md_word.specs.Clock.{last_cycle};
 ghost use Rattle.md_top.specs.Limits.{segment_cycles};

@@ -6,8 +6,8 @@ use Rattle.z80_chip.specs.Saved.{stage_number}
 use Rattle.z80_chip.specs.States.{State80}
 use Rattle.z80_chip.specs.declared.stage.Stage.{Stage}
 use Rattle.z80_chip.specs.declared.stage.Stage.TheVariants.{Sample, Access, Yield, Take}
-use Rattle.md_machine.specs.Console.{Console}
-use Rattle.md_machine.specs.Owners.{HasOneOwner}
+use Rattle.md_chips.specs.Console.{Console}
+use Rattle.md_chips.specs.Owners.{HasOneOwner}
 use Rattle.save_state.specs.States.{holder_of, is_holder}
 
 holder_by : (stage : Stage) (state : State80) (bus : Bool) → is_some state.store ≡ not bus → FitsHolder stage state → is_holder (cond bus 1 0) (stage_number stage) ≡ true

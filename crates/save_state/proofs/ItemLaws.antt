@@ -13,7 +13,7 @@ use Rattle.save_state.specs.declared.layout.Part.{Part}
 use Rattle.md_fields.specs.Places.{Stand, number_at}
 use Rattle.md_fields.proofs.Standing.{spelled_stand}
 use Rattle.sound_writes.specs.Keys.{is_before_next}
-use Rattle.md_machine.specs.Starts.{first_batch}
+use Rattle.md_chips.specs.Starts.{first_batch}
 use Rattle.md_pads.specs.Recording.{Recorded}
 use Rattle.bus_shared.specs.Board.{Board}
 use Rattle.bus_shared.specs.Spelling as shared

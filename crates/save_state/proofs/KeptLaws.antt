@@ -19,9 +19,9 @@ use Rattle.psg_sound.specs.SynthSpelling as psg
 use Rattle.bus_shared.specs.Saved.{lines_of}
 use Rattle.bus_shared.specs.Spelling as shared
 use Rattle.bus_shared.proofs.SpellingLaws as shared_laws
-use Rattle.md_machine.specs.Console.{Console, renderer_state_in}
-use Rattle.md_machine.specs.Machines.{MachineValue}
-use Rattle.md_machine.specs.Starts.{first_batch}
+use Rattle.md_chips.specs.Console.{Console, renderer_state_in}
+use Rattle.md_chips.specs.Machines.{MachineValue}
+use Rattle.md_chips.specs.Starts.{first_batch}
 use Rattle.save_state.specs.Faults.{HasForm, IsMachineOf}
 use Rattle.save_state.specs.Items.{at_of, region_of, main_next, sub_next, stage_of, holder_in, main_bytes, sub_bytes, shared_bytes, renderer_state_bytes}
 use Rattle.save_state.specs.Layout.{part_of, digest_part, sub_part, store_part}

@@ -27,9 +27,9 @@ use Rattle.psg_sound.specs.SynthSpelling as psg
 use Rattle.bus_shared.specs.Spelling as shared
 use Rattle.psg_sound.specs.Synth as psg_synths
 use Rattle.bus_shared.specs.Board.{Board}
-use Rattle.md_machine.specs.Console.{Console, renderer_state_in, key_in, IsQuiet}
-use Rattle.md_machine.specs.Machines.{MachineValue}
-use Rattle.md_machine.specs.Starts.{IsStart, first_batch, first_line}
+use Rattle.md_chips.specs.Console.{Console, renderer_state_in, key_in, IsQuiet}
+use Rattle.md_chips.specs.Machines.{MachineValue}
+use Rattle.md_chips.specs.Starts.{IsStart, first_batch, first_line}
 use Rattle.save_state.specs.Faults.{FailsAt, at_is_invalid, region_is_invalid, main_is_invalid, sub_is_invalid, shared_is_invalid, renderer_state_is_invalid, fm_is_invalid, psg_is_invalid, IsMachineOf}
 use Rattle.save_state.specs.declared.layout.Part.{Part}
 use Rattle.save_state.specs.Items.{at_of, region_of, holder_in, main_bytes, sub_bytes, shared_bytes, renderer_state_bytes, IsMain, MainFails, IsSub, SubFails, chip_fails, holder_fails, IsShared, SharedFails, board_fails, resets_fail, IsPicture, RendererStateFails, IsFm, FmFails, synth_fails, next_fails, writes_fail, IsPsg, PsgFails, psg_synth_fails, psg_next_fails, psg_writes_fail}

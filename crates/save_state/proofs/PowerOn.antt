@@ -15,8 +15,8 @@ use Rattle.vdp_dma.specs.Settling.{due, settled, vram_after, write, writes}
 use Rattle.vdp_ports.specs.Vdp.{Vdp}
 use Rattle.bus_shared.specs.Board.{Board}
 use Rattle.bus_shared.specs.Spelling.{settled_board}
-use Rattle.md_machine.specs.Console.{Console, power_on}
-use Rattle.md_machine.specs.Starts.{Start}
+use Rattle.md_chips.specs.Console.{Console, power_on}
+use Rattle.md_chips.specs.Starts.{Start}
 use Rattle.save_state.specs.Layout.{magic_part, part_of}
 use Rattle.save_state.specs.States.{IsNewest, kept_bytes, mark, settled_console, state_bytes, state_fields}
 use Rattle.save_state.specs.Versions.{IsState, migrated}

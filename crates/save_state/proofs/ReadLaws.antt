@@ -6,9 +6,9 @@ use Rattle.md_fields.specs.Places.{IsBytes}
 use Rattle.md_pads.specs.Recording.{Recorded}
 use Rattle.md_word.specs.declared.unspell.Unspell.{Unspell}
 use Rattle.md_word.specs.declared.unspell.Unspell.TheVariants as fields
-use Rattle.md_machine.specs.Machines.{MachineValue}
-use Rattle.md_machine.specs.Media.{no_media}
-use Rattle.md_machine.specs.Starts.{Start, IsStart}
+use Rattle.md_chips.specs.Machines.{MachineValue}
+use Rattle.md_chips.specs.Media.{no_media}
+use Rattle.md_chips.specs.Starts.{Start, IsStart}
 use Rattle.save_state.specs.declared.fault.StateFault.{StateFault}
 use Rattle.save_state.specs.declared.fault.StateFault.TheVariants.{Form, OtherCart, NoMemory}
 use Rattle.save_state.specs.Faults.{HasForm}

@@ -16,9 +16,9 @@ use Rattle.psg_sound.specs.Synth as psg_synths
 use Rattle.psg_sound.specs.SynthSpelling as psg
 use Rattle.bus_shared.specs.Board.{Board}
 use Rattle.bus_shared.specs.Spelling as shared
-use Rattle.md_machine.specs.Console.{Console, renderer_state_in, key_in}
-use Rattle.md_machine.specs.Regions.{IsOneRegion}
-use Rattle.md_machine.specs.Starts.{IsStart}
+use Rattle.md_chips.specs.Console.{Console, renderer_state_in, key_in}
+use Rattle.md_chips.specs.Regions.{IsOneRegion}
+use Rattle.md_chips.specs.Starts.{IsStart}
 use Rattle.save_state.specs.Ready.{IsReady}
 use Rattle.save_state.specs.States.{IsSaved, IsNewest, settled_console, state_bytes}
 use Rattle.save_state.proofs.Holders.{holder_right}

@@ -23,8 +23,8 @@ use Rattle.psg_sound.specs.SynthSpelling as psg
 use Rattle.bus_shared.specs.Board.{Board}
 use Rattle.bus_shared.specs.Saved.{lines_of, lines_fields}
 use Rattle.bus_shared.specs.Spelling as shared
-use Rattle.md_machine.specs.Console.{Console, renderer_state_in}
-use Rattle.md_machine.specs.Starts.{first_batch}
+use Rattle.md_chips.specs.Console.{Console, renderer_state_in}
+use Rattle.md_chips.specs.Starts.{first_batch}
 use Rattle.save_state.specs.Items.{at_of, main_next, sub_next, stage_of, seen_resets, holder_in, resets_of}
 use Rattle.save_state.specs.Layout.{part_of, magic_part, digest_part, region_part, main_part, sub_part, store_part, video_part, renderer_state_part, fm_port_part, fm_next_part, fm_part, psg_next_part, psg_port_part, psg_part, board_part}
 use Rattle.save_state.specs.States.{mark, holder_of, store_of, number_bytes, state_fields}

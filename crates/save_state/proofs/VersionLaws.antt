@@ -3,7 +3,7 @@ use Rattle.std.proofs.Common.{◌≡◌, ◌≢◌, ◌∙◌, ℕ, ◌≤◌, m
 use Rattle.std.specs.Prelude.{replicate}
 use Rattle.std.proofs.lemmas.List.{drop_at, length-append, length-drop, length-replicate, length-take, take-append-le, take-take, take_at}
 use Rattle.sha2.specs.Sha256.{sha256}
-use Rattle.md_machine.specs.Starts.{Start}
+use Rattle.md_chips.specs.Starts.{Start}
 use Rattle.save_state.specs.Faults.{HasForm}
 use Rattle.save_state.specs.Refusals.{FieldFailsBack}
 use Rattle.save_state.specs.Layout.{digest_part, magic_part, part_of}

@@ -21,9 +21,9 @@ use Rattle.psg_sound.proofs.PortBytes.{spelled_once as psg_once}
 use Rattle.bus_shared.specs.Saved.{lines_of}
 use Rattle.bus_shared.specs.Spelling as shared
 use Rattle.bus_shared.proofs.SpellingLaws as shared_laws
-use Rattle.md_machine.specs.Console.{Console, renderer_state_in}
-use Rattle.md_machine.specs.Media.{no_media}
-use Rattle.md_machine.specs.Starts.{Start, first_batch}
+use Rattle.md_chips.specs.Console.{Console, renderer_state_in}
+use Rattle.md_chips.specs.Media.{no_media}
+use Rattle.md_chips.specs.Starts.{Start, first_batch}
 use Rattle.save_state.specs.Faults.{IsMachineOf}
 use Rattle.save_state.specs.Items.{at_of, region_of, main_next, sub_next, holder_in, main_bytes, sub_bytes, shared_bytes, renderer_state_bytes, HasLateFm, HasLatePsg}
 use Rattle.save_state.specs.Layout.{part_of, fm_port_part, psg_port_part}

@@ -31,9 +31,9 @@ use Rattle.bus_shared.specs.Spelling as shared
 use Rattle.bus_shared.specs.declared.saved_lines.SavedLines.{SavedLines}
 use Rattle.bus_shared.proofs.SavedLaws as lines_laws
 use Rattle.bus_shared.proofs.SpellingLaws as shared_laws
-use Rattle.md_machine.specs.Console.{Console, renderer_state_in}
-use Rattle.md_machine.specs.Starts.{first_batch}
-use Rattle.md_machine.specs.Owners.{HasOneOwner}
+use Rattle.md_chips.specs.Console.{Console, renderer_state_in}
+use Rattle.md_chips.specs.Starts.{first_batch}
+use Rattle.md_chips.specs.Owners.{HasOneOwner}
 use Rattle.save_state.specs.Layout.{fm_port_there, lines_there, numbers_there, part_of, psg_port_there}
 use Rattle.save_state.specs.States.{after_video, mark, holder_of, own_bytes, store_of, number_bytes, state_bytes}
 use Rattle.save_state.proofs.Gathered.{nothing}

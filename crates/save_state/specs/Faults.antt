@@ -2,10 +2,10 @@
 -- project's profile.
 use Rattle.std.specs.Prelude.{◌≡◌, ℕ, ◌≤◌, List, [], length, slice_index}
 use Rattle.md_pads.specs.Recording.{Recorded}
-use Rattle.md_machine.specs.Console.{renderer_state_in}
-use Rattle.md_machine.specs.Machines.{MachineValue}
-use Rattle.md_machine.specs.Media.{no_media}
-use Rattle.md_machine.specs.Starts.{first_batch}
+use Rattle.md_chips.specs.Console.{renderer_state_in}
+use Rattle.md_chips.specs.Machines.{MachineValue}
+use Rattle.md_chips.specs.Media.{no_media}
+use Rattle.md_chips.specs.Starts.{first_batch}
 use Rattle.save_state.specs.Layout.{part_of, at_part, magic_part, region_part, state_size}
 use Rattle.save_state.specs.Items.{at_of, IsMain, MainFails, IsSub, SubFails, IsShared, SharedFails, IsPicture, RendererStateFails, IsFm, FmFails, IsPsg, PsgFails}
 use Rattle.md_word.specs.Clock.{last_cycle}

@@ -20,7 +20,7 @@ use Rattle.psg_sound.specs.SynthSpelling as psg
 use Rattle.psg_sound.specs.declared.write.PsgWrite.{PsgWrite}
 use Rattle.bus_shared.specs.Board.{Board}
 use Rattle.bus_shared.specs.Spelling as shared
-use Rattle.md_machine.specs.Starts.{first_batch}
+use Rattle.md_chips.specs.Starts.{first_batch}
 use Rattle.save_state.specs.Joining.{FailsIn}
 use Rattle.save_state.specs.Layout.{part_of, gathered, sub_parts, shared_parts, at_part, region_part, main_part, sub_part, holder_part, renderer_state_part, fm_port_part, fm_next_part, fm_part, psg_next_part, psg_port_part, psg_part, board_part}
 use Rattle.save_state.specs.States.{is_holder, are_fm_early, are_psg_early}

@@ -4,7 +4,7 @@ use Rattle.std.specs.Prelude.{◌≡◌, ℕ, ◌+◌, ◌^◌, nat_lt, Bool, tr
 use Rattle.std.specs.Int.{w16}
 use Rattle.md_fields.specs.Places.{number_at}
 use Rattle.md_pads.specs.Recording.{Recorded}
-use Rattle.md_machine.specs.Machines.{MachineValue}
+use Rattle.md_chips.specs.Machines.{MachineValue}
 use Rattle.save_state.specs.Faults.{FailsAt, IsMachineOf}
 use Rattle.save_state.specs.Joining.{Either, IsLeast}
 use Rattle.save_state.specs.Layout.{board_part}

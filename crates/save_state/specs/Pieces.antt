@@ -7,9 +7,9 @@ use Rattle.vdp_chip.specs.RendererState.{RendererState}
 use Rattle.fm_chip.specs.Synth as fm_synths
 use Rattle.psg_sound.specs.Synth as psg_synths
 use Rattle.bus_shared.specs.Board.{Board}
-use Rattle.md_machine.specs.Machines.{MachineValue}
-use Rattle.md_machine.specs.Media.{no_media}
-use Rattle.md_machine.specs.Starts.{first_batch}
+use Rattle.md_chips.specs.Machines.{MachineValue}
+use Rattle.md_chips.specs.Media.{no_media}
+use Rattle.md_chips.specs.Starts.{first_batch}
 use Rattle.save_state.specs.Items.{IsMain, MainFails, IsSub, SubFails, IsShared, SharedFails, IsPicture, RendererStateFails, IsFm, FmFails, IsPsg, PsgFails}
 use Rattle.save_state.specs.Joining.{KeepsBoth, Either}
 

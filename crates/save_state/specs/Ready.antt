@@ -4,9 +4,9 @@ use Rattle.m68k_chip.specs.Rules as main
 use Rattle.z80_chip.specs.Rules as sub
 use Rattle.vdp_chip.specs.Spelling as renderer_state
 use Rattle.bus_shared.specs.Spelling as shared
-use Rattle.md_machine.specs.Console.{Console, renderer_state_in}
-use Rattle.md_machine.specs.Owners.{HasOneOwner}
-use Rattle.md_machine.specs.Starts.{IsStart}
+use Rattle.md_chips.specs.Console.{Console, renderer_state_in}
+use Rattle.md_chips.specs.Owners.{HasOneOwner}
+use Rattle.md_chips.specs.Starts.{IsStart}
 use Rattle.md_word.specs.Clock.{last_cycle}
 use Rattle.save_state.specs.States.{are_fm_early, are_psg_early}
 

@@ -23,9 +23,9 @@ use Rattle.bus_shared.specs.Board.{Board}
 use Rattle.bus_shared.specs.Saved.{lines_of}
 use Rattle.bus_shared.specs.Spelling.{settled_board}
 use Rattle.bus_shared.specs.Spelling as shared
-use Rattle.md_machine.specs.Console.{Console, renderer_state_in}
-use Rattle.md_machine.specs.Owners.{HasOneOwner}
-use Rattle.md_machine.specs.Starts.{Start, first_batch}
+use Rattle.md_chips.specs.Console.{Console, renderer_state_in}
+use Rattle.md_chips.specs.Owners.{HasOneOwner}
+use Rattle.md_chips.specs.Starts.{Start, first_batch}
 
 -- what a state begins with
 abbrev pub mark : List ℕ

@@ -3,7 +3,7 @@
 -- are read as those of their migration. This project's profile.
 use Rattle.std.specs.Prelude.{◌≡◌, ◌≢◌, ℕ, ◌-◌, ◌<◌, ◌≤◌, nat_le, nat_lt, min, ◌⊎◌, if◌then◌else◌, codes, List, [], ◌∷◌, ◌++◌, length, replicate, take, drop, Option, Some, None}
 use Rattle.sha2.specs.Sha256.{sha256}
-use Rattle.md_machine.specs.Starts.{Start}
+use Rattle.md_chips.specs.Starts.{Start}
 use Rattle.save_state.specs.Layout.{digest_part, magic_part, part_of, state_size}
 use Rattle.save_state.specs.OldPads.{HasPads, IsFirstFault}
 use Rattle.save_state.specs.States.{IsNewest, mark}

@@ -2,8 +2,8 @@
 ghost use Rattle.std.specs.Prelude.{◌≡◌, ℕ, ◌≤◌, Bool, List};
 ghost use Rattle.md_word.specs.Clock.{last_cycle};
 ghost use Rattle.md_pads.specs.Recording.{Recorded};
-ghost use Rattle.md_machine.specs.Console.{power_on};
-ghost use Rattle.md_machine.specs.Starts.{Start};
+ghost use Rattle.md_chips.specs.Console.{power_on};
+ghost use Rattle.md_chips.specs.Starts.{Start};
 ghost use Rattle.save_state.specs.Ready.{IsReady};
 ghost use Rattle.save_state.specs.States.{settled_console, state_bytes};
 ghost use Rattle.save_state.specs.Versions.{IsState};

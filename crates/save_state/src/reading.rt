@@ -1,8 +1,8 @@
 ghost use Rattle.std.specs.Prelude.{◌≡◌, ◌≢◌, ◌↔◌, ◌≤◌, true, ℕ, List, [], length, IfOk, IsTrue, IsErrOf, Ok, Err};
 ghost use Rattle.std.specs.Arc.{arc_value};
 ghost use Rattle.sha2.specs.Sha256.{sha256};
-ghost use Rattle.md_machine.specs.Media.{no_media};
-ghost use Rattle.md_machine.specs.Starts.{Start, IsStart};
+ghost use Rattle.md_chips.specs.Media.{no_media};
+ghost use Rattle.md_chips.specs.Starts.{Start, IsStart};
 ghost use Rattle.save_state.specs.Faults.{FailsAt, HasForm, IsMachineOf};
 ghost use Rattle.save_state.specs.OldPads.{FailsUnder, HasPads, IsMachineUnder, has_buttons};
 ghost use Rattle.save_state.specs.Refusals.{FieldFailsBack, refusal_of};

@@ -27,7 +27,7 @@ use Rattle.psg_sound.proofs.SynthBytes as psg_laws
 use Rattle.psg_sound.proofs.SynthBytes.{table as psg_table}
 use Rattle.bus_shared.specs.Spelling as shared
 use Rattle.bus_shared.proofs.SpellingLaws as shared_laws
-use Rattle.md_machine.specs.Starts.{first_batch}
+use Rattle.md_chips.specs.Starts.{first_batch}
 use Rattle.save_state.specs.declared.layout.Part.{Part}
 use Rattle.save_state.specs.Items.{at_of, region_of, holder_in, stage_of, seen_resets, resets_of, resets_place, fm_writes_place, main_bytes, sub_bytes, shared_bytes, renderer_state_bytes, IsMain, MainFails, IsSub, SubFails, IsShared, SharedFails, IsPicture, RendererStateFails, HasLateFm, IsFm, FmFails, HasLatePsg, IsPsg, PsgFails}
 use Rattle.save_state.specs.Joining.{Either, KeepsBoth, Reads, both, placed, with_rule}

@@ -4,11 +4,11 @@ use Rattle.std.specs.Global.{Vec}
 use Rattle.std.specs.Prelude.{IfOk}
 use Rattle.md_word.specs.Clock.{last_cycle}
 use Rattle.md_word.specs.declared.event.Entry.{Entry}
-use Rattle.md_machine.specs.Console.{AllBelow, Console, IsRunTo, key_in, mover, power_on, ran}
-use Rattle.md_machine.specs.Machines.{MachineValue}
-use Rattle.md_machine.specs.Media.{Media, no_media}
-use Rattle.md_machine.specs.Starts.{Start}
-use Rattle.md_machine.proofs.Kept.{cart-stays}
+use Rattle.md_chips.specs.Console.{AllBelow, Console, IsRunTo, key_in, mover, power_on, ran}
+use Rattle.md_chips.specs.Machines.{MachineValue}
+use Rattle.md_chips.specs.Media.{Media, no_media}
+use Rattle.md_chips.specs.Starts.{Start}
+use Rattle.md_chips.proofs.Kept.{cart-stays}
 use Rattle.machine_laws.specs.Reached.{IsReached}
 use Rattle.save_state.specs.Ready.{IsReady}
 use Rattle.save_state.specs.States.{settled_console, state_bytes}

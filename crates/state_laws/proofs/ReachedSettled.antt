@@ -8,8 +8,8 @@ use Rattle.fm_port.specs.declared.timer.Timer.{Timer}
 use Rattle.fm_port.specs.declared.timers.Timers.{Timers}
 use Rattle.md_pads.specs.Recording.{IsFrame, Recorded}
 use Rattle.vdp_dma.proofs.Kept.{settled_kept}
-use Rattle.md_machine.specs.Console.{Console, IsQuiet, key_in}
-use Rattle.md_machine.specs.ValidParts.{HasValidParts}
+use Rattle.md_chips.specs.Console.{Console, IsQuiet, key_in}
+use Rattle.md_chips.specs.ValidParts.{HasValidParts}
 use Rattle.save_state.specs.States.{settled_console}
 use Rattle.machine_laws.specs.Processors.{IsValid}
 use Rattle.machine_laws.specs.Reached.{IsReached}

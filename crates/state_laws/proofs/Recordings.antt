@@ -7,9 +7,9 @@ use Rattle.z80_chip.specs.Events.{asked_of}
 use Rattle.z80_chip.specs.States.{next_of as sub_next_of}
 use Rattle.bus_shared.proofs.Touches.{left_by_batch, left_by_line, left_by_main, left_by_sub}
 use Rattle.bus_shared.specs.Fm.{fm_board}
-use Rattle.md_machine.specs.Console.{Console, fm_moved, line_moved, main_moved, moved, mover, psg_moved, ran, sub_moved}
-use Rattle.md_machine.specs.Movers.{mover-lt}
-use Rattle.md_machine.proofs.Moves.{five-each}
+use Rattle.md_chips.specs.Console.{Console, fm_moved, line_moved, main_moved, moved, mover, psg_moved, ran, sub_moved}
+use Rattle.md_chips.specs.Movers.{mover-lt}
+use Rattle.md_chips.proofs.Moves.{five-each}
 
 one_of : (b : Bool) (x y : Console) (recording : Recorded) → x.shared.recording ≡ recording → y.shared.recording ≡ recording → (cond b x y).shared.recording ≡ recording
 one_of true x y recording first second = first

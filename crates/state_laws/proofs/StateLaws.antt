@@ -4,11 +4,11 @@ use Rattle.std.specs.Prelude.{IfOk, IfSome}
 use Rattle.std.proofs.lemmas.Option.{same_Some}
 use Rattle.md_pads.specs.Recording.{Recorded}
 use Rattle.z80_chip.specs.States as states80
-use Rattle.md_machine.specs.Console.{Console, power_on}
-use Rattle.md_machine.specs.Machines.{MachineValue}
-use Rattle.md_machine.specs.Media.{no_media}
-use Rattle.md_machine.specs.Owners.{HasOneOwner}
-use Rattle.md_machine.specs.Starts.{Start}
+use Rattle.md_chips.specs.Console.{Console, power_on}
+use Rattle.md_chips.specs.Machines.{MachineValue}
+use Rattle.md_chips.specs.Media.{no_media}
+use Rattle.md_chips.specs.Owners.{HasOneOwner}
+use Rattle.md_chips.specs.Starts.{Start}
 use Rattle.state_laws.specs.declared.fault.ReplayFault.{ReplayFault}
 use Rattle.state_laws.specs.declared.fault.ReplayFault.TheVariants.{NoMemory}
 use Rattle.machine_laws.specs.Recorded.{with_recording}

@@ -23,9 +23,9 @@ use Rattle.fm_chip.specs.SynthSpelling as fm
 use Rattle.psg_sound.specs.SynthSpelling as psg
 use Rattle.psg_sound.proofs.PortBytes as psg_port_laws
 use Rattle.bus_shared.specs.Spelling as shared
-use Rattle.md_machine.specs.Console.{renderer_state_in}
-use Rattle.md_machine.specs.Machines.{MachineValue}
-use Rattle.md_machine.specs.Starts.{Start}
+use Rattle.md_chips.specs.Console.{renderer_state_in}
+use Rattle.md_chips.specs.Machines.{MachineValue}
+use Rattle.md_chips.specs.Starts.{Start}
 use Rattle.save_state.specs.declared.fault.StateFault.{StateFault}
 use Rattle.save_state.specs.declared.layout.Part.{Part}
 use Rattle.save_state.specs.declared.version.Version.{Version}

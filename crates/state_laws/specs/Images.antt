@@ -3,10 +3,10 @@
 use Rattle.std.specs.Prelude.{◌≡◌, ℕ, ◌≤◌, Bool, All, List, []}
 use Rattle.md_word.specs.Clock.{last_cycle}
 use Rattle.md_pads.specs.Recording.{IsFrame, Recorded}
-use Rattle.md_machine.specs.Console.{Console, power_on}
-use Rattle.md_machine.specs.Machines.{MachineValue}
-use Rattle.md_machine.specs.Media.{no_media}
-use Rattle.md_machine.specs.Starts.{Start}
+use Rattle.md_chips.specs.Console.{Console, power_on}
+use Rattle.md_chips.specs.Machines.{MachineValue}
+use Rattle.md_chips.specs.Media.{no_media}
+use Rattle.md_chips.specs.Starts.{Start}
 use Rattle.machine_laws.specs.Reached.{IsReached}
 use Rattle.save_state.specs.Layout.{state_size}
 use Rattle.save_state.specs.States.{settled_console, state_bytes}

@@ -1,7 +1,7 @@
 -- The machines that an image keeps, of which those of power-on have no saved state. This project's profile.
 use Rattle.std.specs.Prelude.{◌≡◌, ◌⊎◌, ℕ, false, List}
 use Rattle.md_pads.specs.Recording.{Recorded}
-use Rattle.md_machine.specs.Console.{Console, power_on}
+use Rattle.md_chips.specs.Console.{Console, power_on}
 use Rattle.save_state.specs.Ready.{IsReady}
 use Rattle.save_state.specs.States.{IsSaved}
 

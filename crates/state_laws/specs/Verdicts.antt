@@ -1,7 +1,7 @@
 -- What bytes are found to be as a saved state. This project's profile.
 use Rattle.std.specs.Prelude.{◌≡◌, ℕ, List}
 use Rattle.md_pads.specs.Recording.{Recorded}
-use Rattle.md_machine.specs.Starts.{Start}
+use Rattle.md_chips.specs.Starts.{Start}
 use Rattle.save_state.specs.Versions.{IsOtherCart, IsState, IsInvalidAt}
 
 -- a machine at a cycle, a state of another cartridge with both digests, or invalid at an offset

@@ -3,9 +3,9 @@
 ghost use Rattle.std.specs.Prelude.{◌≡◌, ℕ, ◌≤◌, List};
 ghost use Rattle.md_word.specs.Clock.{last_cycle};
 ghost use Rattle.md_word.specs.declared.event.Entry.{Entry};
-ghost use Rattle.md_machine.specs.Console.{Console, IsRunTo};
-ghost use Rattle.md_machine.specs.Machines.{MachineValue};
-ghost use Rattle.md_machine.specs.Media.{Media};
+ghost use Rattle.md_chips.specs.Console.{Console, IsRunTo};
+ghost use Rattle.md_chips.specs.Machines.{MachineValue};
+ghost use Rattle.md_chips.specs.Media.{Media};
 ghost use Rattle.state_laws.specs.Images.{HasImage, ImagesValue, Keeps, drained};
 
 use machine_laws::saved;

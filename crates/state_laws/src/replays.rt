@@ -1,7 +1,7 @@
 ghost use Rattle.std.specs.Prelude.{◌≡◌, ◌≢◌, ◌≤◌, ◌+◌, ◌++◌, ℕ, List, [], vec_len, vec_capacity, IfOk, Ok, Err};
 ghost use Rattle.std.specs.Arc.{arc_value};
 ghost use Rattle.md_word.specs.Clock.{last_cycle};
-ghost use Rattle.md_machine.specs.Media.{no_media};
+ghost use Rattle.md_chips.specs.Media.{no_media};
 ghost use Rattle.save_state.specs.States.{settled_console};
 ghost use Rattle.machine_laws.specs.Recorded.{with_recording};
 
@@ -15,7 +15,7 @@ use std::sync::Arc;
 /// Images of the machines of one cartridge. An image keeps a machine without its recording, as it is once fill,
 /// copy and timers are settled below its cycle; so it is read back with any recording.
 pub trait Replays: Drop {
-    ghost use Rattle.md_machine.specs.Console.{Console};
+    ghost use Rattle.md_chips.specs.Console.{Console};
 
     /// How many bytes an image has.
     ghost size: { Self → ℕ };

@@ -4,9 +4,9 @@
 ghost use Rattle.std.specs.Prelude.{◌≡◌, ℕ, ◌^◌, ◌≤◌, All, List};
 ghost use Rattle.md_word.specs.declared.event.Entry.{Entry};
 ghost use Rattle.md_pads.specs.Recording.{IsFrame, Recorded};
-ghost use Rattle.md_machine.specs.Console.{Console, IsQuiet, IsRunTo};
-ghost use Rattle.md_machine.specs.Media.{Media};
-ghost use Rattle.md_machine.specs.ValidParts.{HasValidParts};
+ghost use Rattle.md_chips.specs.Console.{Console, IsQuiet, IsRunTo};
+ghost use Rattle.md_chips.specs.Media.{Media};
+ghost use Rattle.md_chips.specs.ValidParts.{HasValidParts};
 ghost use Rattle.save_state.specs.States.{settled_console};
 ghost use Rattle.machine_laws.specs.Processors.{IsValid};
 ghost use Rattle.machine_laws.specs.Reached.{IsReached};

@@ -1,10 +1,10 @@
 ghost use Rattle.std.specs.Prelude.{◌≡◌, ◌≢◌, ◌≤◌, ℕ, false, [], length, IfOk, IfSome, Ok, Err, Some};
 ghost use Rattle.std.specs.Arc.{arc_value};
 ghost use Rattle.md_word.specs.Clock.{last_cycle};
-ghost use Rattle.md_machine.specs.Console.{power_on};
-ghost use Rattle.md_machine.specs.Media.{no_media};
-ghost use Rattle.md_machine.specs.Owners.{HasOneOwner};
-ghost use Rattle.md_machine.specs.Starts.{IsStart, Start};
+ghost use Rattle.md_chips.specs.Console.{power_on};
+ghost use Rattle.md_chips.specs.Media.{no_media};
+ghost use Rattle.md_chips.specs.Owners.{HasOneOwner};
+ghost use Rattle.md_chips.specs.Starts.{IsStart, Start};
 ghost use Rattle.save_state.specs.Layout.{state_size};
 ghost use Rattle.save_state.specs.Ready.{IsReady};
 ghost use Rattle.save_state.specs.States.{kept_bytes, settled_console, state_bytes};

@@ -3,7 +3,7 @@
 
 ghost use Rattle.std.specs.Prelude.{◌≡◌, ℕ, List};
 ghost use Rattle.md_fields.specs.Places.{IsBytes};
-ghost use Rattle.md_machine.specs.Starts.{Start};
+ghost use Rattle.md_chips.specs.Starts.{Start};
 ghost use Rattle.md_pads.specs.Recording.{Recorded};
 ghost use Rattle.save_state.specs.Versions.{IsState};
 ghost use Rattle.state_laws.specs.Verdicts.{IsStateVerdict, StateVerdict};

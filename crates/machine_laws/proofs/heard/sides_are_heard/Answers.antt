@@ -1,5 +1,5 @@
 use Rattle.std.proofs.Common.{arith}
-use Rattle.md_machine.specs.Console.{power_on}
+use Rattle.md_chips.specs.Console.{power_on}
 use Rattle.machine_laws.specs.Paces.{ArePaced}
 use Rattle.machine_laws.proofs.Levels.{HaveOwners, sides-heard}
 use Rattle.machine_laws.proofs.heard.sides_are_heard.Goals as goal

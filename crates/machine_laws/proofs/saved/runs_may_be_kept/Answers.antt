@@ -1,5 +1,5 @@
 use Rattle.std.proofs.Common.{arith}
-use Rattle.md_machine.specs.Console.{power_on}
+use Rattle.md_chips.specs.Console.{power_on}
 use Rattle.machine_laws.proofs.saved.runs_may_be_kept.Goals as goal
 
 pub returns : goal.returns

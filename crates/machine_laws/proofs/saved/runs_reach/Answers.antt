@@ -1,6 +1,6 @@
 use Rattle.std.proofs.Common.{sym, subst}
-use Rattle.md_machine.specs.ValidParts.{HasValidParts}
-use Rattle.md_machine.specs.Starts.{Start}
+use Rattle.md_chips.specs.ValidParts.{HasValidParts}
+use Rattle.md_chips.specs.Starts.{Start}
 use Rattle.machine_laws.proofs.saved.runs_reach.Goals as goal
 
 pub returns : goal.returns

@@ -5,7 +5,7 @@ use Rattle.vdp_chip.specs.Spelling as renderer_states
 use Rattle.fm_port.specs.PortSpelling as fm_port
 use Rattle.psg_sound.specs.PortSpelling as psg_port
 use Rattle.bus_shared.specs.Spelling as boards
-use Rattle.md_machine.specs.Console.{renderer_state_in}
+use Rattle.md_chips.specs.Console.{renderer_state_in}
 use Rattle.machine_laws.proofs.saved.states_are_reached.Goals as goal
 
 pub returns : goal.returns

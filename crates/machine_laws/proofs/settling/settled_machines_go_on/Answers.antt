@@ -1,6 +1,6 @@
 use Rattle.std.proofs.Common.{sym, arith}
-use Rattle.md_machine.specs.Console.{mover, ran}
-use Rattle.md_machine.specs.Movers.{mover-lt}
+use Rattle.md_chips.specs.Console.{mover, ran}
+use Rattle.md_chips.specs.Movers.{mover-lt}
 use Rattle.save_state.specs.States.{settled_console}
 use Rattle.machine_laws.proofs.SettledMoves.{console-again}
 use Rattle.machine_laws.proofs.SettledRuns.{settled-goes-on}

@@ -1,5 +1,5 @@
 use Rattle.std.proofs.Common.{subst, sym}
-use Rattle.md_machine.specs.Console.{Console}
+use Rattle.md_chips.specs.Console.{Console}
 use Rattle.machine_laws.specs.Timers.{HasTimers}
 use Rattle.machine_laws.proofs.Timing.{timers-kept}
 use Rattle.machine_laws.proofs.timers.timers_are_kept.Goals as goal

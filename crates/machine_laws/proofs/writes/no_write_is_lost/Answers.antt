@@ -2,8 +2,8 @@ use Rattle.std.proofs.Common.{◌≡◌, ℕ, Bool, ◌⊎◌, inl, inr, List, s
 use Rattle.fm_port.specs.PortSpelling as fm_port
 use Rattle.psg_sound.specs.PortSpelling as psg_port
 use Rattle.md_pads.specs.Recording.{Recorded}
-use Rattle.md_machine.specs.Console.{power_on}
-use Rattle.md_machine.specs.Starts.{IsStart, Start}
+use Rattle.md_chips.specs.Console.{power_on}
+use Rattle.md_chips.specs.Starts.{IsStart, Start}
 use Rattle.save_state.specs.Versions.{IsState}
 use Rattle.machine_laws.specs.Writes.{HasWrites, IsBeginning}
 use Rattle.machine_laws.proofs.writes.no_write_is_lost.Goals as goal

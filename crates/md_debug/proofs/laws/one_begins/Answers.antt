@@ -1,4 +1,4 @@
-use Rattle.md_machine.proofs.QuietStays.{keys-rise}
+use Rattle.md_chips.proofs.QuietStays.{keys-rise}
 use Rattle.md_debug.proofs.Begun.{Known, one-has-begun}
 use Rattle.md_debug.proofs.laws.one_begins.Goals as goal
 

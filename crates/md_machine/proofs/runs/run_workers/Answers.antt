@@ -1,5 +1,5 @@
 use Rattle.std.proofs.Common.{arith}
-use Rattle.md_machine.proofs.Regions.{run_stays}
+use Rattle.md_chips.proofs.Regions.{run_stays}
 use Rattle.md_machine.proofs.runs.run_workers.Goals as goal
 
 pub run_core-requires-clause-room : goal.run_core-requires-clause-room

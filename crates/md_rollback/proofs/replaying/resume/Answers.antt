@@ -1,7 +1,7 @@
 use Rattle.std.proofs.Common.{◌*◌, ◌∙◌, ap, []}
 use Rattle.std.specs.Arc.{arc_value}
 use Rattle.md_pads.specs.declared.version.Version.{Version}
-use Rattle.md_machine.specs.Media.{no_media}
+use Rattle.md_chips.specs.Media.{no_media}
 use Rattle.machine_laws.specs.Recorded.{with_recording}
 use Rattle.save_state.specs.States.{settled_console}
 use Rattle.md_word.specs.Clock.{frame}

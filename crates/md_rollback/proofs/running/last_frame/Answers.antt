@@ -1,6 +1,6 @@
 use Rattle.std.proofs.Common.{◌∙◌, ap}
 use Rattle.sha2.specs.Sha256.{sha256}
-use Rattle.md_machine.specs.Machines.{MachineValue}
+use Rattle.md_chips.specs.Machines.{MachineValue}
 use Rattle.save_state.specs.States.{state_bytes}
 use Rattle.md_rollback.proofs.running.last_frame.Goals as goal
 

@@ -1,5 +1,5 @@
 use Rattle.std.proofs.Common.{◌∙◌, ap, arith}
-use Rattle.md_machine.specs.Starts.{Start}
+use Rattle.md_chips.specs.Starts.{Start}
 use Rattle.md_top.proofs.demo.begin_demo.Goals as goal
 
 pub begin-requires-clause-near : goal.begin-requires-clause-near

@@ -1,6 +1,6 @@
 use Rattle.std.proofs.Common.{rules, ◌≡◌, ◌∙◌, ℕ, Bool, Option, ap₂, sym, subst, arith}
 use Rattle.md_machine.specs.Outputs.{frames_bytes, journal_bytes, sound_bytes}
-use Rattle.md_machine.specs.Starts.{Start}
+use Rattle.md_chips.specs.Starts.{Start}
 use Rattle.md_top.specs.Courses.{cycle_of, start_in}
 use Rattle.md_top.specs.Counts.{frames_between}
 use Rattle.md_top.specs.Demos.{HaveUntil, digests_from}

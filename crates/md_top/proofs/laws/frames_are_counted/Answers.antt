@@ -1,5 +1,5 @@
 use Rattle.std.proofs.Common.{◌∙◌, arith}
-use Rattle.md_machine.specs.Starts.{Start}
+use Rattle.md_chips.specs.Starts.{Start}
 use Rattle.md_top.specs.Courses.{start_at}
 use Rattle.md_top.specs.Runs.{entries_from, media_from, run_from}
 use Rattle.md_top.proofs.Counts.{frames-left}

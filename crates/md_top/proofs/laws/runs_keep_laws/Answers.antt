@@ -1,4 +1,4 @@
-use Rattle.md_machine.specs.Starts.{Start}
+use Rattle.md_chips.specs.Starts.{Start}
 use Rattle.md_top.specs.Courses.{start_at}
 use Rattle.md_top.proofs.laws.runs_keep_laws.Goals as goal
 

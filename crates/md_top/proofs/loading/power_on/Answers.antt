@@ -2,10 +2,10 @@ use Rattle.std.proofs.Common.{◌≡◌, [], List, ℕ, Bool, refl, subst, sym}
 use Rattle.std.specs.Arc.{arc_value}
 use Rattle.std.proofs.lemmas.Result.{IfOk-weaker}
 use Rattle.md_pads.specs.Recording.{Recorded}
-use Rattle.md_machine.specs.Console.{power_on}
-use Rattle.md_machine.specs.Machines.{MachineValue}
-use Rattle.md_machine.specs.Media.{no_media}
-use Rattle.md_machine.specs.Starts.{IsStart}
+use Rattle.md_chips.specs.Console.{power_on}
+use Rattle.md_chips.specs.Machines.{MachineValue}
+use Rattle.md_chips.specs.Media.{no_media}
+use Rattle.md_chips.specs.Starts.{IsStart}
 use Rattle.machine_laws.specs.Reached.{IsReached}
 use Rattle.md_top.specs.Courses.{IsFresh}
 use Rattle.md_top.specs.declared.inputs.Inputs.{Inputs}

@@ -1,6 +1,6 @@
 use Rattle.std.proofs.Common.{◌≡◌, List, ℕ, ◌++◌, ap, ◌∙◌, arith}
 use Rattle.md_files.specs.Wav.{wav_head}
-use Rattle.md_machine.specs.Starts.{Start}
+use Rattle.md_chips.specs.Starts.{Start}
 use Rattle.md_top.specs.Courses.{start_in}
 use Rattle.md_top.specs.Counts.{pairs_between}
 use Rattle.md_top.specs.Outputs.{nothing}

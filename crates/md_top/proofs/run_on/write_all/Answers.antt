@@ -1,5 +1,5 @@
 use Rattle.std.proofs.Common.{◌≡◌, ap, subst, sym}
-use Rattle.md_machine.specs.Starts.{Start}
+use Rattle.md_chips.specs.Starts.{Start}
 use Rattle.md_top.specs.Courses.{start_at, start_in}
 use Rattle.md_top.specs.CommandOutcomes.{HoldsUntil, RunCause, RunLeaves}
 use Rattle.md_args.specs.Shown.{shown_run}

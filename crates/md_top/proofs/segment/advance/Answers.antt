@@ -1,14 +1,14 @@
 use Rattle.std.proofs.Common.{◌≡◌, ℕ, ◌+◌, ◌-◌, ◌/◌, ◌≤◌, ◌*◌, Bool, List, [], ◌++◌, length, length-append, sym, ap, subst, ◌∙◌, arith}
-use Rattle.md_machine.specs.Machines.{MachineValue}
+use Rattle.md_chips.specs.Machines.{MachineValue}
 use Rattle.std.specs.Prelude.{vec_capacity}
 use Rattle.md_machine.specs.Outputs.{frame_length, frames_bytes, journal_bytes, sound_bytes}
-use Rattle.md_machine.specs.Media.{Media, no_media}
-use Rattle.md_machine.specs.Regions.{most_entries, most_pairs}
-use Rattle.md_machine.specs.Starts.{Start}
+use Rattle.md_chips.specs.Media.{Media, no_media}
+use Rattle.md_chips.specs.Regions.{most_entries, most_pairs}
+use Rattle.md_chips.specs.Starts.{Start}
 use Rattle.md_top.specs.Courses.{CameFrom, cycle_of}
 use Rattle.md_top.specs.Runs.{entries_from, media_from}
 use Rattle.md_top.specs.Workers.{WentOn}
-use Rattle.md_machine.proofs.Regions.{run_stays}
+use Rattle.md_chips.proofs.Regions.{run_stays}
 use Rattle.md_top.proofs.Segments.{Segment, segment-came, entries-fit, frame-room, frames_bytes-append, journal_bytes-append, paired, segment_made, sound_bytes-append}
 use Rattle.md_top.proofs.segment.advance.Goals as goal
 

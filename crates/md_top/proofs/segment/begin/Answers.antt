@@ -1,6 +1,6 @@
 use Rattle.std.proofs.Common.{◌≡◌, [], sym, subst, arith}
-use Rattle.md_machine.specs.Machines.{MachineValue}
-use Rattle.md_machine.specs.Media.{no_media}
+use Rattle.md_chips.specs.Machines.{MachineValue}
+use Rattle.md_chips.specs.Media.{no_media}
 use Rattle.md_top.specs.Courses.{CameTo, start_at}
 use Rattle.md_top.proofs.Heard.{runs-heard}
 use Rattle.md_top.proofs.Segments.{at-start}

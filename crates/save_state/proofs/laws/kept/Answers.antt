@@ -2,7 +2,7 @@ use Rattle.std.proofs.Common.{ℕ, subst}
 use Rattle.m68k_chip.specs.Validity.{Chip68Value}
 use Rattle.z80_chip.specs.Validity.{Chip80Value}
 use Rattle.bus_shared.specs.Board.{Board}
-use Rattle.md_machine.specs.Console.{Console, renderer_state_in}
+use Rattle.md_chips.specs.Console.{Console, renderer_state_in}
 use Rattle.save_state.proofs.ReadyLaws.{BoardKept, RendererStateKept, FmKept, MainKept, PsgKept, SubKept, renderer_state_in-kept, state_kept}
 use Rattle.save_state.specs.States.{settled_console, state_bytes}
 use Rattle.save_state.proofs.VersionLaws.{newest_state}

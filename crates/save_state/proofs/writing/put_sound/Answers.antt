@@ -4,8 +4,8 @@ use Rattle.fm_chip.specs.Synth as fm_synths
 use Rattle.fm_chip.specs.SynthSpelling as fm
 use Rattle.psg_sound.specs.Synth as psg_synths
 use Rattle.psg_sound.specs.SynthSpelling as psg
-use Rattle.md_machine.specs.Console.{Console}
-use Rattle.md_machine.specs.Starts as starts
+use Rattle.md_chips.specs.Console.{Console}
+use Rattle.md_chips.specs.Starts as starts
 use Rattle.save_state.specs.Layout.{fm_port_there, lines_there, part_of, psg_port_there}
 use Rattle.save_state.proofs.WriteLaws.{seven}
 use Rattle.save_state.proofs.writing.put_sound.Goals as goal

@@ -1,6 +1,6 @@
 use Rattle.std.proofs.Common.{◌≡◌, ◌++◌, ◌∷◌, [], ℕ, List, length, is_some, ap, ◌∙◌, arith}
 use Rattle.bus_shared.specs.Board.{Board}
-use Rattle.md_machine.specs.Console.{Console}
+use Rattle.md_chips.specs.Console.{Console}
 use Rattle.save_state.specs.States.{holder_of, number_bytes, own_bytes}
 use Rattle.save_state.proofs.Parts.{size_left}
 use Rattle.save_state.proofs.WriteLaws.{holder_byte, own_cut, own_few, three}

@@ -1,7 +1,7 @@
 use Rattle.std.proofs.Common.{◌∙◌, ◌++◌, length, ap, arith}
 use Rattle.m68k_chip.specs.Validity.{Chip68Value}
 use Rattle.m68k_chip.specs.Spelling as main
-use Rattle.md_machine.specs.Console.{Console}
+use Rattle.md_chips.specs.Console.{Console}
 use Rattle.save_state.proofs.WriteLaws.{after_long, own_room, owner_room, written}
 use Rattle.save_state.proofs.writing.spell.Goals as goal
 

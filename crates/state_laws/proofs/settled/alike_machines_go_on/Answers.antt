@@ -1,6 +1,6 @@
 use Rattle.std.proofs.Common.{arith}
-use Rattle.md_machine.specs.Console.{mover, ran}
-use Rattle.md_machine.specs.Movers.{mover-lt}
+use Rattle.md_chips.specs.Console.{mover, ran}
+use Rattle.md_chips.specs.Movers.{mover-lt}
 use Rattle.machine_laws.proofs.SettledRuns.{settled-goes-on}
 use Rattle.state_laws.proofs.settled.alike_machines_go_on.Goals as goal
 

@@ -1,7 +1,7 @@
 use Rattle.std.proofs.Common.{◌≡◌, ◌≤◌, ◌∙◌, sym, ap, subst, arith}
-use Rattle.md_machine.specs.Console.{Console, IsRunTo}
-use Rattle.md_machine.specs.Machines.{MachineValue}
-use Rattle.md_machine.specs.Starts.{IsStart}
+use Rattle.md_chips.specs.Console.{Console, IsRunTo}
+use Rattle.md_chips.specs.Machines.{MachineValue}
+use Rattle.md_chips.specs.Starts.{IsStart}
 use Rattle.md_debug.specs.Going.{start_of}
 use Rattle.md_debug.proofs.debuggee.Debuggee.reach.Goals as goal
 

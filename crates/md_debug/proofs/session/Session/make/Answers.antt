@@ -1,5 +1,5 @@
 use Rattle.std.proofs.Common.{List, ℕ, length, sym, ap, subst, ◌∙◌}
-use Rattle.md_machine.specs.Machines.{MachineValue}
+use Rattle.md_chips.specs.Machines.{MachineValue}
 use Rattle.md_debug.proofs.Kept.{session_made}
 use Rattle.md_debug.proofs.session.Session.make.Goals as goal
 

@@ -1,13 +1,13 @@
 use Rattle.std.proofs.Common.{◌≡◌, ap, ◌∙◌, lit<, sym, subst, ℕ, Bool, List, length, ◌≤◌, ◌*◌, ◌+◌, ◌++◌, IfSome}
 use Rattle.std.specs.Prelude.{option_copied, vec_len, vec_capacity}
 use Rattle.md_word.specs.Region.{picture_length}
-use Rattle.md_machine.specs.Drained.{frame_of}
-use Rattle.md_machine.specs.Lines.{frames_of}
-use Rattle.md_machine.specs.Machines.{MachineValue}
+use Rattle.md_chips.specs.Drained.{frame_of}
+use Rattle.md_chips.specs.Lines.{frames_of}
+use Rattle.md_chips.specs.Machines.{MachineValue}
 use Rattle.md_machine.specs.Outputs.{frame_length, frames_bytes}
-use Rattle.md_machine.specs.Refinement.{console_of, renderer_of}
-use Rattle.md_machine.specs.declared.chips.Chip.{Chip}
-use Rattle.md_machine.proofs.Held.{read-chip}
+use Rattle.md_chips.specs.Refinement.{console_of, renderer_of}
+use Rattle.md_chips.specs.declared.chips.Chip.{Chip}
+use Rattle.md_chips.proofs.Held.{read-chip}
 use Rattle.md_machine.proofs.machine.Machine.drain_frames.Goals as goal
 
 pub put_frames-requires-clause-size : goal.put_frames-requires-clause-size

@@ -1,8 +1,8 @@
 use Rattle.std.proofs.Common.{ap, ◌∙◌, ◌++◌, lit<}
-use Rattle.md_machine.specs.Drained.{levels_of, sides_of}
-use Rattle.md_machine.specs.Machines.{MachineValue}
+use Rattle.md_chips.specs.Drained.{levels_of, sides_of}
+use Rattle.md_chips.specs.Machines.{MachineValue}
 use Rattle.md_machine.specs.Outputs.{mixed_bytes, sound_bytes}
-use Rattle.md_machine.proofs.Held.{read-chip}
+use Rattle.md_chips.proofs.Held.{read-chip}
 use Rattle.md_machine.proofs.machine.Machine.drain_pairs.Goals as goal
 
 pub returns-clause-bytes : goal.returns-clause-bytes

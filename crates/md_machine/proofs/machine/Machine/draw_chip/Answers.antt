@@ -1,10 +1,10 @@
 use Rattle.std.proofs.Common.{ap, ◌∙◌, lit<}
 use Rattle.vdp_chip.specs.RendererState.{RendererState}
-use Rattle.md_machine.specs.Machines.{MachineValue}
-use Rattle.md_machine.specs.Refinement.{console_of, renderer_of}
-use Rattle.md_machine.specs.Rules.{next}
-use Rattle.md_machine.specs.declared.chips.Chip.{Chip}
-use Rattle.md_machine.proofs.Held.{read-chip}
+use Rattle.md_chips.specs.Machines.{MachineValue}
+use Rattle.md_chips.specs.Refinement.{console_of, renderer_of}
+use Rattle.md_chips.specs.Rules.{next}
+use Rattle.md_chips.specs.declared.chips.Chip.{Chip}
+use Rattle.md_chips.proofs.Held.{read-chip}
 use Rattle.md_machine.proofs.machine.Machine.draw_chip.Goals as goal
 
 pub renderer_in-requires : goal.renderer_in-requires

@@ -1,10 +1,10 @@
 use Rattle.std.proofs.Common.{subst, sym, Option, Some}
 use Rattle.chip_core.specs.Cores.{CoreValue}
 use Rattle.bus_shared.specs.Board.{Board}
-use Rattle.md_machine.specs.Machines.{IsMachine}
-use Rattle.md_machine.specs.declared.chips.Chip.{Chip}
+use Rattle.md_chips.specs.Machines.{IsMachine}
+use Rattle.md_chips.specs.declared.chips.Chip.{Chip}
 use Rattle.md_machine.specs.declared.machine.Machine.TheInside.{Inside}
-use Rattle.md_machine.proofs.Emptied.{machine-with_emptied}
+use Rattle.md_chips.proofs.Emptied.{machine-with_emptied}
 use Rattle.md_machine.proofs.machine.Machine.empty.Goals.{in-Some, in_default}
 use Rattle.md_machine.proofs.machine.Machine.empty.Goals as goal
 

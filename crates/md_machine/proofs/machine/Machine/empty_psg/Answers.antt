@@ -1,4 +1,4 @@
-use Rattle.md_machine.proofs.Emptied.{with_emptied-psg}
+use Rattle.md_chips.proofs.Emptied.{with_emptied-psg}
 use Rattle.md_machine.proofs.machine.Machine.empty_psg.Goals as goal
 
 pub returns : goal.returns

@@ -1,4 +1,4 @@
-use Rattle.md_machine.proofs.Emptied.{with_emptied-renderer}
+use Rattle.md_chips.proofs.Emptied.{with_emptied-renderer}
 use Rattle.md_machine.proofs.machine.Machine.empty_renderer.Goals as goal
 
 pub returns : goal.returns

@@ -2,13 +2,13 @@ use Rattle.std.proofs.Common.{ℕ, ◌≤◌, ◌+◌, ◌-◌, subst, arith}
 use Rattle.md_word.specs.Clock.{cycle_limit}
 use Rattle.chip_core.specs.Cores.{CoreValue, machine_of}
 use Rattle.chip_core.specs.Machines.{AllBelow, IsValid, Machine}
-use Rattle.md_machine.specs.Console as consoles
-use Rattle.md_machine.specs.Machines.{MachineValue, core_held}
+use Rattle.md_chips.specs.Console as consoles
+use Rattle.md_chips.specs.Machines.{MachineValue, core_held}
 use Rattle.bus_shared.specs.Board.{Board, IsBoard}
-use Rattle.md_machine.specs.Refinement.{console_of}
-use Rattle.md_machine.specs.Rules.{IsChip, five}
-use Rattle.md_machine.specs.declared.chips.Chip.{Chip}
-use Rattle.md_machine.proofs.Segments.{below-lift, moves-few}
+use Rattle.md_chips.specs.Refinement.{console_of}
+use Rattle.md_chips.specs.Rules.{IsChip, five}
+use Rattle.md_chips.specs.declared.chips.Chip.{Chip}
+use Rattle.md_chips.proofs.Segments.{below-lift, moves-few}
 use Rattle.md_machine.proofs.machine.Machine.few_events.Goals as goal
 
 pub returns : goal.returns

@@ -3,14 +3,14 @@ use Rattle.md_word.specs.declared.key.Key.{Key}
 use Rattle.chip_core.specs.Cores as cores
 use Rattle.chip_core.specs.Machines as machines
 use Rattle.chip_core.specs.Machines.{IsValid, Machine, least_below}
-use Rattle.md_machine.specs.Console.{key_in, mover}
-use Rattle.md_machine.specs.Machines.{MachineValue}
+use Rattle.md_chips.specs.Console.{key_in, mover}
+use Rattle.md_chips.specs.Machines.{MachineValue}
 use Rattle.bus_shared.specs.Board.{Board, IsBoard}
-use Rattle.md_machine.specs.Refinement.{console_of}
-use Rattle.md_machine.specs.Rules.{IsChip, five}
-use Rattle.md_machine.specs.declared.chips.Chip.{Chip}
-use Rattle.md_machine.proofs.Lifts.{mover-same}
-use Rattle.md_machine.proofs.Moves.{key-same}
+use Rattle.md_chips.specs.Refinement.{console_of}
+use Rattle.md_chips.specs.Rules.{IsChip, five}
+use Rattle.md_chips.specs.declared.chips.Chip.{Chip}
+use Rattle.md_chips.proofs.Lifts.{mover-same}
+use Rattle.md_chips.proofs.Moves.{key-same}
 use Rattle.md_machine.proofs.machine.Machine.first_key.Goals as goal
 
 pub returns-clause-key : goal.returns-clause-key

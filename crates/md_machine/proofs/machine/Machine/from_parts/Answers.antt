@@ -1,13 +1,13 @@
-use Rattle.md_machine.specs.Regions.{most_entries}
+use Rattle.md_chips.specs.Regions.{most_entries}
 use Rattle.std.proofs.Common.{◌≡◌, ◌≤◌, Bool, ℕ, ◌<◌, List, Some, subst, sym, ◌∙◌, ap}
 use Rattle.std.specs.Prelude.{vec_capacity}
 use Rattle.chip_core.specs.Cores.{CoreValue, chip_in}
-use Rattle.md_machine.specs.Assembled.{Assembly, bounds_of}
+use Rattle.md_chips.specs.Assembled.{Assembly, bounds_of}
 use Rattle.bus_shared.specs.Board.{Board}
-use Rattle.md_machine.specs.Machines.{IsMachine, machine_at}
-use Rattle.md_machine.specs.Rules.{IsChip, five}
-use Rattle.md_machine.specs.declared.chips.Chip.{Chip}
-use Rattle.md_machine.proofs.Assembled.{assembled-machine, assembled-value}
+use Rattle.md_chips.specs.Machines.{IsMachine, machine_at}
+use Rattle.md_chips.specs.Rules.{IsChip, five}
+use Rattle.md_chips.specs.declared.chips.Chip.{Chip}
+use Rattle.md_chips.proofs.Assembled.{assembled-machine, assembled-value}
 use Rattle.md_machine.proofs.machine.Machine.from_parts.Goals as goal
 
 -- the journal has the room that was asked for

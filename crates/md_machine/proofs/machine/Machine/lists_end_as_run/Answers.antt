@@ -3,14 +3,14 @@ use Rattle.md_word.specs.declared.key.Key.{Key}
 use Rattle.bus_shared.specs.Board.{Board, IsBoard}
 use Rattle.chip_core.specs.Cores.{CoreValue, machine_of}
 use Rattle.chip_core.specs.Machines.{IsValid, Machine}
-use Rattle.md_machine.specs.Lists.{ListsEndAsRun}
-use Rattle.md_machine.specs.Machines.{MachineValue, core_held}
-use Rattle.md_machine.specs.Refinement.{console_of}
-use Rattle.md_machine.specs.Rules.{IsChip, five}
-use Rattle.md_machine.specs.declared.chips.Chip.{Chip}
-use Rattle.md_machine.proofs.Moves.{key-same}
-use Rattle.md_machine.proofs.Schedules.{CoreLaws, lists-end}
-use Rattle.md_machine.proofs.ValidParts.{parts_in}
+use Rattle.md_chips.specs.Lists.{ListsEndAsRun}
+use Rattle.md_chips.specs.Machines.{MachineValue, core_held}
+use Rattle.md_chips.specs.Refinement.{console_of}
+use Rattle.md_chips.specs.Rules.{IsChip, five}
+use Rattle.md_chips.specs.declared.chips.Chip.{Chip}
+use Rattle.md_chips.proofs.Moves.{key-same}
+use Rattle.md_chips.proofs.Schedules.{CoreLaws, lists-end}
+use Rattle.md_chips.proofs.ValidParts.{parts_in}
 use Rattle.md_machine.proofs.machine.Machine.lists_end_as_run.Goals as goal
 
 pub returns : goal.returns

@@ -2,9 +2,9 @@ use Rattle.std.proofs.Common.{◌≡◌, ◌∙◌, ap, subst, sym, Option, Some
 use Rattle.std.specs.Arc.{arc_value}
 use Rattle.chip_core.specs.Cores.{CoreValue}
 use Rattle.bus_shared.specs.Board.{Board}
-use Rattle.md_machine.specs.Machines.{IsMachine, core_held, machine_at}
-use Rattle.md_machine.specs.declared.chips.Chip.{Chip}
-use Rattle.md_machine.proofs.Recorded.{machine-still, machine_with, value-with}
+use Rattle.md_chips.specs.Machines.{IsMachine, core_held, machine_at}
+use Rattle.md_chips.specs.declared.chips.Chip.{Chip}
+use Rattle.md_chips.proofs.Recorded.{machine-still, machine_with, value-with}
 use Rattle.md_machine.proofs.machine.Machine.set_recording.Goals.{in-Some-1, in-None-3}
 use Rattle.md_machine.proofs.machine.Machine.set_recording.Goals as goal
 

@@ -1,6 +1,6 @@
 use Rattle.std.proofs.Common.{ap, ◌∙◌}
-use Rattle.md_machine.specs.Machines.{MachineValue}
-use Rattle.md_machine.specs.Refinement.{console_of}
+use Rattle.md_chips.specs.Machines.{MachineValue}
+use Rattle.md_chips.specs.Refinement.{console_of}
 use Rattle.md_machine.proofs.machine.Machine.shared.Goals as goal
 
 pub returns : goal.returns

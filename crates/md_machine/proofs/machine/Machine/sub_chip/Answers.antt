@@ -1,9 +1,9 @@
 use Rattle.std.proofs.Common.{ap, ◌∙◌, lit<}
-use Rattle.md_machine.specs.Machines.{MachineValue}
-use Rattle.md_machine.specs.Refinement.{console_of, sub_of}
-use Rattle.md_machine.specs.Rules.{next}
-use Rattle.md_machine.specs.declared.chips.Chip.{Chip}
-use Rattle.md_machine.proofs.Held.{read-chip}
+use Rattle.md_chips.specs.Machines.{MachineValue}
+use Rattle.md_chips.specs.Refinement.{console_of, sub_of}
+use Rattle.md_chips.specs.Rules.{next}
+use Rattle.md_chips.specs.declared.chips.Chip.{Chip}
+use Rattle.md_chips.proofs.Held.{read-chip}
 use Rattle.md_machine.proofs.machine.Machine.sub_chip.Goals as goal
 
 pub sub_in-requires : goal.sub_in-requires

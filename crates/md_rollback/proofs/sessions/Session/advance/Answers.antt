@@ -1,7 +1,7 @@
 use Rattle.std.proofs.Common.{◌≡◌, ◌∙◌, ◌+◌, ◌<◌, ◌≤◌, ap, sym, subst, List, ℕ, length, take, drop, arith}
 use Rattle.std.proofs.lemmas.List.{length-take}
 use Rattle.md_pads.specs.Recording.{Frame, IsRecording, recording_of}
-use Rattle.md_machine.specs.Machines.{MachineValue}
+use Rattle.md_chips.specs.Machines.{MachineValue}
 use Rattle.md_rollback.specs.Images.{AreImagesBelow, Kept, ReachBackTo, image_at}
 use Rattle.md_rollback.specs.Inputs.{expected_frames, frame_at}
 use Rattle.md_rollback.proofs.Expected.{frames-long}

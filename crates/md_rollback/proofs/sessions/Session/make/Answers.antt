@@ -1,8 +1,8 @@
 use Rattle.std.proofs.Common.{◌≡◌, ◌∙◌, ◌∷◌, [], ap, sym, subst, false, List, ℕ}
 use Rattle.std.proofs.lemmas.List.Elements.{All-nil}
 use Rattle.md_pads.specs.Recording.{Frame, IsFrame, no_frames}
-use Rattle.md_machine.specs.Console.{power_on}
-use Rattle.md_machine.specs.Machines.{MachineValue}
+use Rattle.md_chips.specs.Console.{power_on}
+use Rattle.md_chips.specs.Machines.{MachineValue}
 use Rattle.machine_laws.specs.Reached.{IsReached}
 use Rattle.save_state.specs.States.{settled_console}
 use Rattle.md_rollback.specs.Images.{Kept}

@@ -1,8 +1,8 @@
 use Rattle.std.proofs.Common.{◌≡◌, List, ℕ, subst}
 use Rattle.std.specs.Prelude.{IfOk}
 use Rattle.std.specs.Arc.{arc_value}
-use Rattle.md_machine.specs.Console.{power_on}
-use Rattle.md_machine.specs.Machines.{MachineValue}
+use Rattle.md_chips.specs.Console.{power_on}
+use Rattle.md_chips.specs.Machines.{MachineValue}
 use Rattle.machine_laws.specs.Reached.{IsReached}
 use Rattle.state_laws.specs.Images.{HasImage, ImagesValue, first_of}
 use Rattle.state_laws.proofs.Machines.{first_has}

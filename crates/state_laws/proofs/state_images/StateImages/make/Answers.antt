@@ -1,5 +1,5 @@
 use Rattle.std.proofs.Common.{ap, ◌∙◌}
-use Rattle.md_machine.specs.Machines.{MachineValue}
+use Rattle.md_chips.specs.Machines.{MachineValue}
 use Rattle.save_state.specs.States.{state_bytes}
 use Rattle.state_laws.proofs.state_images.StateImages.make.Goals as goal
 

@@ -2,9 +2,9 @@ use Rattle.std.proofs.Common.{◌≡◌, List, [], ℕ, Ok, true, ap, sym, subst
 use Rattle.std.specs.Arc.{arc_value}
 use Rattle.std.specs.Prelude.{All}
 use Rattle.md_pads.specs.Recording.{IsFrame, Recorded}
-use Rattle.md_machine.specs.Machines.{MachineValue}
-use Rattle.md_machine.specs.Media.{no_media}
-use Rattle.md_machine.specs.Starts.{IsStart}
+use Rattle.md_chips.specs.Machines.{MachineValue}
+use Rattle.md_chips.specs.Media.{no_media}
+use Rattle.md_chips.specs.Starts.{IsStart}
 use Rattle.save_state.specs.Versions.{IsState}
 use Rattle.state_laws.specs.Images.{ImagesValue, first, first_of, image_of, start_of}
 use Rattle.state_laws.proofs.StateLaws.{none-read, read-some, some-read}

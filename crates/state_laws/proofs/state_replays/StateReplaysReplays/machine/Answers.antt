@@ -1,7 +1,7 @@
 use Rattle.std.proofs.Common.{◌≡◌, [], Ok, ap, inr}
 use Rattle.std.specs.Arc.{arc_value}
-use Rattle.md_machine.specs.Machines.{MachineValue}
-use Rattle.md_machine.specs.Media.{no_media}
+use Rattle.md_chips.specs.Machines.{MachineValue}
+use Rattle.md_chips.specs.Media.{no_media}
 use Rattle.save_state.specs.Versions.{IsState}
 use Rattle.state_laws.proofs.StateLaws.{found-first, newest-by-size, none-read, only-long, only-read, only-refused, read-some, some-read}
 use Rattle.state_laws.proofs.state_replays.StateReplaysReplays.machine.Goals as goal

@@ -1,0 +1,11 @@
+use Rattle.std.proofs.Common.{subst, sym}
+use Rattle.md_word.specs.declared.main_bus.Answer68.{Answer68}
+use Rattle.md_word.specs.declared.main_bus.Request68.{Request68}
+use Rattle.m68k_chip.specs.Validity.{Fits}
+use Rattle.md_chips.specs.Laws.{answer-fits}
+use Rattle.md_chips.proofs.chips.main.MainChip.access.Goals as goal
+
+pub answer-requires-clause-fits : goal.answer-requires-clause-fits
+answer-requires-clause-fits c =
+    subst (λ (request : Request68). Fits request c.carry_out_main.result.0) c.request.ensures
+    (subst (λ (answer : Answer68). Fits c.request.result answer) (sym c.carry_out_main.ensures.answer) (answer-fits c.args.shared.now c.next.result.key c.request.result c.known.ensures))

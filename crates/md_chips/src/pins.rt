@@ -1,0 +1,45 @@
+ghost use Rattle.std.specs.Prelude.{◌≡◌};
+ghost use Rattle.md_chips.specs.Pins as shown;
+
+use md_word::{Pins68, Pins80};
+
+/// The input pins of one chip.
+#[derive(Clone, Copy, Drop)]
+pub enum Pins {
+    /// Of the 68000; the other chips but the Z80 do not look at theirs.
+    Main(Pins68),
+    /// Of the Z80.
+    Sub(Pins80),
+}
+
+/// What the Z80's pins are taken for where there are none.
+const NONE: Pins80 = Pins80 {
+    request: false,
+    reset: false,
+    resets: 0,
+    int_from: 0,
+    int_to: 0,
+};
+
+impl Pins {
+    /// The pins of the 68000; where they are the Z80's, none is asked for.
+    pub(crate) fn main(&self) -> Pins68
+        ensures { result.level ≡ shown.level_in self.now }
+    {
+        match self {
+            Pins::Main(pins) => *pins,
+            Pins::Sub(_) => Pins68 { level: 0 },
+        }
+    }
+
+    /// The pins of the Z80; where they are the 68000's, all is 0.
+    #[inline(always)]
+    pub(crate) fn sub(&self) -> &Pins80
+        ensures { result.now ≡ shown.sub_in self.now }
+    {
+        match self {
+            Pins::Sub(pins) => pins,
+            Pins::Main(_) => &NONE,
+        }
+    }
+}

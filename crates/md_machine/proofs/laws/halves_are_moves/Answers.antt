@@ -1,9 +1,0 @@
-use Rattle.md_machine.proofs.Halves.{leaves}
-use Rattle.md_machine.proofs.Moves.{move-same}
-use Rattle.md_machine.proofs.laws.halves_are_moves.Goals as goal
-
-pub returns-clause-leaves : goal.returns-clause-leaves
-returns-clause-leaves c = leaves
-
-pub returns-clause-moved : goal.returns-clause-moved
-returns-clause-moved c = λ m i valid. move-same m valid i

@@ -1,5 +1,0 @@
-use Rattle.md_machine.proofs.LeastKeys.{least-cycle}
-use Rattle.md_machine.proofs.laws.mover_is_first.Goals as goal
-
-pub returns : goal.returns
-returns c = least-cycle

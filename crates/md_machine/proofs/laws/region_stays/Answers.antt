@@ -1,5 +1,0 @@
-use Rattle.md_machine.proofs.Regions.{ran_stays}
-use Rattle.md_machine.proofs.laws.region_stays.Goals as goal
-
-pub returns : goal.returns
-returns c = λ m moves. ((ran_stays m moves).pal, (ran_stays m moves).region)
