@@ -1,0 +1,59 @@
+// Parts of the Z80 by themselves: its RAM and bank register, its registers at a reset, and the flags of an input.
+use crate::z80::registers::{registers_of, tell, values_of};
+use crate::z80::setting::Setting;
+use md_word::Parcel;
+use row_lines::{RowError, byte, word};
+use std::alloc::{AllocError, Global};
+use std::fmt::Write;
+use z80_alu::{Task80, compute};
+use z80_parcel::store_bytes;
+
+/// Writes out the bank register, and the bytes of RAM that are not 0.
+fn tell_memory(alloc: Global, parcel: &Parcel) -> Result<String, AllocError> {
+    let mut text = format!(in alloc; "BANK={:03X}", parcel.bank)?;
+    for at in 0..0x2000usize {
+        let value = parcel.ram[at];
+        if value != 0 {
+            write!(text, " @{at:04X}={value:02X}")?;
+        }
+    }
+    Ok(text)
+}
+
+/// The write `.6000=01`.
+fn write_of(text: &str) -> Result<(u16, u8), RowError> {
+    let (at, value) = text.split_once('=').ok_or(RowError::NoSuchLine)?;
+    let at = at.strip_prefix('.').ok_or(RowError::NoSuchLine)?;
+    Ok((word(at)?, byte(value)?))
+}
+
+/// RAM and the bank register after writes, each by itself, which follow what is set up.
+/// `NoSuchLine` where a word is none.
+pub fn store(alloc: Global, words: &str) -> Result<String, RowError> {
+    let (before, words) = words.split_once(' ').ok_or(RowError::NoSuchLine)?;
+    let mut parcel = Setting::read(alloc, before)?.parcel;
+    let mut writes = Vec::new(alloc);
+    for text in words.split(' ') {
+        writes.push(write_of(text)?).map_err(AllocError::from)?;
+    }
+    store_bytes(&writes, &mut parcel);
+    Ok(tell_memory(alloc, &parcel)?)
+}
+
+/// The registers that a reset changes; `NoSuchLine` where a word is none.
+pub fn reset(alloc: Global, words: &str) -> Result<String, RowError> {
+    let setting = Setting::read(alloc, words)?;
+    let mut regs = registers_of(&setting.values);
+    regs.reset();
+    let mut text = String::new(alloc);
+    tell(&mut text, &values_of(&regs), &setting.values)?;
+    Ok(String::from_str(alloc, text.trim_end())?)
+}
+
+/// The byte that IN loads into a register and the flags after it, of the byte and the flags before it.
+/// `NoSuchLine` where a word is none.
+pub fn input(alloc: Global, words: &str) -> Result<String, RowError> {
+    let (value, flags) = words.split_once(' ').ok_or(RowError::NoSuchLine)?;
+    let out = compute(Task80::In, 0xaa, byte(value)?, byte(flags)?);
+    Ok(format!(in alloc; "{:02X} {:02X}", out.value, out.f)?)
+}
