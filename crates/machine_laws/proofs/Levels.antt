@@ -13,6 +13,7 @@ use Rattle.machine_laws.proofs.Written.{fm-room, fm-starts, psg-room, psg-starts
 use Rattle.machine_laws.proofs.Held.{main_key, sub_key}
 use Rattle.std.proofs.lemmas.List.{append-nil}
 use Rattle.std.proofs.lemmas.Bool.{true≢false}
+use Rattle.md_word.specs.Clock as clock
 use Rattle.md_pads.specs.Recording.{Recorded}
 use Rattle.md_word.specs.declared.event.Entry.{Entry}
 use Rattle.md_word.specs.declared.key.Key.{Key}
@@ -165,7 +166,7 @@ unfolding sub_moved
 psg-sub z = psg-same (sub_next_of z.sub.state).sample _ _ z.psg_cycle z.psg refl refl refl refl
 
 psg-batch-made : (z : Console) (history : List PsgWrite) → let first = first_of z.psg_cycle in let taken = taken_below z.psg_cycle z.shared.psg in
-    IsInOrder 0 (1008 * first) history → IsInOrder (1008 * first) (1008 * (first + 16)) taken → z.psg ≡ chip_before history first → Batch generator z 4 first taken history
+    IsInOrder 0 (clock.fm_sample * first) history → IsInOrder (clock.fm_sample * first) (clock.fm_sample * (first + 16)) taken → z.psg ≡ chip_before history first → Batch generator z 4 first taken history
 unfolding generator moved rendered psg_moved levels
 psg-batch-made z history past span at =
     let first : ℕ = first_of z.psg_cycle in
@@ -220,7 +221,7 @@ known-ran cart recording pal end (suc n) paced below owners first =
     (psg-moves z (psg-room end z holds) (owners n (omega arith)) (mover z) (mover-lt z) (owners (suc n) (omega arith)))
 
 -- how many batches there were
-batches_of : (end batches cycle : ℕ) → cycle ≡ first_batch end → cycle ≡ 16128 * batches + 16128 → (batches ≡ batches_below end) × (16128 * batches ≤ end)
+batches_of : (end batches cycle : ℕ) → cycle ≡ first_batch end → cycle ≡ clock.batch * batches + clock.batch → (batches ≡ batches_below end) × (clock.batch * batches ≤ end)
 batches_of end batches cycle is next = (omega (arith, is, next), omega (arith, is, next))
 
 psg-levels : (end : ℕ) (z : Console) (es : List Entry) (output : Media) → z.psg_cycle ≡ first_batch end → PortHolds psg_port end z → Known generator z es output → HearsLevels end es output.levels
@@ -250,7 +251,7 @@ levels-heard cart recording pal z end entries output is run paced owners =
 -- ---- the FM chip
 
 -- later writes change no earlier sample
-pub sides_at-before : (low high k : ℕ) (history ws : List FmWrite) → fm_ports.IsInOrder low high ws → 1008 * k ≤ low → fm.sides_at (history ++ ws) k ≡ fm.sides_at history k
+pub sides_at-before : (low high k : ℕ) (history ws : List FmWrite) → fm_ports.IsInOrder low high ws → clock.fm_sample * k ≤ low → fm.sides_at (history ++ ws) k ≡ fm.sides_at history k
 unfolding fm.sides_at
 sides_at-before low high k history ws o h = ap (fm_synths.sides k) (chip_before-before low high history ws o k h)
 
@@ -280,7 +281,7 @@ unfolding sub_moved
 fm-sub z = fm-same (sub_next_of z.sub.state).sample _ _ z.fm_cycle z.fm refl refl refl refl
 
 fm-batch-made : (z : Console) (history : List FmWrite) → let first = first_of z.fm_cycle in let taken = fm_ports.taken_below z.fm_cycle z.shared.fm.writes in
-    fm_ports.IsInOrder 0 (1008 * first) history → fm_ports.IsInOrder (1008 * first) (1008 * (first + 16)) taken → z.fm ≡ fm.chip_before history first → Batch fm_sides z 3 first taken history
+    fm_ports.IsInOrder 0 (clock.fm_sample * first) history → fm_ports.IsInOrder (clock.fm_sample * first) (clock.fm_sample * (first + 16)) taken → z.fm ≡ fm.chip_before history first → Batch fm_sides z 3 first taken history
 unfolding fm_sides moved rendered fm_moved fm.sixteen
 fm-batch-made z history past span at =
     let first : ℕ = first_of z.fm_cycle in

@@ -4,6 +4,7 @@ use Rattle.std.proofs.Common.{◌≡◌, ℕ, zero, suc, ◌+◌, ◌/◌, ◌%�
 use Rattle.std.specs.Prelude.{All, slice_get, unwrap_or}
 use Rattle.std.proofs.lemmas.List.Elements.{All-get_or}
 use Rattle.std.proofs.lemmas.Option.{slice_get_cases}
+use Rattle.md_word.specs.Clock as clock
 use Rattle.md_pads.specs.Recording.{Frame, IsFrame, pads_of, Recorded}
 use Rattle.md_word.specs.Region.{finished_at, frame_cycles}
 use Rattle.md_word.specs.declared.event.Entry.{Entry}
@@ -202,7 +203,7 @@ counts-begin at end m later quiet has =
       falls = record { port1 = later-falls at end m.shared.port1 later has.falls1; port2 = later-falls at end m.shared.port2 later has.falls2 };
     }
 
-pub run_lines : Stages → Movers → (m z : Console) (at end : ℕ) (entries : List Entry) (output : Media) → HasValidParts m → HasLines at m → IsQuiet at m → at ≤ end → end ≤ 2 ^ 50
+pub run_lines : Stages → Movers → (m z : Console) (at end : ℕ) (entries : List Entry) (output : Media) → HasValidParts m → HasLines at m → IsQuiet at m → at ≤ end → end ≤ clock.cycle_limit
     → IsRunTo m end z entries output → HasLines end z
 run_lines stages movers m z at end entries output valid has quiet later small run =
     let counts = ran-counts end m run.moves (λ k less. parts_ran stages movers m end k small valid (λ j lower. run.below j (omega arith))) run.below (counts-begin at end m later quiet has) in

@@ -1,6 +1,7 @@
 -- The events of the five chips follow one another as the record's do.
 use Rattle.std.proofs.Common.{◌≡◌, ℕ, zero, suc, ◌+◌, ◌*◌, ◌<◌, ◌≤◌, ◌^◌, cond, false, refl, sym, ap, ◌∙◌, subst, arith}
 use Rattle.std.proofs.lemmas.Bool.{eq-eqb}
+use Rattle.md_word.specs.Clock as clock
 use Rattle.md_word.specs.Keys.{key_lt}
 use Rattle.md_word.specs.declared.key.Key.{Key}
 use Rattle.chip_core.specs.Machines as machines
@@ -21,9 +22,9 @@ use Rattle.md_chips.specs.ValidParts.{HasValidParts}
 -- what is known of the runs of the five chips
 pub record Stages : Type 0 where
   pub movers : Movers
-  pub valid : (m : Machine Chip Board) (t n : ℕ) → t ≤ 2 ^ 50 → IsValid five IsChip IsBoard m → AllBelow five m t n → IsValid five IsChip IsBoard (run five m n)
+  pub valid : (m : Machine Chip Board) (t n : ℕ) → t ≤ clock.cycle_limit → IsValid five IsChip IsBoard m → AllBelow five m t n → IsValid five IsChip IsBoard (run five m n)
   pub least : (m : Machine Chip Board) (i : ℕ) → IsValid five IsChip IsBoard m → i < 5 → key_lt (key_of five m i) (key_of five m (machines.mover five m)) ≡ false
-  pub spread : (m : Machine Chip Board) (t n i : ℕ) → t ≤ 2 ^ 50 → IsValid five IsChip IsBoard m → AllBelow five m t n → i < 5
+  pub spread : (m : Machine Chip Board) (t n i : ℕ) → t ≤ clock.cycle_limit → IsValid five IsChip IsBoard m → AllBelow five m t n → i < 5
       → (key_of five m i).cycle + made five m i n * gap i ≤ (key_of five (run five m n) i).cycle
 
 -- one move is the mover's
@@ -43,7 +44,7 @@ first_below m t (suc k) within below = absurd (omega (arith, within))
 below_one : (m : Machine Chip Board) (t : ℕ) → (key_of five m (machines.mover five m)).cycle < t → AllBelow five m t 1
 below_one m t below = record { each = λ k within. first_below m t k within below }
 
-paced-at : Stages → (m : Machine Chip Board) (t : ℕ) → t ≤ 2 ^ 50 → IsValid five IsChip IsBoard m → (key_of five m (machines.mover five m)).cycle < t → IsPaced (console_of m) (mover (console_of m))
+paced-at : Stages → (m : Machine Chip Board) (t : ℕ) → t ≤ clock.cycle_limit → IsValid five IsChip IsBoard m → (key_of five m (machines.mover five m)).cycle < t → IsPaced (console_of m) (mover (console_of m))
 paced-at stages m t small valid below =
     let i : ℕ = machines.mover five m in
     let few : i < 5 = stages.movers m in
@@ -61,7 +62,7 @@ paced-at stages m t small valid below =
       later = subst (λ (n : ℕ). (key_in (console_of m) n).cycle + gap n ≤ (key_in (moved (console_of m) n) n).cycle) same paces;
     }
 
-pub paced-ran : Stages → (m : Machine Chip Board) (end n : ℕ) → end ≤ 2 ^ 50 → IsValid five IsChip IsBoard m → consoles.AllBelow (console_of m) end n → ArePaced (console_of m) n
+pub paced-ran : Stages → (m : Machine Chip Board) (end n : ℕ) → end ≤ clock.cycle_limit → IsValid five IsChip IsBoard m → consoles.AllBelow (console_of m) end n → ArePaced (console_of m) n
 paced-ran stages m end n small valid below k within =
     let each : (j : ℕ) → AllBelow five m end j → IsValid five IsChip IsBoard (run five m j) = λ j earlier. stages.valid m end j small valid earlier in
     let lower : AllBelow five m end n = below-lift m end n each stages.movers below in
@@ -70,7 +71,7 @@ paced-ran stages m end n small valid below k within =
     subst (λ (z : Console). IsPaced z (mover z)) (ran-same m k soundto stages.movers) (paced-at stages (run five m k) end small at (lower.each k within))
 
 -- where the parts of the machine are valid
-pub paced-from : Stages → (z : Console) (end n : ℕ) → end ≤ 2 ^ 50 → HasValidParts z → consoles.AllBelow z end n → ArePaced z n
+pub paced-from : Stages → (z : Console) (end n : ℕ) → end ≤ clock.cycle_limit → HasValidParts z → consoles.AllBelow z end n → ArePaced z n
 paced-from stages z end n small has below =
     subst (λ (w : Console). ArePaced w n) (console_again z)
     (paced-ran stages (machine_in z) end n small (valid_in z has) (subst (λ (w : Console). consoles.AllBelow w end n) (sym (console_again z)) below))

@@ -4,6 +4,7 @@ use Rattle.std.specs.Prelude.{All, nat_lt}
 use Rattle.std.proofs.lemmas.List.Elements.{All-filter}
 use Rattle.sound_writes.proofs.Helds.{All-held_with}
 use Rattle.std.proofs.lemmas.Bool.{lt-ltb}
+use Rattle.md_word.specs.Clock as clock
 use Rattle.md_word.specs.Keys.{key_lt}
 use Rattle.md_word.specs.declared.key.Key.{Key}
 use Rattle.sound_writes.specs.Held.{held_with, left_from, limit}
@@ -126,7 +127,7 @@ next_batch fm z = cond fm z.fm_cycle z.psg_cycle
 -- what holds of a port in a machine whose events so far are below `end`
 pub record PortHolds {A : Type 0} (p : PortOf A) (end : ℕ) (z : Console) : Type 0 where
   pub from : ℕ
-  pub next : next_batch p.fm z ≡ from + 16128
+  pub next : next_batch p.fm z ≡ from + clock.batch
   pub held : AreHeld p.key from end z.main.next z.sub.state.next (p.held z.shared)
   pub right : All (λ w. p.right w ≡ true) (p.held z.shared)
 
@@ -173,7 +174,7 @@ sub-for board key TakeBack = taken-for board.request board.store (hearing board)
 module _ {A : Type 0} (p : PortOf A) (end : ℕ) where
   -- a write of the 68000 at its next event, and of the Z80, where there is one
   main-reported : (from main sub main' : ℕ) (ws new reported : List A) → IsReported p.key p.right (main_key main) reported → new ≡ held_all ws reported
-      → main < end → main ≤ from + 16128 → main ≤ sub → main + 28 ≤ main' → AreHeld p.key from end main sub ws → AreHeld p.key from end main' sub new
+      → main < end → main ≤ from + clock.batch → main ≤ sub → main + 28 ≤ main' → AreHeld p.key from end main sub ws → AreHeld p.key from end main' sub new
   main-reported from main sub main' ws new reported (none is) new_is high batch before next held =
       subst (AreHeld p.key from end main' sub) (sym (new_is ∙ ap (held_all ws) is)) (held-later p.key from end main sub main' sub ws (omega (arith, next)) (omega arith) held)
   main-reported from main sub main' ws new reported (one w is at right) new_is high batch before next held =
@@ -181,7 +182,7 @@ module _ {A : Type 0} (p : PortOf A) (end : ℕ) where
       (held-main p.key from end main sub main' ws w at high batch before next held)
 
   sub-reported : (from main sub sub' : ℕ) (ws new reported : List A) → IsReported p.key p.right (sub_key sub) reported → new ≡ held_all ws reported
-      → sub < end → sub ≤ from + 16128 → sub < main → sub + 45 ≤ sub' → AreHeld p.key from end main sub ws → AreHeld p.key from end main sub' new
+      → sub < end → sub ≤ from + clock.batch → sub < main → sub + 45 ≤ sub' → AreHeld p.key from end main sub ws → AreHeld p.key from end main sub' new
   sub-reported from main sub sub' ws new reported (none is) new_is high batch before next held =
       subst (AreHeld p.key from end main sub') (sym (new_is ∙ ap (held_all ws) is)) (held-later p.key from end main sub main sub' ws (omega arith) (omega (arith, next)) held)
   sub-reported from main sub sub' ws new reported (one w is at right) new_is high batch before next held =
@@ -213,7 +214,7 @@ module _ {A : Type 0} (p : PortOf A) (end : ℕ) where
       let next : Key = main_key z.main.next in
       let sub_late : z.main.next ≤ z.sub.state.next = not_before z.sub.state.next z.main.next 1 0 (paced.least 1 (lit< tt)) in
       let batch : z.main.next ≤ next_batch p.fm z = batch_low p.fm z.main.next z.fm_cycle z.psg_cycle (not_before z.fm_cycle z.main.next 3 0 (paced.least 3 (lit< tt))) (not_before z.psg_cycle z.main.next 4 0 (paced.least 4 (lit< tt))) in
-      let soon : z.main.next ≤ holds.from + 16128 = omega (arith, batch, holds.next) in
+      let soon : z.main.next ≤ holds.from + clock.batch = omega (arith, batch, holds.next) in
       main_by (next_of z.main).sample _ _ (z.main.next + 28)
       (λ late. record { from = holds.from; next = holds.next; held = held-later p.key holds.from end z.main.next z.sub.state.next _ z.sub.state.next (p.held z.shared) (omega (arith, late)) (omega arith) holds.held; right = holds.right })
       (λ late. record {
@@ -231,7 +232,7 @@ module _ {A : Type 0} (p : PortOf A) (end : ℕ) where
       let next : Key = sub_key z.sub.state.next in
       let main_late : z.sub.state.next < z.main.next = sub_before_main z.main.next z.sub.state.next (paced.least 0 (lit< tt)) in
       let batch : z.sub.state.next ≤ next_batch p.fm z = batch_low p.fm z.sub.state.next z.fm_cycle z.psg_cycle (not_before z.fm_cycle z.sub.state.next 3 1 (paced.least 3 (lit< tt))) (not_before z.psg_cycle z.sub.state.next 4 1 (paced.least 4 (lit< tt))) in
-      let soon : z.sub.state.next ≤ holds.from + 16128 = omega (arith, batch, holds.next) in
+      let soon : z.sub.state.next ≤ holds.from + clock.batch = omega (arith, batch, holds.next) in
       sub_by (sub_next_of z.sub.state).sample _ _ (z.sub.state.next + 45)
       (λ late. record { from = holds.from; next = holds.next; held = held-later p.key holds.from end z.main.next z.sub.state.next z.main.next _ (p.held z.shared) (omega arith) (omega (arith, late)) holds.held; right = holds.right })
       (λ late. record {
@@ -257,11 +258,11 @@ module _ {A : Type 0} (p : PortOf A) (end : ℕ) where
   not_below : (c d : ℕ) → not (nat_lt c d) ≡ true → d ≤ c
   not_below c d is = grind (arith, is)
 
-  batch-left : (from cycle main sub : ℕ) (ws : List A) → cycle ≡ from + 16128 → cycle ≤ main → cycle ≤ sub → AreHeld p.key from end main sub ws
+  batch-left : (from cycle main sub : ℕ) (ws : List A) → cycle ≡ from + clock.batch → cycle ≤ main → cycle ≤ sub → AreHeld p.key from end main sub ws
       → AreHeld p.key cycle end main sub (left_from (λ w. (p.key w).cycle) cycle ws)
   batch-left from cycle main sub ws is late late' held =
       subst (λ (c : ℕ). AreHeld p.key c end main sub (left_from (λ w. (p.key w).cycle) c ws)) (sym is)
-      (held-left p.key (λ w. not (nat_lt (p.key w).cycle (from + 16128))) from end main sub ws (λ w yes. not_below (p.key w).cycle (from + 16128) yes) (omega (arith, late, is)) (omega (arith, late', is)) held)
+      (held-left p.key (λ w. not (nat_lt (p.key w).cycle (from + clock.batch))) from end main sub ws (λ w yes. not_below (p.key w).cycle (from + clock.batch) yes) (omega (arith, late, is)) (omega (arith, late', is)) held)
 
   right-left : (b : Bool) (cycle : ℕ) (ws : List A) → All (λ w. p.right w ≡ true) ws → All (λ w. p.right w ≡ true) (cond b (left_from (λ w. (p.key w).cycle) cycle ws) ws)
   right-left true cycle ws all = All-filter (λ w. not (nat_lt (p.key w).cycle cycle)) (λ w. p.right w ≡ true) ws all
@@ -271,19 +272,19 @@ module _ {A : Type 0} (p : PortOf A) (end : ℕ) where
   right-stays true cycle ws all = all
   right-stays false cycle ws all = All-filter (λ w. not (nat_lt (p.key w).cycle cycle)) (λ w. p.right w ≡ true) ws all
 
-  fm_by : (fm : Bool) (z : Console) (new : List A) (from : ℕ) → next_batch fm z ≡ from + 16128 → z.fm_cycle ≤ z.main.next → z.fm_cycle ≤ z.sub.state.next
+  fm_by : (fm : Bool) (z : Console) (new : List A) (from : ℕ) → next_batch fm z ≡ from + clock.batch → z.fm_cycle ≤ z.main.next → z.fm_cycle ≤ z.sub.state.next
       → new ≡ cond fm (left_from (λ w. (p.key w).cycle) z.fm_cycle (p.held z.shared)) (p.held z.shared)
       → AreHeld p.key from end z.main.next z.sub.state.next (p.held z.shared)
-      → (to : ℕ) × (cond fm (z.fm_cycle + 16128) z.psg_cycle ≡ to + 16128) × AreHeld p.key to end z.main.next z.sub.state.next new
+      → (to : ℕ) × (cond fm (z.fm_cycle + clock.batch) z.psg_cycle ≡ to + clock.batch) × AreHeld p.key to end z.main.next z.sub.state.next new
   fm_by true z new from is late late' new_is held =
       (z.fm_cycle, refl, subst (AreHeld p.key z.fm_cycle end z.main.next z.sub.state.next) (sym new_is) (batch-left from z.fm_cycle z.main.next z.sub.state.next (p.held z.shared) is late late' held))
   fm_by false z new from is late late' new_is held =
       (from, is, subst (AreHeld p.key from end z.main.next z.sub.state.next) (sym new_is) held)
 
-  psg_by : (fm : Bool) (z : Console) (new : List A) (from : ℕ) → next_batch fm z ≡ from + 16128 → z.psg_cycle ≤ z.main.next → z.psg_cycle ≤ z.sub.state.next
+  psg_by : (fm : Bool) (z : Console) (new : List A) (from : ℕ) → next_batch fm z ≡ from + clock.batch → z.psg_cycle ≤ z.main.next → z.psg_cycle ≤ z.sub.state.next
       → new ≡ cond fm (p.held z.shared) (left_from (λ w. (p.key w).cycle) z.psg_cycle (p.held z.shared))
       → AreHeld p.key from end z.main.next z.sub.state.next (p.held z.shared)
-      → (to : ℕ) × (cond fm z.fm_cycle (z.psg_cycle + 16128) ≡ to + 16128) × AreHeld p.key to end z.main.next z.sub.state.next new
+      → (to : ℕ) × (cond fm z.fm_cycle (z.psg_cycle + clock.batch) ≡ to + clock.batch) × AreHeld p.key to end z.main.next z.sub.state.next new
   psg_by false z new from is late late' new_is held =
       (z.psg_cycle, refl, subst (AreHeld p.key z.psg_cycle end z.main.next z.sub.state.next) (sym new_is) (batch-left from z.psg_cycle z.main.next z.sub.state.next (p.held z.shared) is late late' held))
   psg_by true z new from is late late' new_is held =

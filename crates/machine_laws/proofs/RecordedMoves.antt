@@ -1,6 +1,7 @@
 -- A move of a machine whose recording is another.
 use Rattle.std.proofs.Common.{◌≡◌, ◌∙◌, refl, sym, ap, ap₂, subst, ℕ, ◌+◌, ◌*◌, ◌/◌, ◌%◌, ◌<◌, ◌==◌, cond, Bool, true, false, List, [], ◌∷◌, arith}
 use Rattle.std.proofs.lemmas.Bool.{eqb-true}
+use Rattle.md_word.specs.Clock as clock
 use Rattle.md_word.specs.Region.{finished_at, frame_cycles}
 use Rattle.md_word.specs.declared.event.Entry.{Entry}
 use Rattle.md_pads.specs.Recording.{Frame}
@@ -65,7 +66,7 @@ unfolding line_moved
 line-moved s end m alike below =
     let same : AreAlikeBelow (line_pal m.line m.note m.shared) end m.shared.recording.frames s =
     subst (λ (pal : Bool). AreAlikeBelow pal end m.shared.recording.frames s) (sym (line-region m.line m.shared m.note)) alike in
-    ap₂ (λ (d : RendererState) (b : Board). record m { note = d.note; picture = d.picture; line = m.line + 3420; shared = b })
+    ap₂ (λ (d : RendererState) (b : Board). record m { note = d.note; picture = d.picture; line = m.line + clock.line; shared = b })
     (sym (line-done s m)) (line-with s m.line m.shared m.note (taken s end (line_pal m.line m.note m.shared) m.line m.shared.recording.frames same below))
 
 fm-moved : (s : List Frame) (m : Console) → with_frames s (fm_moved m) ≡ fm_moved (with_frames s m)

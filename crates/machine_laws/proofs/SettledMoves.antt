@@ -1,5 +1,6 @@
 -- A move of a machine where fill, copy and the timers were settled before.
 use Rattle.std.proofs.Common.{◌≡◌, refl, ap, ap₂, ℕ, ◌+◌, ◌<◌, ◌≤◌, cond, Bool, true, false, [], ◌∷◌}
+use Rattle.md_word.specs.Clock as clock
 use Rattle.md_word.specs.declared.event.Entry.{Entry}
 use Rattle.m68k_chip.specs.Events.{answered, begun, request_of}
 use Rattle.m68k_chip.specs.States.{next_of}
@@ -58,7 +59,7 @@ line-done-same e m order = ap (λ (v : Vdp). drawn_from (view_of m.pal v) (rende
 line-moved : (e : ℕ) (m : Console) → e ≤ m.line → settled_console e (line_moved (settled_console e m)) ≡ settled_console e (line_moved m)
 unfolding line_moved
 line-moved e m order =
-    ap₂ (λ (d : RendererState) (b : Board). record m { note = d.note; picture = d.picture; line = m.line + 3420; shared = b })
+    ap₂ (λ (d : RendererState) (b : Board). record m { note = d.note; picture = d.picture; line = m.line + clock.line; shared = b })
     (line-done-same e m order) (line-same e m.line m.shared m.note order)
 
 fm-moved : (e : ℕ) (m : Console) → settled_console e (fm_moved (settled_console e m)) ≡ settled_console e (fm_moved m)

@@ -6,6 +6,7 @@ use Rattle.std.proofs.lemmas.Bool.{and_parts, lt-ltb, le-ltb, cases_lt}
 use Rattle.std.proofs.lemmas.List.{append-nil}
 use Rattle.std.proofs.lemmas.List.Elements.{All-head, All-tail, All-weaker}
 use Rattle.std.proofs.lemmas.List.Sums.{AllPass-from_list_all}
+use Rattle.md_word.specs.Clock as clock
 use Rattle.md_word.specs.declared.event.Entry.{Entry}
 use Rattle.md_word.specs.declared.key.Key.{Key}
 use Rattle.sound_writes.specs.Held.{left_from, taken_below}
@@ -135,7 +136,7 @@ pub record SoundOf (A S Y : Type 0) : Type 0 where
   pub at : List A → ℕ → Y
   pub nothing : made no_media ≡ []
   pub more : (x y : Media) → made (joined x y) ≡ made x ++ made y
-  pub earlier : (low high k : ℕ) (history ws : List A) → IsInOrder (λ w. (port.key w).cycle) low high ws → 1008 * k ≤ low → at (history ++ ws) k ≡ at history k
+  pub earlier : (low high k : ℕ) (history ws : List A) → IsInOrder (λ w. (port.key w).cycle) low high ws → clock.fm_sample * k ≤ low → at (history ++ ws) k ≡ at history k
 
 -- what a move does to it: an access reports something to it, or it makes a batch
 pub record Batch {A S Y : Type 0} (s : SoundOf A S Y) (z : Console) (i first : ℕ) (taken : List A) (history : List A) : Type 0 where
@@ -149,9 +150,9 @@ pub data SoundMove {A S Y : Type 0} (s : SoundOf A S Y) (z : Console) (i : ℕ) 
   makes : hearing (moved z i).shared ≡ hears (hearing z.shared) (consoles.reported z i)
       → heard_of s.port.of (hearing z.shared) (consoles.reported z i) ≡ []
       → s.port.held (moved z i).shared ≡ left_from (λ w. (s.port.key w).cycle) (next_batch s.port.fm z) (s.port.held z.shared)
-      → next_batch s.port.fm (moved z i) ≡ next_batch s.port.fm z + 16128
+      → next_batch s.port.fm (moved z i) ≡ next_batch s.port.fm z + clock.batch
       → ((history : List A) → let first = first_of (next_batch s.port.fm z) in let taken = taken_below (λ w. (s.port.key w).cycle) (next_batch s.port.fm z) (s.port.held z.shared) in
-      IsInOrder (λ w. (s.port.key w).cycle) 0 (1008 * first) history → IsInOrder (λ w. (s.port.key w).cycle) (1008 * first) (1008 * (first + 16)) taken
+      IsInOrder (λ w. (s.port.key w).cycle) 0 (clock.fm_sample * first) history → IsInOrder (λ w. (s.port.key w).cycle) (clock.fm_sample * first) (clock.fm_sample * (first + 16)) taken
       → s.chip z ≡ s.before history first → Batch s z i first taken history)
       → SoundMove s z i
 
@@ -161,8 +162,8 @@ pub record Known {A S Y : Type 0} (s : SoundOf A S Y) (z : Console) (entries : L
   pub done : List A
   pub hearing_is : hearing z.shared ≡ hears at_power_on entries
   pub all : heard_of s.port.of at_power_on entries ≡ done ++ s.port.held z.shared
-  pub next : next_batch s.port.fm z ≡ 16128 * batches + 16128
-  pub past : IsInOrder (λ w. (s.port.key w).cycle) 0 (16128 * batches) done
+  pub next : next_batch s.port.fm z ≡ clock.batch * batches + clock.batch
+  pub past : IsInOrder (λ w. (s.port.key w).cycle) 0 (clock.batch * batches) done
   pub chip : s.chip z ≡ s.before done (16 * batches)
   pub made : s.made output ≡ map (s.at done) (range_with_len 0 (16 * batches))
 
@@ -196,15 +197,15 @@ module _ {A S Y : Type 0} (s : SoundOf A S Y) where
       let taken : List A = taken_below stamp cycle held in
       let first : ℕ = first_of cycle in
       let first_is : first ≡ 16 * known.batches = omega (arith, known.next) in
-      let low_is : holds.from ≡ 16128 * known.batches = omega (arith, holds.next, known.next) in
-      let order : IsInOrder stamp (16128 * known.batches) end held =
+      let low_is : holds.from ≡ clock.batch * known.batches = omega (arith, holds.next, known.next) in
+      let order : IsInOrder stamp (clock.batch * known.batches) end held =
       subst (λ (n : ℕ). IsInOrder stamp n end held) low_is (held-in-order s.port.key holds.from end z.main.next z.sub.state.next held holds.held) in
-      let span : IsInOrder stamp (1008 * first) (1008 * (first + 16)) taken =
-      IsInOrder-low stamp (1008 * first) (16128 * known.batches) (1008 * (first + 16)) taken (omega (arith, first_is))
-      (IsInOrder-high stamp (16128 * known.batches) cycle (1008 * (first + 16)) taken (omega (arith, first_is, known.next)) (IsInOrder-taken_below stamp cycle (16128 * known.batches) end held order)) in
-      let past : IsInOrder stamp 0 (1008 * first) known.done = IsInOrder-high stamp 0 (16128 * known.batches) (1008 * first) known.done (omega (arith, first_is)) known.past in
+      let span : IsInOrder stamp (clock.fm_sample * first) (clock.fm_sample * (first + 16)) taken =
+      IsInOrder-low stamp (clock.fm_sample * first) (clock.batch * known.batches) (clock.fm_sample * (first + 16)) taken (omega (arith, first_is))
+      (IsInOrder-high stamp (clock.batch * known.batches) cycle (clock.fm_sample * (first + 16)) taken (omega (arith, first_is, known.next)) (IsInOrder-taken_below stamp cycle (clock.batch * known.batches) end held order)) in
+      let past : IsInOrder stamp 0 (clock.fm_sample * first) known.done = IsInOrder-high stamp 0 (clock.batch * known.batches) (clock.fm_sample * first) known.done (omega (arith, first_is)) known.past in
       let batch : Batch s z i first taken known.done = renders known.done past span (known.chip ∙ ap (s.before known.done) (sym first_is)) in
-      let whole : taken ++ left_from stamp cycle held ≡ held = taken-and-left stamp cycle (16128 * known.batches) end held order in
+      let whole : taken ++ left_from stamp cycle held ≡ held = taken-and-left stamp cycle (clock.batch * known.batches) end held order in
       record {
         batches = known.batches + 1;
         done = known.done ++ taken;
@@ -220,15 +221,15 @@ module _ {A S Y : Type 0} (s : SoundOf A S Y) where
             ∙ ap (λ (l : List A). (known.done ++ taken) ++ l) (sym left);
         next = next ∙ omega (arith, known.next);
         past =
-            IsInOrder-high stamp 0 (1008 * (first + 16)) (16128 * (known.batches + 1)) (known.done ++ taken) (omega (arith, first_is))
-            (IsInOrder-append stamp (1008 * first) (1008 * (first + 16)) 0 known.done taken (omega arith) (omega arith) past span);
+            IsInOrder-high stamp 0 (clock.fm_sample * (first + 16)) (clock.batch * (known.batches + 1)) (known.done ++ taken) (omega (arith, first_is))
+            (IsInOrder-append stamp (clock.fm_sample * first) (clock.fm_sample * (first + 16)) 0 known.done taken (omega arith) (omega arith) past span);
         chip = batch.chip ∙ ap (s.before (known.done ++ taken)) (omega (arith, first_is));
         made =
             s.more output (rendered z i)
             ∙ (λ j. known.made j ++ batch.made j)
             ∙ ap (λ (n : ℕ). map (s.at known.done) (range_with_len 0 (16 * known.batches)) ++ map (λ k. s.at (known.done ++ taken) (n + k)) (range_with_len 0 16)) first_is
             ∙ map_both (s.at known.done) (s.at (known.done ++ taken)) (16 * known.batches) 16
-            (λ k below. sym (s.earlier (1008 * first) (1008 * (first + 16)) k known.done taken span (omega (arith, below, first_is))))
+            (λ k below. sym (s.earlier (clock.fm_sample * first) (clock.fm_sample * (first + 16)) k known.done taken span (omega (arith, below, first_is))))
             ∙ ap (λ (n : ℕ). map (s.at (known.done ++ taken)) (range_with_len 0 n)) (omega arith);
       }
 
@@ -238,20 +239,20 @@ module _ {A S Y : Type 0} (s : SoundOf A S Y) where
   known-levels end z es output batches known holds is =
       let stamp : A → ℕ = λ w. (s.port.key w).cycle in
       let held : List A = s.port.held z.shared in
-      let low_is : holds.from ≡ 16128 * known.batches = omega (arith, holds.next, known.next) in
-      let order : IsInOrder stamp (16128 * known.batches) end held =
+      let low_is : holds.from ≡ clock.batch * known.batches = omega (arith, holds.next, known.next) in
+      let order : IsInOrder stamp (clock.batch * known.batches) end held =
       subst (λ (n : ℕ). IsInOrder stamp n end held) low_is (held-in-order s.port.key holds.from end z.main.next z.sub.state.next held holds.held) in
       known.made
-      ∙ map_from (s.at known.done) (s.at (known.done ++ held)) 0 (16 * known.batches) (λ k low high. sym (s.earlier (16128 * known.batches) end k known.done held order (omega (arith, high))))
+      ∙ map_from (s.at known.done) (s.at (known.done ++ held)) 0 (16 * known.batches) (λ k low high. sym (s.earlier (clock.batch * known.batches) end k known.done held order (omega (arith, high))))
       ∙ ap (λ (l : List A). map (s.at l) (range_with_len 0 (16 * known.batches))) (sym known.all)
       ∙ ap (λ (n : ℕ). map (s.at (heard_of s.port.of at_power_on es)) (range_with_len 0 (16 * n))) is
 
-  pub known-order : (end : ℕ) (z : Console) (es : List Entry) (output : Media) (known : Known s z es output) → PortHolds s.port end z → 16128 * known.batches ≤ end
+  pub known-order : (end : ℕ) (z : Console) (es : List Entry) (output : Media) (known : Known s z es output) → PortHolds s.port end z → clock.batch * known.batches ≤ end
       → IsInOrder (λ w. (s.port.key w).cycle) 0 end (heard_of s.port.of at_power_on es)
   known-order end z es output known holds le =
       let stamp : A → ℕ = λ w. (s.port.key w).cycle in
       let held : List A = s.port.held z.shared in
-      let low_is : holds.from ≡ 16128 * known.batches = omega (arith, holds.next, known.next) in
-      let order : IsInOrder stamp (16128 * known.batches) end held =
+      let low_is : holds.from ≡ clock.batch * known.batches = omega (arith, holds.next, known.next) in
+      let order : IsInOrder stamp (clock.batch * known.batches) end held =
       subst (λ (n : ℕ). IsInOrder stamp n end held) low_is (held-in-order s.port.key holds.from end z.main.next z.sub.state.next held holds.held) in
-      subst (IsInOrder stamp 0 end) (sym known.all) (IsInOrder-append stamp (16128 * known.batches) end 0 known.done held (omega arith) le known.past order)
+      subst (IsInOrder stamp 0 end) (sym known.all) (IsInOrder-append stamp (clock.batch * known.batches) end 0 known.done held (omega arith) le known.past order)

@@ -1,5 +1,6 @@
 -- A move keeps what holds of the VDP and its renderer, at each cycle above its own.
 use Rattle.std.proofs.Common.{ℕ, zero, suc, ◌^◌, ◌<◌, ◌≤◌, Bool, true, false, cond, List, sym, subst, arith}
+use Rattle.md_word.specs.Clock as clock
 use Rattle.md_pads.specs.Recording.{Recorded}
 use Rattle.md_word.specs.declared.event.Entry.{Entry}
 use Rattle.m68k_chip.specs.Events.{request_of}
@@ -108,7 +109,7 @@ pub renderer_state_ready : (at : ℕ) (m : Console) → HasVideo at m → IsQuie
 unfolding key_in
 renderer_state_ready at m has quiet = record { from = quiet 2 (omega arith); near = has.near }
 
-pub spells_renderer_state : (at : ℕ) (m : Console) → at ≤ 2 ^ 50 → HasVideo at m → IsQuiet at m → renderer_states.Spells at m.pal (renderer_state_bytes (renderer_state_in m)) (renderer_state_in m)
+pub spells_renderer_state : (at : ℕ) (m : Console) → at ≤ clock.cycle_limit → HasVideo at m → IsQuiet at m → renderer_states.Spells at m.pal (renderer_state_bytes (renderer_state_in m)) (renderer_state_in m)
 spells_renderer_state at m small has quiet =
     spelled_back at (renderer_state_in m) has.renderer_state (omega (arith, small, has.near)) (renderer_state_ready at m has quiet)
 

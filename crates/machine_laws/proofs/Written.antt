@@ -4,6 +4,7 @@ use Rattle.std.specs.List.{list_all}
 use Rattle.std.proofs.lemmas.Bool.{and_parts, and_from}
 use Rattle.std.proofs.lemmas.List.Folds.{list_all-map}
 use Rattle.std.proofs.lemmas.List.Sums.{AllPass-from_list_all, list_all-from_AllPass}
+use Rattle.md_word.specs.Clock as clock
 use Rattle.md_word.specs.declared.event.Entry.{Entry}
 use Rattle.md_word.specs.declared.key.Key.{Key}
 use Rattle.sound_writes.specs.Keys.{are_kept, is_before_next, last_batch}
@@ -35,7 +36,7 @@ late-sub : (z : Console) (at : ℕ) → IsQuiet at z → at ≤ z.sub.state.next
 unfolding key_in sub_next_of
 late-sub z at quiet = quiet 1 (lit< tt)
 
-batch_from : (at : ℕ) → first_batch at ≡ last_batch at + 16128
+batch_from : (at : ℕ) → first_batch at ≡ last_batch at + clock.batch
 batch_from at = omega arith
 
 -- no write is held at power-on
@@ -67,7 +68,7 @@ psg-starts start end is has later =
     }
 
 -- where a run ends
-low_end : (end from cycle : ℕ) → cycle ≡ first_batch end → cycle ≡ from + 16128 → last_batch end ≤ from
+low_end : (end from cycle : ℕ) → cycle ≡ first_batch end → cycle ≡ from + clock.batch → last_batch end ≤ from
 low_end end from cycle is next = omega (arith, is, next)
 
 fm-ends : (end : ℕ) (z : Console) → z.fm_cycle ≡ first_batch end → PortHolds fm_port end z

@@ -2,6 +2,7 @@
 //! for what they ensure.
 
 ghost use Rattle.std.specs.Prelude.{ℕ, Bool, ◌^◌, ◌≤◌, All, List};
+ghost use Rattle.md_word.specs.Clock as clock;
 ghost use Rattle.md_pads.specs.Recording.{IsFrame, Recorded};
 ghost use Rattle.md_word.specs.declared.event.Entry.{Entry};
 ghost use Rattle.bus_shared.specs.Spelling as boards;
@@ -25,7 +26,7 @@ pub fn lines_at_power_on()
 /// that is no later, and no event of which is below that.
 pub fn lines_of_runs()
     ensures { (m z : Console) (at end : ℕ) (entries : List Entry) (output : Media) → HasValidParts m → HasLines at m
-        → IsQuiet at m → at ≤ end → end ≤ 2 ^ 50 → IsRunTo m end z entries output → HasLines end z }
+        → IsQuiet at m → at ≤ end → end ≤ clock.cycle_limit → IsRunTo m end z entries output → HasLines end z }
 {
     laws::stages::<MdChips>();
 }

@@ -2,6 +2,7 @@
 //! what they ensure.
 
 ghost use Rattle.std.specs.Prelude.{ℕ, Bool, ◌^◌, ◌≤◌, All, List};
+ghost use Rattle.md_word.specs.Clock as clock;
 ghost use Rattle.md_pads.specs.Recording.{IsFrame, Recorded};
 ghost use Rattle.md_word.specs.declared.event.Entry.{Entry};
 ghost use Rattle.md_chips.specs.Console.{Console, IsRunTo, power_on};
@@ -31,7 +32,7 @@ pub fn power_on_is_reached(cart: &Cart)
 
 /// A run to a cycle of at most 2^50 keeps them, from any machine of which they hold at a cycle that is no later.
 pub fn runs_reach()
-    ensures { (m z : Console) (at end : ℕ) (entries : List Entry) (output : Media) → IsReached at m → at ≤ end → end ≤ 2 ^ 50
+    ensures { (m z : Console) (at end : ℕ) (entries : List Entry) (output : Media) → IsReached at m → at ≤ end → end ≤ clock.cycle_limit
         → IsRunTo m end z entries output → IsReached end z }
 {
     laws::run_ends_at_start();

@@ -2,6 +2,7 @@
 //! calls that do nothing and stand for what they ensure.
 
 ghost use Rattle.std.specs.Prelude.{◌≡◌, ℕ, ◌^◌, ◌<◌, ◌≤◌, List};
+ghost use Rattle.md_word.specs.Clock as clock;
 ghost use Rattle.md_word.specs.declared.event.Entry.{Entry};
 ghost use Rattle.md_chips.specs.Console.{Console, IsQuiet, IsRunTo, key_in, moved, rendered, reported};
 ghost use Rattle.md_chips.specs.Media.{Media};
@@ -22,7 +23,7 @@ pub fn moves_see_no_settling()
 /// So from such a machine a run continues as it would have: with the same entries, frames and samples, and to
 /// the same machine but for what was settled.
 pub fn settled_machines_go_on()
-    ensures { (m z : Console) (at end : ℕ) (entries : List Entry) (output : Media) → HasValidParts m → IsQuiet at m → at ≤ end → end ≤ 2 ^ 50
+    ensures { (m z : Console) (at end : ℕ) (entries : List Entry) (output : Media) → HasValidParts m → IsQuiet at m → at ≤ end → end ≤ clock.cycle_limit
         → IsRunTo m end z entries output → GoesOn end (settled_console at m) z entries output }
 {
     laws::quiet_stays();

@@ -2,6 +2,7 @@
 //! what they ensure.
 
 ghost use Rattle.std.specs.Prelude.{ℕ, Bool, ◌^◌, ◌≤◌, List};
+ghost use Rattle.md_word.specs.Clock as clock;
 ghost use Rattle.md_pads.specs.Recording.{Recorded};
 ghost use Rattle.md_word.specs.declared.event.Entry.{Entry};
 ghost use Rattle.vdp_chip.specs.Spelling as renderer_states;
@@ -30,7 +31,7 @@ pub fn vdp_may_be_kept()
 /// And so may the renderer, where no next event is below the cycle: its bytes are read again.
 pub fn renderer_state_may_be_kept()
     ensures ready { (at : ℕ) (m : Console) → HasVideo at m → IsQuiet at m → renderer_states.IsReady at (renderer_state_in m) }
-    ensures spells { (at : ℕ) (m : Console) → at ≤ 2 ^ 50 → HasVideo at m → IsQuiet at m
+    ensures spells { (at : ℕ) (m : Console) → at ≤ clock.cycle_limit → HasVideo at m → IsQuiet at m
         → renderer_states.Spells at m.pal (renderer_states.renderer_state_bytes (renderer_state_in m)) (renderer_state_in m) }
 {}
 

@@ -2,6 +2,7 @@
 //! nothing and stand for what they ensure.
 
 ghost use Rattle.std.specs.Prelude.{◌≡◌, ℕ, Bool, ◌^◌, ◌≤◌, true, List};
+ghost use Rattle.md_word.specs.Clock as clock;
 ghost use Rattle.md_word.specs.declared.event.Entry.{Entry};
 ghost use Rattle.fm_port.specs.PortSpelling as fm_port;
 ghost use Rattle.psg_sound.specs.PortSpelling as psg_port;
@@ -19,7 +20,7 @@ use md_machine::{Machine, MdChips, laws as console_laws};
 
 /// In a run each chip that moves has the least key, and its next event comes its gap later, at least.
 pub fn events_are_paced()
-    ensures { (z : Console) (end n : ℕ) → end ≤ 2 ^ 50 → HasValidParts z → AllBelow z end n → ArePaced z n }
+    ensures { (z : Console) (end n : ℕ) → end ≤ clock.cycle_limit → HasValidParts z → AllBelow z end n → ArePaced z n }
 {
     laws::stages::<MdChips>();
     laws::limits::<MdChips>();
@@ -32,7 +33,7 @@ pub fn power_on_has_writes()
 
 /// A run from a start whose ports hold writes as a saved state's do reaches a machine of which that holds too.
 pub fn writes_are_kept()
-    ensures { (start : Start) (z : Console) (end : ℕ) (entries : List Entry) (output : Media) → end ≤ 2 ^ 50
+    ensures { (start : Start) (z : Console) (end : ℕ) (entries : List Entry) (output : Media) → end ≤ clock.cycle_limit
         → HasValidParts start.console → IsStart start → HasWrites start.at start.console → start.at ≤ end
         → IsRunTo start.console end z entries output → HasWrites end z }
 {
@@ -41,7 +42,7 @@ pub fn writes_are_kept()
 
 /// In each machine of such a run both ports have room for one more write, so that none is ever lost.
 pub fn writes_have_room()
-    ensures { (start : Start) (end n : ℕ) → end ≤ 2 ^ 50
+    ensures { (start : Start) (end n : ℕ) → end ≤ clock.cycle_limit
         → HasValidParts start.console → IsStart start → HasWrites start.at start.console → start.at ≤ end
         → AllBelow start.console end n → HasRoom (ran start.console n) }
 {

@@ -2,6 +2,7 @@
 use Rattle.std.proofs.Common.{◌≡◌, ◌≢◌, ℕ, zero, suc, ◌+◌, ◌-◌, ◌<◌, ◌≤◌, ◌^◌, ◌==◌, ◌&&◌, ◌||◌, ◌⊎◌, inl, inr, lit<, Bool, false, cond, nat_lt, ◌++◌, Option, None, refl, sym, ap, subst, ◌∙◌, append-nil, arith, option_to_list}
 use Rattle.std.proofs.lemmas.Bool.Decides.{nat_tests}
 use Rattle.std.proofs.lemmas.Bool.{ne_eqb}
+use Rattle.md_word.specs.Clock as clock
 use Rattle.md_word.specs.Clock.{last_cycle}
 use Rattle.md_word.specs.Keys.{key_lt}
 use Rattle.md_word.specs.declared.key.Key.{Key}
@@ -20,9 +21,9 @@ use Rattle.md_debug.specs.Going.{begun_by, least_of}
 
 -- what is known of the runs of the five chips
 pub record Known : Type 0 where
-  pub valid : (m : Console) (end n : ℕ) → end ≤ 2 ^ 50 → HasValidParts m → AllBelow m end n → HasValidParts (ran m n)
-  pub rise : (m : Console) (end n i : ℕ) → end ≤ 2 ^ 50 → HasValidParts m → AllBelow m end n → i < 5 → (key_in m i).cycle ≤ (key_in (ran m n) i).cycle
-  pub paced : (m : Console) (end n : ℕ) → end ≤ 2 ^ 50 → HasValidParts m → AllBelow m end n → ArePaced m n
+  pub valid : (m : Console) (end n : ℕ) → end ≤ clock.cycle_limit → HasValidParts m → AllBelow m end n → HasValidParts (ran m n)
+  pub rise : (m : Console) (end n i : ℕ) → end ≤ clock.cycle_limit → HasValidParts m → AllBelow m end n → i < 5 → (key_in m i).cycle ≤ (key_in (ran m n) i).cycle
+  pub paced : (m : Console) (end n : ℕ) → end ≤ clock.cycle_limit → HasValidParts m → AllBelow m end n → ArePaced m n
 
 later_than : (a b : Key) → key_lt a b ≡ false → a.chip < b.chip → b.cycle < a.cycle
 later_than a b late before = by a.cycle b.cycle a.chip b.chip late before where
@@ -46,7 +47,7 @@ zero_or zero = inl refl
 zero_or (suc n) = inr (omega arith)
 
 -- after the first move the next event of the 68000 comes later than the least cycle was
-first_done : Known → (m : Console) (end n : ℕ) → end ≤ 2 ^ 50 → HasValidParts m → AllBelow m end n → 1 ≤ n → least_of m < (key_in (ran m 1) 0).cycle
+first_done : Known → (m : Console) (end n : ℕ) → end ≤ clock.cycle_limit → HasValidParts m → AllBelow m end n → 1 ≤ n → least_of m < (key_in (ran m 1) 0).cycle
 first_done known m end n small has below some =
     let own : AllBelow m end 1 = λ k within. below k (omega arith) in
     let paced : IsPaced m (mover m) = subst (λ (z : Console). IsPaced z (mover z)) (ran_none m) (known.paced m end n small has below 0 (omega arith)) in
@@ -68,7 +69,7 @@ first_done known m end n small has below some =
 not_again : Known → (m : Console) (n : ℕ) → least_of m < last_cycle → HasValidParts m → AllBelow m (least_of m + 1) n → (k : ℕ) → 1 ≤ k → k < n → mover (ran m k) ≢ 0
 not_again known m n far has below k later within is =
     let end : ℕ = least_of m + 1 in
-    let small : least_of m + 1 ≤ 2 ^ 50 = omega arith in
+    let small : least_of m + 1 ≤ clock.cycle_limit = omega arith in
     let first : least_of m < (key_in (ran m 1) 0).cycle = first_done known m (least_of m + 1) n small has below (omega arith) in
     let one : AllBelow m (least_of m + 1) 1 = λ j earlier. below j (omega arith) in
     let on : 1 + (k - 1) ≡ k = omega arith in

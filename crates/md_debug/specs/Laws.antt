@@ -1,5 +1,6 @@
 -- What holds of the debugger's scripts and kept states.
 use Rattle.std.specs.Prelude.{◌≡◌, ◌≢◌, ℕ, ◌^◌, ◌≤◌, List}
+use Rattle.md_word.specs.Clock as clock
 use Rattle.md_word.specs.declared.event.Entry.{Entry}
 use Rattle.md_chips.specs.Console.{Console, IsRunTo}
 use Rattle.md_chips.specs.Machines.{MachineValue}
@@ -15,5 +16,5 @@ pub record DebugLaws : Type 0 where
   pub one : (cart script first second : List ℕ) (session_outcome other : SessionOutcome) → PlaysScript cart script first session_outcome → PlaysScript cart script second other
       → session_outcome ≢ OutOfMemory → other ≢ OutOfMemory → (first ≡ second) × (session_outcome ≡ other)
   -- a machine continues from its kept state as it would have continued
-  pub kept : (images : ImagesValue) (m : MachineValue) (z : Console) (end : ℕ) (entries : List Entry) (output : Media) → HasImage images m → m.at ≤ end → end ≤ 2 ^ 50
+  pub kept : (images : ImagesValue) (m : MachineValue) (z : Console) (end : ℕ) (entries : List Entry) (output : Media) → HasImage images m → m.at ≤ end → end ≤ clock.cycle_limit
       → IsRunTo m.console end z entries output → GoesOn end (settled_of images m).console z entries output

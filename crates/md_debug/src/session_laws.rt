@@ -1,6 +1,7 @@
 //! Laws of the debugger's scripts and states, as calls that do nothing and stand for what they ensure.
 
 ghost use Rattle.std.specs.Prelude.{◌≡◌, ◌≢◌, ℕ, ◌^◌, ◌≤◌, List};
+ghost use Rattle.md_word.specs.Clock as clock;
 ghost use Rattle.md_word.specs.declared.event.Entry.{Entry};
 ghost use Rattle.md_chips.specs.Console.{Console, IsRunTo};
 ghost use Rattle.md_chips.specs.Machines.{MachineValue};
@@ -23,7 +24,7 @@ pub fn scripts_have_one_outcome()
 /// A machine continues from its kept state as it would have continued: with the same entries, frames and samples,
 /// and to the same machine but for what is settled in a state.
 pub fn kept_machines_go_on()
-    ensures { (images : ImagesValue) (m : MachineValue) (z : Console) (end : ℕ) (entries : List Entry) (output : Media) → HasImage images m → m.at ≤ end → end ≤ 2 ^ 50
+    ensures { (images : ImagesValue) (m : MachineValue) (z : Console) (end : ℕ) (entries : List Entry) (output : Media) → HasImage images m → m.at ≤ end → end ≤ clock.cycle_limit
         → IsRunTo m.console end z entries output → GoesOn end (settled_of images m).console z entries output }
 {
     settled_machines_go_on();

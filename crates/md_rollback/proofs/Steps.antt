@@ -1,6 +1,7 @@
 -- What a frame leaves of a run from power-on.
 use Rattle.std.proofs.Common.{◌≡◌, ◌∙◌, refl, sym, ap, subst, false, ℕ, ◌+◌, ◌*◌, ◌^◌, ◌<◌, ◌≤◌, List, [], ◌++◌, Result, Ok, Err, arith}
 use Rattle.std.specs.Prelude.{All}
+use Rattle.md_word.specs.Clock as clock
 use Rattle.md_pads.specs.Recording.{Frame, IsFrame, Recorded, recording_of}
 use Rattle.md_pads.specs.declared.version.Version.{Version}
 use Rattle.md_pads.specs.declared.version.Version.TheVariants.{First}
@@ -41,7 +42,7 @@ region-is cart recording at m is =
 
 -- the laws of runs
 abbrev pub GoesLaw : Type 0
-GoesLaw = (m w z : Console) (at end : ℕ) (entries : List Entry) (output : Media) → HasValidParts m → IsQuiet at m → at ≤ end → end ≤ 2 ^ 50
+GoesLaw = (m w z : Console) (at end : ℕ) (entries : List Entry) (output : Media) → HasValidParts m → IsQuiet at m → at ≤ end → end ≤ clock.cycle_limit
     → settled_console at m ≡ settled_console at w → IsRunTo m end z entries output → GoesOn end w z entries output
 
 abbrev pub JoinLaw : Type 0
@@ -50,7 +51,7 @@ JoinLaw = (m w z : Console) (s t : ℕ) (entries later_entries : List Entry) (ou
     → IsRunTo m t z (entries ++ later_entries) (joined output later_output)
 
 abbrev pub ReachLaw : Type 0
-ReachLaw = (m z : Console) (at end : ℕ) (entries : List Entry) (output : Media) → IsReached at m → at ≤ end → end ≤ 2 ^ 50
+ReachLaw = (m z : Console) (at end : ℕ) (entries : List Entry) (output : Media) → IsReached at m → at ≤ end → end ≤ clock.cycle_limit
     → IsRunTo m end z entries output → IsReached end z
 
 -- a frame more
@@ -63,7 +64,7 @@ played-next cart recording frames end old went new goes join reach within is par
     let from : ℕ = frame * frames in
     let whole : IsRunTo old.console until went.console went.entries went.media = subst (λ (n : ℕ). IsRunTo old.console n went.console went.entries went.media) is run in
     let order : frame * frames ≤ frame * (frames + 1) = omega arith in
-    let small : frame * (frames + 1) ≤ 2 ^ 50 = omega (arith, within) in
+    let small : frame * (frames + 1) ≤ clock.cycle_limit = omega (arith, within) in
     let start : IsRunAt cart recording (frame * frames) old.console = played.machine_is.run in
     let on : GoesOn until start.last went.console went.entries went.media =
     goes old.console start.last went.console from until went.entries went.media parts played.reached.start.quiet order small start.same whole in

@@ -2,6 +2,7 @@
 use Rattle.std.proofs.Common.{◌≡◌, ℕ, zero, suc, ◌+◌, ◌-◌, ◌*◌, ◌/◌, ◌%◌, ◌<◌, ◌≤◌, leb, ltb, eqb, Bool, true, false, ◌==◌, ◌⊎◌, List, [], ◌∷◌, length, refl, sym, ap, subst, ◌∙◌, arith, inl, inr, Result}
 use Rattle.std.specs.Prelude.{slice_index}
 use Rattle.std.proofs.lemmas.Bool.{leb-true, ltb-true, eqb-true, and_parts}
+use Rattle.md_word.specs.Clock as clock
 use Rattle.md_word.specs.Clock.{last_cycle}
 use Rattle.md_word.specs.declared.unspell.Unspell.{Unspell}
 use Rattle.md_word.specs.declared.unspell.Unspell.TheVariants.{Rule, NoMemory}
@@ -203,13 +204,13 @@ pub is_first : (at : ℕ) (pal : Bool) (bytes : List ℕ) (d : RendererState) �
 unfolding AllHold
 is_first at pal bytes d s =
     let h = rules_hold 0 (saved_renderer_state.renderer_state_fields at pal (saved_renderer_state.numbers_of d)) s.right in
-    let a = and_parts (eqb (d.next % 3420) 0) _ h.0 in
-    let b = and_parts (leb at d.next) (ltb (d.next - at) 3420) a.1 in
-    let whole : d.next % 3420 ≡ 0 = eqb-true _ _ a.0 in
+    let a = and_parts (eqb (d.next % clock.line) 0) _ h.0 in
+    let b = and_parts (leb at d.next) (ltb (d.next - at) clock.line) a.1 in
+    let whole : d.next % clock.line ≡ 0 = eqb-true _ _ a.0 in
     let from : at ≤ d.next = leb-true _ _ b.0 in
-    let near : d.next - at < 3420 = ltb-true _ _ b.1 in
+    let near : d.next - at < clock.line = ltb-true _ _ b.1 in
     (from, line_is at d.next whole from near) where
-      line_is : (at next : ℕ) → next % 3420 ≡ 0 → at ≤ next → next - at < 3420 → next ≡ 3420 * ((at + 3419) / 3420)
+      line_is : (at next : ℕ) → next % clock.line ≡ 0 → at ≤ next → next - at < clock.line → next ≡ clock.line * ((at + 3419) / clock.line)
       line_is at next whole from near = omega arith
 
 late_batch : (at : ℕ) → 1 ≤ at → at ≤ first_batch at

@@ -1,5 +1,6 @@
 -- What is written of a machine that may be kept is a saved state of its cartridge.
 use Rattle.std.proofs.Common.{◌≡◌, ℕ, ◌≤◌, ◌<◌, ◌+◌, lit<, Bool, true, None, List, refl, sym, subst}
+use Rattle.md_word.specs.Clock as clock
 use Rattle.m68k_chip.specs.Rules as main_rules
 use Rattle.m68k_chip.specs.Validity.{Chip68Value}
 use Rattle.m68k_chip.specs.Spelling as main
@@ -56,7 +57,7 @@ pub renderer_state_in-kept : (at : ℕ) (d : RendererState) (m : Console) → d.
 renderer_state_in-kept at d m line note picture pal kept ready =
     let own : renderer_state.IsReady at d = record {
       from = subst (λ (n : ℕ). at ≤ n) (sym line) ready.from;
-      near = subst (λ (n : ℕ). n < at + 3420) (sym line) ready.near;
+      near = subst (λ (n : ℕ). n < at + clock.line) (sym line) ready.near;
     } in
     let same : renderer_state.drained d ≡ renderer_state_in m = λ i. record { next = line i; note = note i; has_view = true; picture = picture i; frame = None; pal = pal i } in
     subst (λ (x : RendererState). renderer_state.Spells at x.pal (renderer_state.renderer_state_bytes x) x) same (kept own)

@@ -2,6 +2,7 @@
 use Rattle.std.proofs.Common.{◌≡◌, ◌≢◌, ◌⊎◌, inl, inr, ℕ, zero, suc, ◌<◌, ◌≤◌, ◌^◌, Bool, List, [], Result, Ok, Err, refl, sym, ap, subst, ◌∙◌, arith}
 use Rattle.std.specs.Global.{Vec}
 use Rattle.std.specs.Prelude.{IfOk}
+use Rattle.md_word.specs.Clock as clock
 use Rattle.md_word.specs.Clock.{last_cycle}
 use Rattle.md_word.specs.declared.event.Entry.{Entry}
 use Rattle.md_chips.specs.Console.{AllBelow, Console, IsRunTo, key_in, mover, power_on, ran}
@@ -45,7 +46,7 @@ unfolding ran
 ran_none m n none = ap (ran m) none
 
 pub run_has : (images : ImagesValue) (m : MachineValue) (z : Console) (end : ℕ) (entries : List Entry) (output : Media)
-    → ((m z : Console) (at end : ℕ) (entries : List Entry) (output : Media) → IsReached at m → at ≤ end → end ≤ 2 ^ 50 → IsRunTo m end z entries output → IsReached end z)
+    → ((m z : Console) (at end : ℕ) (entries : List Entry) (output : Media) → IsReached at m → at ≤ end → end ≤ clock.cycle_limit → IsRunTo m end z entries output → IsReached end z)
     → HasImage images m → m.at ≤ end → end ≤ last_cycle → IsRunTo m.console end z entries output → HasImage images (drained end z)
 run_has images m z end entries output reach has later near run = record {
   cart = ap (λ (x : Console). x.cart) run.console ∙ cart-stays m.console run.moves ∙ has.cart;

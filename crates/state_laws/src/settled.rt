@@ -2,6 +2,7 @@
 //! that do nothing and stand for what they ensure.
 
 ghost use Rattle.std.specs.Prelude.{◌≡◌, ℕ, ◌^◌, ◌≤◌, All, List};
+ghost use Rattle.md_word.specs.Clock as clock;
 ghost use Rattle.md_word.specs.declared.event.Entry.{Entry};
 ghost use Rattle.md_pads.specs.Recording.{IsFrame, Recorded};
 ghost use Rattle.md_chips.specs.Console.{Console, IsQuiet, IsRunTo};
@@ -18,7 +19,7 @@ use md_machine::laws;
 /// From two machines that differ only in what was settled below a cycle runs continue alike: with the same
 /// entries, frames and samples, and to machines that differ in that alone.
 pub fn alike_machines_go_on()
-    ensures { (m w z : Console) (at end : ℕ) (entries : List Entry) (output : Media) → HasValidParts m → IsQuiet at m → at ≤ end → end ≤ 2 ^ 50
+    ensures { (m w z : Console) (at end : ℕ) (entries : List Entry) (output : Media) → HasValidParts m → IsQuiet at m → at ≤ end → end ≤ clock.cycle_limit
         → settled_console at m ≡ settled_console at w → IsRunTo m end z entries output → GoesOn end w z entries output }
 {
     laws::quiet_stays();
