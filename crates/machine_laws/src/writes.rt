@@ -61,7 +61,7 @@ pub fn writes_of_states()
 /// both ports have room for one more write: no write that a program makes for the sound chips is ever lost.
 pub fn no_write_is_lost(machine: &Machine)
     ensures { (cart bytes : List ℕ) (end n : ℕ) → let m = machine.now in let start : Start = record { at = m.at; console = m.console } in
-        IsBeginning cart bytes start → m.at ≤ end → end ≤ 2 ^ 50 → AllBelow m.console end n → HasRoom (ran m.console n) }
+        IsBeginning cart bytes start → m.at ≤ end → end ≤ clock.cycle_limit → AllBelow m.console end n → HasRoom (ran m.console n) }
 {
     console_laws::power_on_is_start();
     console_laws::parts_are_valid(machine);
