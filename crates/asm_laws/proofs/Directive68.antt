@@ -27,10 +27,10 @@ use Rattle.md_asm.specs.Rounds.{On, following, line_step, round_one, round_two, 
 use Rattle.md_asm.specs.declared.placed.Placed.{Placed}
 use Rattle.asm_laws.specs.Places.{words_from}
 use Rattle.asm_laws.specs.Sources.{main_source}
-use Rattle.asm_laws.proofs.Line.{line_is}
-use Rattle.asm_laws.proofs.Named68.{row_is_text}
+use Rattle.md_asm.proofs.Line.{line_is}
+use Rattle.md_asm.proofs.Named68.{row_is_text}
 use Rattle.asm_laws.proofs.Rounds.{even, max_zero, org_is, org_line, org_text, plain_line, small, two_lines}
-use Rattle.asm_laws.proofs.Solid.{IsText}
+use Rattle.md_asm.proofs.Solid.{IsText}
 use Rattle.asm_laws.proofs.RoundTrip68.{from_front, front_long, image_is, main_round_trip, words_back}
 use Rattle.asm_m68k.proofs.Again.{none_op}
 

@@ -18,8 +18,8 @@ use Rattle.md_asm.specs.Rounds.{On, Read, Refused, Round, Slot, Step, Stop, foll
 use Rattle.md_asm.proofs.Apart.{AllSlots, all_slots_more}
 use Rattle.asm_laws.specs.Faults.{HasNoText}
 use Rattle.asm_laws.proofs.Forms.{form_size}
-use Rattle.asm_laws.proofs.Coded68.{main_coded}
-use Rattle.asm_laws.proofs.Coded80.{sub_coded}
+use Rattle.md_asm.proofs.Coded68.{main_coded}
+use Rattle.md_asm.proofs.Coded80.{sub_coded}
 
 -- ---- each line that has bytes has its length
 

@@ -1,7 +1,8 @@
 -- A line that is an instruction's text but for its numbers has that instruction's length, and a number fits wherever an
 -- instruction's text has it.
-use Rattle.std.proofs.Common.{◌≡◌, ℕ, ◌+◌, ◌<◌, Bool, true, false, ◌||◌, not, List, [], ◌∷◌, ◌++◌, length, refl, ap, ◌∙◌, sym, arith, Some}
-use Rattle.std.specs.Prelude.{is_some, option_map, slice_set}
+use Rattle.std.proofs.Common.{◌≡◌, ℕ, ◌+◌, ◌<◌, Bool, true, false, not, List, [], ◌∷◌, ◌++◌, length, ap, ◌∙◌, sym, arith, Some}
+use Rattle.std.specs.Prelude.{is_some, slice_set}
+use Rattle.std.proofs.lemmas.Bool.{or_parts}
 use Rattle.m68k_decode.specs.Instructions as main
 use Rattle.m68k_decode.specs.Nested.{nested}
 use Rattle.z80_decode.specs.Instructions as sub
@@ -16,33 +17,22 @@ use Rattle.md_asm_text.specs.declared.body.Body.TheVariants.{Instruction}
 use Rattle.md_asm.specs.Codes.{code}
 use Rattle.md_asm.specs.Contents.{misfit, misfits, size, under}
 use Rattle.md_asm.specs.Numbers.{filled}
-use Rattle.asm_laws.specs.Forms.{HasNumber, IsForm}
-use Rattle.asm_laws.proofs.Coded68.{main_coded}
-use Rattle.asm_laws.proofs.Coded80.{sub_coded}
-use Rattle.asm_laws.proofs.Coded.{IsCoded}
-
-or_left : (a b : Bool) → (a || b) ≡ false → a ≡ false
-or_left true b h = cc
-or_left false b h = refl
-
-or_right : (a b : Bool) → (a || b) ≡ false → b ≡ false
-or_right true b h = cc
-or_right false b h = h
+use Rattle.md_asm.specs.Forms.{HasNumber, IsForm}
+use Rattle.md_asm.proofs.Coded68.{main_coded}
+use Rattle.md_asm.proofs.Coded80.{sub_coded}
+use Rattle.md_asm.specs.Coded.{IsCoded}
+use Rattle.md_asm.proofs.Found.{coded_size}
 
 -- none of a list's tokens is a misfit, so this one is none
 one_misfit : (z80 : Bool) (own : List Token) (j : ℕ) (xs : List Token) (p : Token) (ys : List Token) → misfits z80 own j (xs ++ p ∷ ys) ≡ false → misfit z80 own (j + length xs) p ≡ false
 unfolding misfits
-one_misfit z80 own j [] p ys h = ap (λ (k : ℕ). misfit z80 own k p) (let e : j + 0 ≡ j = omega arith in e) ∙ or_left (misfit z80 own j p) (misfits z80 own (j + 1) ys) h
+one_misfit z80 own j [] p ys h = ap (λ (k : ℕ). misfit z80 own k p) (let e : j + 0 ≡ j = omega arith in e) ∙ (or_parts (misfit z80 own j p) (misfits z80 own (j + 1) ys) h).0
 one_misfit z80 own j (x ∷ xs) p ys h =
     ap (λ (k : ℕ). misfit z80 own k p) (let e : j + length (x ∷ xs) ≡ j + 1 + length xs = omega arith in e)
-    ∙ one_misfit z80 own (j + 1) xs p ys (or_right (misfit z80 own j x) (misfits z80 own (j + 1) (xs ++ p ∷ ys)) h)
+    ∙ one_misfit z80 own (j + 1) xs p ys (or_parts (misfit z80 own j x) (misfits z80 own (j + 1) (xs ++ p ∷ ys)) h).1
 
 from_start : (n : ℕ) → n ≡ 0 + n
 from_start n = omega arith
-
-coded_size : (z80 : Bool) (own line_tokens : List Token) (at : ℕ) (bytes : List ℕ) → IsCoded z80 own at bytes → filled line_tokens ≡ filled own → size z80 Instruction line_tokens ≡ Some (length bytes)
-coded_size z80 own line_tokens at bytes coded same =
-    ap (λ (l : List Token). option_map length (code z80 l 4)) same ∙ ap (option_map length) coded.sized ∙ ap (λ (n : ℕ). Some n) coded.long
 
 coded_number : (z80 : Bool) (own line_tokens xs ys : List Token) (n at : ℕ) (bytes : List ℕ) → IsCoded z80 own at bytes → own ≡ xs ++ tokens.Number n ∷ ys → filled line_tokens ≡ filled own
     → misfit z80 line_tokens (length xs) (tokens.Number n) ≡ false

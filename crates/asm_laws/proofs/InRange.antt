@@ -10,7 +10,7 @@ use Rattle.asm_m68k.specs.Table.{AreWords}
 use Rattle.asm_z80.specs.Coded80.{AreBytes}
 use Rattle.md_asm.specs.Numbers.{Names, filled, resolved}
 use Rattle.asm_laws.specs.Chosen.{AreLeast}
-use Rattle.asm_laws.proofs.MainCodes.{encoded_long}
+use Rattle.md_asm.proofs.MainCodes.{encoded_long}
 use Rattle.md_asm.specs.Held.{IsAddress}
 use Rattle.md_asm.specs.Rounds.{Slot}
 use Rattle.md_asm.specs.declared.placed.Placed.{Placed}
@@ -19,8 +19,8 @@ use Rattle.asm_laws.specs.Lines.{AllRoundTrip, IsRoundTrip, IsWritten, SaysLines
 use Rattle.asm_laws.proofs.RoundTrips.{stand_bytes, words_are}
 use Rattle.text_lines.specs.Lines.{lines_of}
 use Rattle.asm_laws.specs.Fitting.{AreFitting, FitsLines}
-use Rattle.asm_laws.specs.Forms.{HasNumber, StandsIn}
-use Rattle.asm_laws.proofs.Low68.{cons_low, none_low}
+use Rattle.md_asm.specs.Forms.{HasNumber, StandsIn}
+use Rattle.md_asm.proofs.Low68.{cons_low, none_low}
 use Rattle.asm_laws.proofs.Places80.{none_byte}
 use Rattle.asm_laws.proofs.Ranges.{has_in}
 

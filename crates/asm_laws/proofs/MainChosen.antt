@@ -1,6 +1,7 @@
 -- What is assembled of tokens for the 68000 is the least of all words that say them, and is found where some do.
-use Rattle.std.proofs.Common.{◌≡◌, ◌⊎◌, inl, inr, ℕ, zero, suc, ◌*◌, ◌<◌, List, [], ◌∷◌, ◌++◌, length, Option, Some, None, append-nil, ap, ◌∙◌, sym, subst, arith}
+use Rattle.std.proofs.Common.{◌≡◌, ◌⊎◌, inl, inr, ℕ, zero, suc, ◌*◌, ◌<◌, List, [], ◌∷◌, ◌++◌, length, Option, Some, None, append-nil, refl, ap, ◌∙◌, sym, subst, arith}
 use Rattle.std.specs.Prelude.{slice_index}
+use Rattle.std.proofs.Math.Nat.{eq-or-lt_of_le}
 use Rattle.m68k_decode.specs.Instructions.{instruction_of}
 use Rattle.m68k_decode.specs.Nested.{nested}
 use Rattle.asm_m68k.specs.Encoding.{encoded}
@@ -12,10 +13,39 @@ use Rattle.asm_m68k.specs.Checked.{tried}
 use Rattle.asm_m68k.specs.RoundTrips.{Says}
 use Rattle.asm_m68k.specs.Table.{AreWords, IsInstruction}
 use Rattle.asm_m68k.proofs.Checked.{meant_again}
+use Rattle.asm_m68k.proofs.FirstWord.{first_again}
 use Rattle.md_asm.specs.Codes.{main_code}
 use Rattle.asm_laws.specs.Chosen.{AreLeast, IsBefore}
-use Rattle.asm_laws.proofs.MainCodes.{encoded_long, own_or_later}
-use Rattle.asm_laws.proofs.Texts.{assembled_again, found, going_on, keeps_text}
+use Rattle.md_asm.proofs.MainCodes.{IsBelow, decoded_code, encoded_long}
+use Rattle.md_asm.proofs.Texts.{assembled_again, found, going_on, keeps_text}
+
+-- ---- the order of words
+
+below_tail : (xs : List ℕ) (k w : ℕ) (words : List ℕ) → IsBelow xs (suc k) (w ∷ words) → IsBelow xs k words
+below_tail [] k w words below = tt
+below_tail (x ∷ xs) k w words below = (below.0, below_tail xs (suc k) w words below.1)
+
+-- where none is greater they are the same, or come first
+same_or_before : (xs ys : List ℕ) → length xs ≡ length ys → IsBelow xs 0 ys → (ys ≡ xs) ⊎ IsBefore xs ys
+same_or_before [] [] same below = inl refl
+same_or_before [] (y ∷ ys) same below = absurd (omega arith)
+same_or_before (x ∷ xs) [] same below = absurd (omega arith)
+same_or_before (x ∷ xs) (y ∷ ys) same below = elim (eq-or-lt_of_le below.0) [
+  | inl is ↦ (elim (same_or_before xs ys (omega arith) (below_tail xs 0 y ys below.1)) [
+    | inl rest ↦ inl (cc)
+    | inr rest ↦ inr (inr (is, rest))
+  ])
+  | inr less ↦ inr (inl less)
+]
+
+-- words of an instruction's length have their own code, or one that comes before them
+own_or_later : (w : ℕ) (tail : List ℕ) → AreWords (w ∷ tail) → (instruction_of (w ∷ tail)).length ≡ 2 * length (w ∷ tail)
+    → ((w ∷ tail) ≡ encoded (instruction_of (w ∷ tail)).op) ⊎ IsBefore (encoded (instruction_of (w ∷ tail)).op) (w ∷ tail)
+own_or_later w tail all long =
+    let code = decoded_code w tail all in
+    let own = code.long in
+    let first = first_again w tail (all 0) in
+    same_or_before (encoded (instruction_of (w ∷ tail)).op) (w ∷ tail) (omega (arith, own, long)) (omega (arith, first), code.low)
 
 -- ---- other words that say the tokens
 

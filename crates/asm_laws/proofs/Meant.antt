@@ -15,16 +15,16 @@ use Rattle.md_asm.specs.Contents.{misfit, size, under}
 use Rattle.md_asm.specs.Numbers.{alone, filled}
 use Rattle.asm_laws.proofs.MainChosen.{least}
 use Rattle.asm_laws.proofs.SubChosen.{chosen}
-use Rattle.asm_laws.proofs.SubTexts as sub_found
-use Rattle.asm_laws.proofs.Texts as main_found
-use Rattle.asm_laws.specs.Forms.{HasNumber, IsForm, IsMainForm, IsSubForm, StandsIn}
-use Rattle.asm_laws.proofs.Among.{not_false}
-use Rattle.asm_laws.proofs.Fits.{alone_is, filled_both, filled_long}
+use Rattle.md_asm.proofs.SubTexts as sub_found
+use Rattle.md_asm.proofs.Texts as main_found
+use Rattle.md_asm.specs.Forms.{HasNumber, IsForm, IsMainForm, IsSubForm, StandsIn}
+use Rattle.md_asm.proofs.Among.{not_false}
+use Rattle.md_asm.proofs.Fits.{alone_is, filled_both, filled_long}
 use Rattle.asm_laws.proofs.Places80.{none_byte}
 use Rattle.asm_laws.proofs.Sound68.{AreLongs}
 use Rattle.asm_laws.proofs.Tried68.{tried_words}
 use Rattle.asm_laws.proofs.Tried80.{tried_bytes}
-use Rattle.asm_laws.proofs.Coded68.{in_bytes_long}
+use Rattle.md_asm.proofs.Coded68.{in_bytes_long}
 
 -- ---- tokens with 8 for their numbers
 

@@ -12,12 +12,12 @@ use Rattle.md_asm_text.specs.Tokens as tokens
 use Rattle.md_asm_text.specs.Tokens.{Token}
 use Rattle.asm_z80.proofs.Operands.{place_tokens, shown}
 use Rattle.asm_z80.proofs.Sources.{led_tokens, row_tokens}
-use Rattle.asm_laws.specs.Ranges.{byte_allows, place_limit, sub_allows}
-use Rattle.asm_laws.proofs.Among.{not_false, put_all, put_both}
-use Rattle.asm_laws.proofs.Fits.{number_of}
-use Rattle.asm_laws.proofs.Pages80.{is_uneven}
-use Rattle.asm_laws.proofs.Rows80.{operand_with, place_with}
-use Rattle.asm_laws.proofs.With80.{row_with}
+use Rattle.md_asm.specs.Ranges.{byte_allows, place_limit, sub_allows}
+use Rattle.md_asm.proofs.Among.{not_false, put_all, put_both}
+use Rattle.md_asm.proofs.Fits.{number_of}
+use Rattle.md_asm.proofs.Pages80.{is_uneven}
+use Rattle.md_asm.proofs.Rows80.{operand_with, place_with}
+use Rattle.md_asm.proofs.With80.{row_with}
 
 -- ---- an instruction's own number
 

@@ -17,20 +17,20 @@ use Rattle.asm_z80.specs.Coded80.{AreBytes}
 use Rattle.asm_z80.specs.Instruction.{is_db}
 use Rattle.asm_z80.proofs.Sources as sub_tokens
 use Rattle.md_asm.specs.Numbers.{filled}
-use Rattle.asm_laws.specs.Forms.{HasNumber, StandsIn}
-use Rattle.asm_laws.specs.Ranges.{IsInRange, main_allows, main_operand, sub_allows, sub_operand}
-use Rattle.asm_laws.proofs.Among.{first_number, first_put, put_all, put_filled, put_plain, put_both, put_stands, second_number, second_put}
-use Rattle.asm_laws.proofs.Fill80 as fill
-use Rattle.asm_laws.proofs.Fits.{filled_both}
-use Rattle.asm_laws.proofs.Operands68.{led_with}
+use Rattle.md_asm.specs.Forms.{HasNumber, StandsIn}
+use Rattle.md_asm.specs.Ranges.{IsInRange, main_allows, main_operand, sub_allows, sub_operand}
+use Rattle.md_asm.proofs.Among.{first_number, first_put, put_all, put_filled, put_plain, put_both, put_stands, second_number, second_put}
+use Rattle.md_asm.proofs.Fill80 as fill
+use Rattle.md_asm.proofs.Fits.{filled_both}
+use Rattle.md_asm.proofs.Operands68.{led_with}
 use Rattle.asm_laws.proofs.Operands80.{first_allows, row_put, second_allows}
-use Rattle.asm_laws.proofs.Coded68 as main_trip
-use Rattle.asm_laws.proofs.Coded80 as sub_trip
-use Rattle.asm_laws.proofs.Rows68 as main_kept
-use Rattle.asm_laws.proofs.Rows80 as sub_kept
-use Rattle.asm_laws.proofs.With68 as main_with
-use Rattle.asm_laws.proofs.With80 as sub_with
-use Rattle.asm_laws.proofs.Coded68.{AreMain}
+use Rattle.md_asm.proofs.Coded68 as main_trip
+use Rattle.md_asm.proofs.Coded80 as sub_trip
+use Rattle.md_asm.proofs.Rows68 as main_kept
+use Rattle.md_asm.proofs.Rows80 as sub_kept
+use Rattle.md_asm.proofs.With68 as main_with
+use Rattle.md_asm.proofs.With80 as sub_with
+use Rattle.md_asm.proofs.Coded68.{AreMain}
 
 -- ---- the Z80
 

@@ -9,16 +9,16 @@ use Rattle.md_disasm.specs.Texts68.{text_of}
 use Rattle.asm_m68k.specs.Checked.{padded}
 use Rattle.asm_m68k.specs.Table.{AreWords, IsInstruction}
 use Rattle.md_asm.specs.Codes.{in_bytes}
-use Rattle.asm_laws.proofs.Lengths.{filled_up}
+use Rattle.md_asm.proofs.Lengths.{filled_up}
 use Rattle.md_asm.specs.Assembly.{Done, assembly}
 use Rattle.md_asm.specs.Places.{blank, image_limit, put}
 use Rattle.md_asm.proofs.Memory.{zeros_long}
 use Rattle.md_asm.specs.declared.placed.Placed.{Placed}
 use Rattle.asm_laws.specs.Places.{word_at, words_from}
 use Rattle.asm_laws.specs.Sources.{main_source}
-use Rattle.asm_laws.proofs.Named68.{op_line}
+use Rattle.md_asm.proofs.Named68.{op_line}
 use Rattle.asm_laws.proofs.Rounds.{main_done}
-use Rattle.asm_laws.proofs.Coded68.{AreMain, known, main_coded}
+use Rattle.md_asm.proofs.Coded68.{AreMain, known, main_coded}
 
 -- ---- the image
 

@@ -7,15 +7,15 @@ use Rattle.asm_z80.specs.Coded80.{AreBytes}
 use Rattle.asm_z80.specs.Checked.{padded}
 use Rattle.asm_z80.specs.Instruction.{is_db}
 use Rattle.asm_z80.proofs.Lengths.{decoded_few}
-use Rattle.asm_laws.proofs.Bytes.{filled_up}
+use Rattle.md_asm.proofs.Bytes.{filled_up}
 use Rattle.md_asm.specs.Assembly.{Done, assembly}
 use Rattle.md_asm.specs.Places.{blank, put}
 use Rattle.md_asm.specs.declared.placed.Placed.{Placed}
 use Rattle.asm_laws.specs.Places.{bytes_from}
 use Rattle.asm_laws.specs.Sources.{sub_source}
-use Rattle.asm_laws.proofs.Named80.{op_line}
+use Rattle.md_asm.proofs.Named80.{op_line}
 use Rattle.asm_laws.proofs.Rounds.{sub_done}
-use Rattle.asm_laws.proofs.Coded80.{sub_coded}
+use Rattle.md_asm.proofs.Coded80.{sub_coded}
 
 -- ---- the image
 

@@ -23,8 +23,8 @@ use Rattle.md_asm.specs.Rounds.{Slot}
 use Rattle.md_asm.specs.declared.placed.Placed.{Placed}
 use Rattle.md_asm.proofs.Held.{lines_held}
 use Rattle.asm_laws.specs.Chosen.{AreChosen, AreLeast}
-use Rattle.asm_laws.proofs.SubTexts as sub_laws
-use Rattle.asm_laws.proofs.Texts as main_laws
+use Rattle.md_asm.proofs.SubTexts as sub_laws
+use Rattle.md_asm.proofs.Texts as main_laws
 use Rattle.asm_laws.specs.Lines.{AllRoundTrip, IsKept, IsRoundTrip, IsWritten, SaysLines}
 use Rattle.asm_laws.specs.Places.{bytes_from, text_at, word_at, words_from}
 

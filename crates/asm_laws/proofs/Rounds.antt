@@ -18,9 +18,9 @@ use Rattle.md_asm.specs.Places.{any_written, blank, image_limit, put}
 use Rattle.md_asm.proofs.Slots.{resolved_plain}
 use Rattle.md_asm.specs.Rounds.{On, following, line_step, round_one, round_two, start}
 use Rattle.asm_laws.specs.Sources.{main_source, sub_source}
-use Rattle.asm_laws.proofs.Line.{instruction_line, line_is}
-use Rattle.asm_laws.proofs.Solid.{IsText, eight_solid, four_solid, has_none, text_more, text_solid}
-use Rattle.asm_laws.proofs.Coded.{IsCoded}
+use Rattle.md_asm.proofs.Line.{instruction_line, line_is}
+use Rattle.md_asm.proofs.Solid.{IsText, eight_solid, four_solid, has_none, text_more, text_solid}
+use Rattle.md_asm.specs.Coded.{IsCoded}
 
 -- ---- the lines of a source
 

@@ -14,7 +14,7 @@ use Rattle.asm_z80.proofs.Lengths.{decoded_few, encoded_long}
 use Rattle.md_asm.specs.Codes.{sub_code}
 use Rattle.asm_laws.specs.Chosen.{AreChosen, IsPassed, Says}
 use Rattle.asm_laws.proofs.SubCodes.{own_or_passed}
-use Rattle.asm_laws.proofs.SubTexts.{assembled_again, found, keeps_text}
+use Rattle.md_asm.proofs.SubTexts.{assembled_again, found, keeps_text}
 use Rattle.asm_laws.proofs.MainChosen.{none_by}
 
 no_bytes : AreBytes []

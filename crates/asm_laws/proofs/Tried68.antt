@@ -18,7 +18,7 @@ use Rattle.asm_m68k.specs.Building as building
 use Rattle.asm_m68k.specs.Building.{Entry, base, bit, built, by_word, displacement, either, immediate, list, list_with, meant, move, movem, movep, number, offset, quick, register, shift, mnemonic_in, mnemonic_of, sum, table, written}
 use Rattle.asm_m68k.specs.Checked.{tried}
 use Rattle.asm_m68k.specs.Table.{AreWords}
-use Rattle.asm_laws.proofs.Low68.{cons_low, append_low, mode_low, none_low, size_low}
+use Rattle.md_asm.proofs.Low68.{cons_low, append_low, mode_low, none_low, size_low}
 use Rattle.asm_laws.proofs.Sound68.{AreLongs, IsSound, read_sound}
 use Rattle.asm_laws.proofs.Codes68.{base_low, code_low, condition_low, cut, either_low, exchange_low, group_low, list_low, listed_low, long_below, mode_read, move_below, offset_low, quick_low, register_low, size_below, task_low}
 

@@ -9,7 +9,7 @@ use Rattle.md_asm_text.specs.declared.body.Body.TheVariants as bodies
 use Rattle.md_asm.specs.Contents.{is_unfit, misfit, misfits, size}
 use Rattle.md_asm.specs.Numbers.{any_over, count}
 use Rattle.asm_laws.specs.Faults.{HasOver, IsBad, IsUnfit}
-use Rattle.asm_laws.specs.Forms.{HasNumber, StandsIn}
+use Rattle.md_asm.specs.Forms.{HasNumber, StandsIn}
 use Rattle.asm_laws.proofs.Forms.{form_size, has_fits}
 use Rattle.asm_laws.proofs.Ranges.{in_has}
 

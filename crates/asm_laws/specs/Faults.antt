@@ -16,8 +16,8 @@ use Rattle.md_asm_text.specs.declared.body.Body.TheVariants as bodies
 use Rattle.md_asm.specs.Numbers.{resolved}
 use Rattle.md_asm.specs.Places.{is_sub}
 use Rattle.md_asm.specs.Rounds.{Read, Round, Slot, round_one, start}
-use Rattle.asm_laws.specs.Forms.{HasNumber, IsForm, StandsIn}
-use Rattle.asm_laws.specs.Ranges.{IsInRange}
+use Rattle.md_asm.specs.Forms.{HasNumber, IsForm, StandsIn}
+use Rattle.md_asm.specs.Ranges.{IsInRange}
 
 -- after a label's colon is no line, or in place of a label no name; or it is no directive, and no instruction of the
 -- processor has its form

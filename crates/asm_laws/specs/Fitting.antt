@@ -5,8 +5,8 @@ use Rattle.text_lines.specs.Lines.{lines_of}
 use Rattle.md_asm.specs.Numbers.{Names, resolved}
 use Rattle.md_asm.specs.Assembly.{is_instruction}
 use Rattle.md_asm.specs.Rounds.{Read, Round, Slot, round_one, start}
-use Rattle.asm_laws.specs.Forms.{StandsIn}
-use Rattle.asm_laws.specs.Ranges.{IsInRange}
+use Rattle.md_asm.specs.Forms.{StandsIn}
+use Rattle.md_asm.specs.Ranges.{IsInRange}
 
 -- each number of a line that is an instruction, with the value of each name, is in the range of its place
 abbrev pub IsFitting : Names → Slot → Type 0

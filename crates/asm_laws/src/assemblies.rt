@@ -1,19 +1,12 @@
 //! Laws of the definitions that the contracts cite, each on a call that does nothing else.
 
 ghost use Rattle.std.specs.Prelude.{◌≡◌, ℕ, List};
-ghost use Rattle.asm_z80.specs.Coded80.{AreBytes};
 ghost use Rattle.md_asm.specs.Assembly.{Done, assembly};
 ghost use Rattle.md_asm.specs.declared.placed.Placed.{Placed};
 ghost use Rattle.asm_laws.specs.Lines.{SaysLines};
 
 use crate::laws::{codes_are_chosen, texts_are_assembled};
-
-/// An image is bytes.
-pub fn known_bytes(image: &[u8])
-    ensures { AreBytes image.now }
-{
-    let _image = image;
-}
+use md_asm::laws::known_bytes;
 
 /// In the image of a source each line that is an instruction is at its place: what is decoded there has, at its address,
 /// the text of the line, each name replaced by its number; it is the instruction that has this text there; and of all

@@ -17,11 +17,12 @@ ghost use Rattle.md_asm.specs.declared.placed.Placed.{Placed};
 ghost use Rattle.asm_laws.specs.Places.{bytes_from, words_from};
 ghost use Rattle.asm_laws.specs.Faults.{IsFaulty};
 ghost use Rattle.asm_laws.specs.Fitting.{FitsLines};
-ghost use Rattle.asm_laws.specs.Forms.{HasNumber, IsForm, StandsIn};
-ghost use Rattle.asm_laws.specs.Ranges.{IsInRange};
+ghost use Rattle.md_asm.specs.Forms.{HasNumber, IsForm, StandsIn};
+ghost use Rattle.md_asm.specs.Ranges.{IsInRange};
 ghost use Rattle.asm_laws.specs.Sources.{KeepsInstruction, main_source, sub_source};
 
-use crate::assemblies::{image_says_its_lines, known_bytes};
+use crate::assemblies::image_says_its_lines;
+use md_asm::laws::known_bytes;
 
 /// Whatever words or bytes decode to, but what the Z80's text writes as a directive: a source of its text at an address
 /// has an image, and what is there decodes to it. For the 68000 the address is even, and its bytes stay below 400000h.

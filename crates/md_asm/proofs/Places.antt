@@ -1,8 +1,7 @@
 -- Places that were written.
-use Rattle.std.proofs.Common.{◌≡◌, ℕ, zero, suc, ◌+◌, ◌-◌, ◌<◌, ◌≤◌, Bool, true, false, ◌||◌, ◌&&◌, nat_le, nat_lt, nat_eq, List, length, get_or, replicate, refl, arith, subst, sym}
-use Rattle.std.proofs.Math.ListN.{set}
+use Rattle.std.proofs.Common.{◌≡◌, ℕ, zero, suc, ◌+◌, ◌-◌, ◌<◌, ◌≤◌, Bool, true, false, ◌||◌, nat_lt, List, length, get_or, replicate, refl, arith, subst, sym}
 use Rattle.std.proofs.lemmas.Bool.Decides.{nat_tests}
-use Rattle.std.proofs.lemmas.List.{get_or-replicate, get_or-set_other, get_or-set_same, get_or_past, length-replicate}
+use Rattle.std.proofs.lemmas.List.{get_or-replicate, get_or_past, length-replicate}
 use Rattle.md_asm.specs.Places.{WrittenPlaces, any_written}
 
 -- one place less is left
@@ -10,9 +9,6 @@ pub any_step : (written : WrittenPlaces) (place left : ℕ) → 0 < left
     → any_written written place left ≡ (written place || any_written written (place + 1) (left - 1))
 any_step written place zero some = absurd (omega arith)
 any_step written place (suc left) some = let e : suc left - 1 ≡ left = omega arith in rw e refl
-
-pub any_here : (written : WrittenPlaces) (place left : ℕ) → 0 < left → written place ≡ true → true ≡ any_written written place left
-any_here written place left some is = rw (any_step written place left some, is) refl
 
 pub any_on : (written : WrittenPlaces) (place left : ℕ) → 0 < left → written place ≡ false
     → any_written written (place + 1) (left - 1) ≡ any_written written place left
@@ -26,16 +22,6 @@ none_above written limit none (suc left) place h =
     let here = none place h in
     let more = none_above written limit none left (place + 1) (omega arith) in
     rw (here, more) refl
-
--- marks up to a place, and one more
-pub one_marked : (old : ℕ → Bool) (marks : List Bool) (from k : ℕ) → from ≤ k → k < length marks
-    → ((other : ℕ) → get_or marks other false ≡ (old other || (nat_le from other && nat_lt other k)))
-    → (other : ℕ) → get_or (set marks k true) other false ≡ (old other || (nat_le from other && nat_lt other (k + 1)))
-one_marked old marks from k low within marked other = cases (nat_eq other k) refl
-  where
-    cases : (b : Bool) → nat_eq other k ≡ b → get_or (set marks k true) other false ≡ (old other || (nat_le from other && nat_lt other (k + 1)))
-    cases true is = grind (arith, nat_tests, get_or-set_same marks k true false within)
-    cases false is = grind (arith, nat_tests, marked other, get_or-set_other marks k other true false)
 
 -- what is read at a place
 pub mark_at : (marks : List Bool) (at : ℕ) (r : Bool) → at < length marks → r ≡ get_or marks at r → r ≡ false → get_or marks at false ≡ false

@@ -1,12 +1,12 @@
 -- Lines that are kept, and what a line without names results in.
-use Rattle.std.proofs.Common.{◌≡◌, ℕ, ◌+◌, ◌≤◌, ◌==◌, Bool, true, false, List, [], ◌∷◌, ◌++◌, length, Option, Some, None, refl, arith, ◌∙◌, ap, if◌then◌else◌}
+use Rattle.std.proofs.Common.{◌≡◌, ℕ, ◌==◌, Bool, true, false, List, [], ◌∷◌, ◌++◌, length, Option, Some, None, refl, ◌∙◌, ap, if◌then◌else◌}
 use Rattle.std.proofs.lemmas.Bool.{eqb-true}
 use Rattle.md_asm_text.specs.Tokens as tokens
 use Rattle.md_asm_text.specs.Tokens.{Token}
 use Rattle.md_asm_text.specs.declared.body.Body.{Body}
-use Rattle.md_asm.specs.Contents.{Far, Good, Settled, Unfit, Unknown, content, is_unfit, settled_line, sized}
+use Rattle.md_asm.specs.Contents.{Far, Good, Unfit, Unknown, content, is_unfit, settled_line, sized}
 use Rattle.md_asm.specs.Numbers.{Names, has_name, resolved}
-use Rattle.md_asm.specs.Kept.{AreKept, SettlesOn, FitsAt, IsKept}
+use Rattle.md_asm.specs.Kept.{AreKept, SettlesOn, IsKept}
 use Rattle.md_asm.specs.declared.entry.Entry.{Entry}
 
 -- one line more is kept
@@ -49,18 +49,6 @@ pub settled_long : (sub : Bool) (body : Body) (long : ℕ) (line_tokens : List T
     → settled_line sub body long line_tokens at ≡ Good bytes → length bytes ≡ long
 settled_long sub body long line_tokens at bytes is =
     chosen (has_name line_tokens) (is_unfit sub body line_tokens) long (content sub body line_tokens at) bytes is
-
-fits : (place long room : ℕ) (s : Settled) → place + long ≤ room → ((bytes : List ℕ) → s ≡ Good bytes → length bytes ≡ long) → FitsAt s place room
-fits place long room (Good bytes) h own = let e = own bytes refl in omega (arith, e)
-fits place long room Unknown h own = tt
-fits place long room Unfit h own = tt
-fits place long room Far h own = tt
-
--- so they have room where the line has
-pub settled_fits : (sub : Bool) (body : Body) (long : ℕ) (line_tokens : List Token) (at place room : ℕ) → place + long ≤ room
-    → FitsAt (settled_line sub body long line_tokens at) place room
-settled_fits sub body long line_tokens at place room h =
-    fits place long room (settled_line sub body long line_tokens at) h (λ bytes is. settled_long sub body long line_tokens at bytes is)
 
 pub settles_long : (sub : Bool) (body : Body) (long : ℕ) (line_tokens : List Token) (at : ℕ) (bytes : List ℕ) → SettlesOn sub body long line_tokens at bytes
     → length bytes ≡ long

@@ -1,10 +1,13 @@
 pub mod Assembly
+pub mod Coded
 pub mod Codes
 pub mod Contents
+pub mod Forms
 pub mod Held
 pub mod Kept
 pub mod Numbers
 pub mod Places
+pub mod Ranges
 pub mod Rounds
 pub mod Seen
 pub mod SeenCodes

@@ -38,6 +38,10 @@ filled_token token = token
 abbrev pub filled : List Token → List Token
 filled line_tokens = map filled_token line_tokens
 
+-- 8 in place of each name alone
+abbrev pub names_filled : List Token → List Token
+names_filled line_tokens = resolved (λ name. Some 8) line_tokens
+
 -- 8 for all but the number at one place
 abbrev pub alone : List Token → ℕ → Token → List Token
 alone line_tokens i number = slice_set (filled line_tokens) i number

@@ -1,6 +1,7 @@
-ghost use Rattle.std.specs.Prelude.{◌≡◌, ◌<◌, ◌*◌, ◌≤◌, IfOk, IfSome, length, map, option_map, true};
+ghost use Rattle.std.specs.Prelude.{◌≡◌, ◌<◌, ◌*◌, ◌≤◌, IfOk, IfSome, false, length, map, option_map, true};
 ghost use Rattle.md_asm_text.specs.Shown.{shown};
 ghost use Rattle.md_asm.specs.Contents as contents;
+ghost use Rattle.md_asm.specs.Numbers as numbers;
 ghost use Rattle.md_asm.specs.SeenCodes.{settled_seen};
 
 use crate::codes::code;
@@ -108,6 +109,26 @@ fn sized(found: Option<Vec<u8>>, long: usize) -> Settled
     }
 }
 
+/// The outcome of an instruction without names. Where its bytes are found, its numbers fit. It fails where memory runs out.
+#[tactic(auto, using(crate::proofs::Found::coded_settles))]
+fn settle_instruction(
+    alloc: Global,
+    z80: bool,
+    long: usize,
+    tokens: &[Token<'_>],
+    at: u32,
+) -> Result<Settled, NoMemory>
+    requires addressed { z80 ≡ true → at < 65536 }
+    requires plain { numbers.has_name (map shown tokens.now) ≡ false }
+    ensures { IfOk result (λ settled. settled_seen settled ≡ contents.settled_line z80 Body.Instruction long (map shown tokens.now) at) }
+{
+    let found = code(alloc, z80, tokens, at)?;
+    if found.is_none() && misfits(alloc, z80, tokens)? {
+        return Ok(Settled::Unfit);
+    }
+    Ok(sized(found, long))
+}
+
 /// The outcome of a line of this length, with its names resolved, at an address, which for the Z80 is below 10000h. It
 /// fails where memory runs out.
 pub fn settle(
@@ -123,6 +144,9 @@ pub fn settle(
 {
     if has_name(tokens) {
         return Ok(Settled::Unknown);
+    }
+    if let Body::Instruction = body {
+        return settle_instruction(alloc, z80, long, tokens, at);
     }
     if is_unfit(alloc, z80, body, tokens)? {
         return Ok(Settled::Unfit);

@@ -13,6 +13,7 @@ mod fault;
 mod fitting;
 mod kind;
 pub mod laws;
+mod measuring;
 mod names;
 mod numbers;
 mod pass;

@@ -1,4 +1,4 @@
-ghost use Rattle.std.specs.Prelude.{◌≡◌, IfOk, map};
+ghost use Rattle.std.specs.Prelude.{◌≡◌, IfOk, Some, map};
 ghost use Rattle.md_asm_text.specs.Shown.{shown};
 ghost use Rattle.md_asm.specs.Numbers as numbers;
 ghost use Rattle.md_asm.specs.SeenCodes.{names_seen};
@@ -76,6 +76,29 @@ pub(crate) fn fill<'a>(alloc: Global, tokens: &[Token<'a>]) -> Result<Vec<Token<
     let mut filled = Vec::new(alloc);
     for token in tokens {
         filled.push(fill_token(*token))?;
+    }
+    Ok(filled)
+}
+
+fn fill_name<'a>(token: Token<'a>) -> Token<'a>
+    ensures { shown result ≡ numbers.resolved_token (λ _. Some 8) (shown token.entry) }
+{
+    match token {
+        Token::Name(_) => Token::Number(8),
+        _ => token,
+    }
+}
+
+/// The tokens with 8 for each name; numbers stay. It fails where memory runs out.
+pub(crate) fn fill_names<'a>(
+    alloc: Global,
+    tokens: &[Token<'a>],
+) -> Result<Vec<Token<'a>>, NoMemory>
+    ensures { IfOk result (λ v. map shown v.items ≡ numbers.names_filled (map shown tokens.now)) }
+{
+    let mut filled = Vec::new(alloc);
+    for token in tokens {
+        filled.push(fill_name(*token))?;
     }
     Ok(filled)
 }

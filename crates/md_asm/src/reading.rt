@@ -1,21 +1,22 @@
-ghost use Rattle.std.specs.Prelude.{◌≡◌, ◌+◌, ◌<◌, ◌≤◌, IfOk, IfSome, OnOk, map, true, option_map, vec_len};
+ghost use Rattle.std.specs.Prelude.{◌≡◌, ◌+◌, ◌≤◌, IfOk, OnOk, true, option_map, vec_len};
 ghost use Rattle.md_asm_text.specs.Tokens as texts;
-ghost use Rattle.md_asm_text.specs.Shown.{shown};
 ghost use Rattle.md_asm_text.specs.Lines.{line_of};
 ghost use Rattle.md_asm_text.specs.Seen.{line_seen};
 ghost use Rattle.md_asm.specs.SeenCodes.{names_seen};
-ghost use Rattle.md_asm.specs.Kept.{SettlesOn, IsPass};
+ghost use Rattle.md_asm.specs.Contents as contents;
+ghost use Rattle.md_asm.specs.Kept.{IsKnown, IsPass};
 ghost use Rattle.md_asm.specs.Places as places;
 ghost use Rattle.md_asm.specs.Rounds as rounds;
 ghost use Rattle.md_asm.specs.Seen.{round_seen, step_seen};
 
+use crate::Names;
 use crate::cells::PLACES;
 use crate::entry::Entry;
 use crate::kind::Kind;
+use crate::measuring::{Measured, measure};
 use crate::pass::Pass;
 use crate::processor::{Processor, address, is_sub};
-use crate::{Names, Settled, has_name, is_unfit, settle, size};
-use md_asm_text::{Body, Line, Token, read_line};
+use md_asm_text::{Body, Line, read_line};
 use md_word::NoMemory;
 use std::alloc::Global;
 
@@ -81,76 +82,47 @@ fn processor_after(processor: Processor, place: u32, body: Body) -> Processor
     }
 }
 
-/// The bytes of a line without names; `None` where it has names or is at fault. It fails where memory runs out.
-fn known(
-    alloc: Global,
-    z80: bool,
-    body: Body,
-    long: usize,
-    tokens: &[Token<'_>],
-    at: u32,
-) -> Result<Option<Vec<u8>>, NoMemory>
-    requires { z80 ≡ true → at < 65536 }
-    ensures { IfOk result (λ found. IfSome found (λ bytes. SettlesOn z80 body long (map shown tokens.now) at bytes.items)) }
-{
-    if has_name(tokens) {
-        return Ok(None);
-    }
-    match settle(alloc, z80, body, long, tokens, at)? {
-        Settled::Good(bytes) => Ok(Some(bytes)),
-        Settled::Unknown | Settled::Unfit | Settled::Far => Ok(None),
-    }
-}
-
 impl<'a> Pass<'a> {
-    /// The least kind of fault of a line that has a form, of this length, or `None` without one. It fails where memory runs
-    /// out.
-    fn fault_of(
-        &self,
-        alloc: Global,
-        line: &Line<'a>,
-        long: usize,
-    ) -> Result<Option<Kind>, NoMemory>
+    /// The least kind of fault of a line that has a form, of this length, or `None` without one.
+    fn fault_of(&self, line: &Line<'a>, long: usize, unfit: bool) -> Option<Kind>
         requires whole { vec_len self.now.cells.marks ≡ places.image_limit }
-        requires tokens { map shown line.now.tokens.items ≡ texts.tokens line.now.text.now }
-        ensures { IfOk result (λ fault. fault ≡ rounds.fault_of (round_seen self.now) (line_seen line.now) long) }
+        requires unfit { unfit ≡ contents.is_unfit (places.is_sub self.now.processor) line.now.body (texts.tokens line.now.text.now) }
+        ensures { result ≡ rounds.fault_of (round_seen self.now) (line_seen line.now) long }
     {
-        let z80 = is_sub(self.processor);
-        if is_unfit(alloc, z80, line.body, line.tokens.as_slice())? {
-            return Ok(Some(Kind::BadNumber));
+        if unfit {
+            return Some(Kind::BadNumber);
         }
         if is_twice(&self.names, line.label) {
-            return Ok(Some(Kind::Twice));
+            return Some(Kind::Twice);
         }
-        if wants_even(z80, line.body) && self.place % 2 == 1 {
-            return Ok(Some(Kind::Odd));
+        if wants_even(is_sub(self.processor), line.body) && self.place % 2 == 1 {
+            return Some(Kind::Odd);
         }
         if self.cells.any(self.place, long) {
-            return Ok(Some(Kind::Overlap));
+            return Some(Kind::Overlap);
         }
         if has_bytes(line.body) && is_too_large(self.place, long) {
-            return Ok(Some(Kind::TooLarge));
+            return Some(Kind::TooLarge);
         }
-        Ok(None)
+        None
     }
 
     /// Keeps a line that has bytes. It fails where memory runs out.
     fn keep(
         &mut self,
-        alloc: Global,
         number: u32,
         line: &Line<'a>,
         long: usize,
+        bytes: Option<Vec<u8>>,
     ) -> Result<(), NoMemory>
         requires pass { IsPass self.old }
-        requires tokens { map shown line.now.tokens.items ≡ texts.tokens line.now.text.now }
+        requires known { IsKnown (round_seen self.old) (line_seen line.now) long bytes }
         requires within { self.old.place + long ≤ places.image_limit }
         ensures seen { OnOk result (round_seen self.new ≡ rounds.kept (round_seen self.old) number (line_seen line.now) long) }
         ensures pass { OnOk result (IsPass self.new) }
     {
         let z80 = is_sub(self.processor);
         let at = address(self.processor, self.place);
-        let bytes = known(alloc, z80, line.body, long, line.tokens.as_slice(), at)?;
         self.entries.push(Entry {
             line: number,
             place: self.place,
@@ -182,20 +154,20 @@ impl<'a> Pass<'a> {
     /// Continues after a line. It fails where memory runs out.
     fn go_on(
         &mut self,
-        alloc: Global,
         number: u32,
         line: &Line<'a>,
         long: usize,
+        bytes: Option<Vec<u8>>,
     ) -> Result<(), NoMemory>
         requires pass { IsPass self.old }
-        requires tokens { map shown line.now.tokens.items ≡ texts.tokens line.now.text.now }
+        requires known { IsKnown (round_seen self.old) (line_seen line.now) long bytes }
         requires within { rounds.has_bytes line.now.body ≡ true → self.old.place + long ≤ places.image_limit }
         ensures seen { OnOk result (round_seen self.new ≡ rounds.following (round_seen self.old) number (line_seen line.now) long) }
         ensures pass { OnOk result (IsPass self.new) }
     {
         self.label(line.label)?;
         if has_bytes(line.body) {
-            self.keep(alloc, number, line, long)?;
+            self.keep(number, line, long, bytes)?;
         }
         self.processor = processor_after(self.processor, self.place, line.body);
         self.place = place_after(self.place, line.body, long);
@@ -215,13 +187,16 @@ impl<'a> Pass<'a> {
     {
         let line = read_line(alloc, text)?;
         let z80 = is_sub(self.processor);
-        let Some(long) = size(alloc, z80, line.body, line.tokens.as_slice())? else {
+        let at = address(self.processor, self.place);
+        let found = measure(alloc, z80, line.body, line.tokens.as_slice(), at)?;
+        let Some(measured) = found else {
             return Ok(Some(Kind::BadLine));
         };
-        if let Some(kind) = self.fault_of(alloc, &line, long)? {
+        let Measured { long, unfit, bytes } = measured;
+        if let Some(kind) = self.fault_of(&line, long, unfit) {
             return Ok(Some(kind));
         }
-        self.go_on(alloc, number, &line, long)?;
+        self.go_on(number, &line, long, bytes)?;
         Ok(None)
     }
 }

@@ -1,5 +1,5 @@
-use Rattle.asm_laws.proofs.SubTexts as sub
-use Rattle.asm_laws.proofs.Texts as main
+use Rattle.md_asm.proofs.SubTexts as sub
+use Rattle.md_asm.proofs.Texts as main
 use Rattle.asm_laws.proofs.laws.texts_are_assembled.Goals as goal
 
 pub returns : goal.returns
