@@ -71,21 +71,32 @@ impl<C: ChipSet, N: Named, L0: Ledger, L1: Ledger, L2: Ledger, L3: Ledger, L4: L
     /// due.
     pub(crate) fn help<R: Wait>(&self, rt: &R, jobs: &Option<C::Jobs>) {
         for _ in rt.forever() {
-            let seen = self.changes.load(Ordering::SeqCst);
-            match self.do_first(rt) {
-                Found::Chip(_) => {}
-                Found::Nothing => {
-                    if !run_job::<C, R>(rt, jobs) && !self.wait_for_change(rt, seen, jobs) {
-                        return;
-                    }
-                }
-                Found::Over => {
-                    self.linger(rt, jobs);
-                    return;
-                }
+            if !self.help_once(rt, jobs) {
+                return;
             }
         }
         unreachable!()
+    }
+
+    /// Does private work that is due, or else what a helper does without any; answers whether it continues.
+    fn help_once<R: Wait>(&self, rt: &R, jobs: &Option<C::Jobs>) -> bool {
+        let seen = self.changes.load(Ordering::SeqCst);
+        match self.do_first(rt) {
+            Found::Chip(_) => true,
+            Found::Nothing => self.run_or_wait(rt, seen, jobs),
+            Found::Over => {
+                self.linger(rt, jobs);
+                false
+            }
+        }
+    }
+
+    /// Runs a job, or else waits for a change after so many; answers whether it continues.
+    fn run_or_wait<R: Wait>(&self, rt: &R, seen: u64, jobs: &Option<C::Jobs>) -> bool {
+        if run_job::<C, R>(rt, jobs) {
+            return true;
+        }
+        self.wait_for_change(rt, seen, jobs)
     }
 
     /// Waits for a change after so many: it looks for a while, and then sleeps, but not while a job is
