@@ -1,5 +1,5 @@
 -- What an outcome says of an assembly, and the outcome without a fault.
-use Rattle.std.proofs.Common.{◌≡◌, ◌≢◌, ◌⊎◌, inl, inr, ℕ, Bool, cond, List, [], length, Option, Some, None, refl, ap, ◌∙◌, arith}
+use Rattle.std.proofs.Common.{◌≡◌, ◌≢◌, ◌⊎◌, inl, inr, ℕ, Bool, cond, List, [], length, Option, Some, None, refl, ap, ◌∙◌}
 use Rattle.std.proofs.lemmas.Bool.{le-ltb}
 use Rattle.md_outer.specs.Outside.{DepotState, Files, Rose, with_file}
 use Rattle.md_outer.proofs.WrittenFiles.{with_file-other}

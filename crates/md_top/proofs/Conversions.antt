@@ -1,5 +1,5 @@
 -- What an outcome says of a conversion, and the outcome without a fault.
-use Rattle.std.proofs.Common.{◌≡◌, ◌≢◌, ◌⊎◌, inl, inr, ℕ, Bool, cond, List, [], length, Option, Some, None, refl, ap, ◌∙◌, arith}
+use Rattle.std.proofs.Common.{◌≡◌, ◌≢◌, ◌⊎◌, inl, inr, ℕ, Bool, cond, List, [], length, Option, Some, None, refl, ap, ◌∙◌}
 use Rattle.std.specs.Prelude.{unwrap_or}
 use Rattle.std.proofs.lemmas.Bool.{le-ltb}
 use Rattle.md_outer.specs.Outside.{DepotState, Files, Rose}

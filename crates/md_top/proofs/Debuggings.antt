@@ -1,8 +1,8 @@
 -- A session of the debugger: what its outcome says.
-use Rattle.std.proofs.Common.{◌≡◌, ◌≢◌, ◌⊎◌, inl, inr, ℕ, ◌<◌, ◌≤◌, List, [], ◌++◌, length, Err, Option, Some, None, refl, sym, ap, subst, ◌∙◌, arith}
+use Rattle.std.proofs.Common.{◌≡◌, ◌≢◌, ◌⊎◌, inl, inr, ℕ, ◌<◌, ◌≤◌, List, [], ◌++◌, length, Err, Option, Some, None, refl, sym, ap, subst, ◌∙◌}
 use Rattle.std.specs.Prelude.{IsSomeAnd, unwrap_or}
 use Rattle.md_debug.specs.Sessions.{reply_to}
-use Rattle.md_outer.specs.Outside.{DepotState, Files, GoesOn, Rose, SinkState}
+use Rattle.md_outer.specs.Outside.{DepotState, Files, Rose, SinkState}
 use Rattle.md_args.specs.Words.{Debug, Debugging}
 use Rattle.md_args.specs.declared.files.Input.TheVariants.{Script}
 use Rattle.md_debug.specs.declared.script.SessionOutcome.{SessionOutcome as ScriptOutcome}
@@ -12,10 +12,9 @@ use Rattle.md_debug.proofs.PlayedScripts.{one_script}
 use Rattle.md_top.specs.Debuggings.{CanDebug, DebugEnds, IsPlayed, IsScripted, Scripted, ShowsReplies, played_outcome, script_limit}
 use Rattle.md_top.specs.CommandOutcomes.{status_of}
 use Rattle.md_top.specs.Refusals.{debug_command_outcome, script_outcome}
-use Rattle.md_top.specs.Inputs.{CartCause, IsAccepted, IsTooLong, IsUnread, cart_of}
+use Rattle.md_top.specs.Inputs.{CartCause, IsAccepted, cart_of}
 use Rattle.md_top.specs.declared.command_outcome.CommandOutcome.{CommandOutcome}
 use Rattle.md_top.specs.declared.command_outcome.CommandOutcome.TheVariants.{Played, ReadFault, ReplyFault, ScriptMemory, ScriptRefused, TooLong}
-use Rattle.md_top.proofs.Kept.{unread_before}
 use Rattle.md_top.proofs.Puts.{puts_on}
 use Rattle.md_top.proofs.Right.{read_long, read_missing, read_within, right_accepted}
 use Rattle.md_top.proofs.RunsRight.{cart_always, cart_there, file_there, file_within}
@@ -162,15 +161,6 @@ stopped_cause observable sink words old new cart script out out' found is within
     puts_on sink stops.replies (reply_to stops.command stopped.after) out stops.between out' (Err tt) stops.puts stops.fails,
   ),
 )
-
-pub unread_cause : (observable : Type 0) (words : Debugging) (old mid new : DepotState) → (observable → IsAccepted (old.files words.rom)) → (observable → mid.files ≡ old.files) → GoesOn old mid
-    → IsUnread observable words.script mid new → DebugEnds observable words old new (ReadFault Script)
-unread_cause observable words old mid new accepted same on cause = (accepted, unread_before observable words.script old mid new same on cause)
-
-pub long_cause : (observable : Type 0) (words : Debugging) (old mid new : DepotState) → (observable → IsAccepted (old.files words.rom)) → (observable → mid.files ≡ old.files)
-    → IsTooLong observable script_limit words.script mid → DebugEnds observable words old new (TooLong Script)
-long_cause observable words old mid new accepted same long =
-    (accepted, λ t. subst (λ (files : Files). IsSomeAnd (files words.script) (λ script. script_limit < length script)) (same t) (long t))
 
 -- why a session has no cartridge
 pub cart_ends : (observable sink : Type 0) (words : Debugging) (old new : DepotState) (out : SinkState) (command_outcome : CommandOutcome) → CartCause observable words.rom old new command_outcome

@@ -1,5 +1,5 @@
 -- The run of a demonstration cartridge: what its digests hold, and what its outcome says.
-use Rattle.std.proofs.Common.{◌≡◌, ◌⊎◌, inl, inr, ℕ, ◌^◌, ◌<◌, ◌≤◌, List, [], ◌++◌, Bool, cond, Some, refl, sym, ap, subst, ◌∙◌, arith}
+use Rattle.std.proofs.Common.{◌≡◌, ◌⊎◌, inl, inr, ℕ, ◌<◌, ◌≤◌, List, [], ◌++◌, Bool, cond, Some, refl, sym, ap, subst, ◌∙◌, arith}
 use Rattle.std.proofs.lemmas.Bool.{le-ltb, lt-ltb, le-leb, lt-leb}
 use Rattle.sha2.specs.Hashers.{Holds256}
 use Rattle.sha2.specs.Sha256.{sha256}
@@ -14,7 +14,7 @@ use Rattle.md_top.specs.Demos.{DemoEnds, HaveUntil, demo_start, digests_from, su
 use Rattle.md_top.specs.CommandOutcomes.{status_of}
 use Rattle.md_top.specs.Refusals.{Findings, demo_command_outcome, right_completion}
 use Rattle.md_top.specs.Inputs.{Verdict}
-use Rattle.md_word.specs.Clock.{last_cycle}
+use Rattle.md_word.specs.Clock.{cycle_limit, last_cycle}
 use Rattle.md_top.specs.Limits.{IsEnd}
 use Rattle.md_top.specs.Runs.{RunLaws, entries_from, media_from}
 use Rattle.md_top.specs.declared.digests.Digests.{Digests}
@@ -27,7 +27,7 @@ use Rattle.md_top.proofs.Statuses.{Says}
 -- THE DIGESTS
 
 -- at the start nothing was made
-pub have-none : (start : Start) (hashers : Hashers) → IsStart start → RunLaws start → start.at ≤ 2 ^ 50
+pub have-none : (start : Start) (hashers : Hashers) → IsStart start → RunLaws start → start.at ≤ cycle_limit
     → Holds256 hashers.frames [] → Holds256 hashers.samples [] → Holds256 hashers.journal [] → HaveUntil start start.at hashers
 unfolding frames_bytes sound_bytes journal_bytes
 have-none start hashers is laws small frames samples journal = record {

@@ -1,9 +1,9 @@
 -- How a run ends: what the outputs hold on the way, and why it stops.
-use Rattle.std.proofs.Common.{◌≡◌, ◌≢◌, ℕ, ◌^◌, ◌<◌, ◌≤◌, List, [], Result, Ok, Err, Option, Some, None, append-nil, refl, subst, sym, ◌∙◌, arith}
+use Rattle.std.proofs.Common.{◌≡◌, ◌≢◌, ℕ, ◌<◌, ◌≤◌, List, [], Result, Ok, Err, Option, Some, None, append-nil, refl, subst, ◌∙◌, arith}
 use Rattle.std.specs.Prelude.{IfErr, IsSome, OnOk, OnErr}
 use Rattle.md_outer.specs.Outside.{DepotState, Files, GoesOn}
 use Rattle.md_top.specs.CommandOutcomes.{HoldsUntil, RunCause, RunEnds, RunFiles, RunLeaves, RunsFrom}
-use Rattle.md_word.specs.Clock.{last_cycle}
+use Rattle.md_word.specs.Clock.{cycle_limit, last_cycle}
 use Rattle.md_top.specs.Limits.{IsEnd}
 use Rattle.md_top.specs.Loads.{Begins, LoadCause, MayBeginAt}
 use Rattle.md_top.specs.Outputs.{Adds, AddsParts, AreBegun, Holds, IsBegun, IsUnwritten, IsWriteFault, LeavesParts, Parts, Pieces, all_of, lengthened, nothing, number_in}
@@ -36,13 +36,13 @@ both-err (Err e) f p q = f e p q
 
 -- WHAT THE OUTPUTS HOLD
 
-pub head-held : (run : Run) (start : Start) (first files : Files) (head : List ℕ) → IsStart start → RunLaws start → start.at ≤ 2 ^ 50
+pub head-held : (run : Run) (start : Start) (first files : Files) (head : List ℕ) → IsStart start → RunLaws start → start.at ≤ cycle_limit
     → head ≡ sound_until start run.cycles start.at
     → Holds run first files (record nothing { sound = head }) → HoldsUntil start run first files start.at
 head-held run start first files head is laws small same holds =
     subst (Holds run first files) (pieces-first start run.cycles head is laws small same) holds
 
-pub head-parts : (run : Run) (start : Start) (first files : Files) (head : List ℕ) → IsStart start → RunLaws start → start.at ≤ run.cycles → run.cycles ≤ 2 ^ 50
+pub head-parts : (run : Run) (start : Start) (first files : Files) (head : List ℕ) → IsStart start → RunLaws start → start.at ≤ run.cycles → run.cycles ≤ cycle_limit
     → head ≡ sound_until start run.cycles start.at
     → LeavesParts run first files (record nothing { sound = head }) → LeavesParts run first files (pieces_of start run.cycles)
 head-parts run start first files head is laws within small same leaves =
@@ -56,7 +56,7 @@ pub segment-held : (run : Run) (start : Start) (first old new : Files) (at to : 
 segment-held run start first old new at to more is adds holds =
     subst (Holds run first new) is (adds first (pieces_until start run.cycles at) holds)
 
-pub segment-parts : (run : Run) (start : Start) (first old new : Files) (at to : ℕ) (more : Pieces) → IsStart start → RunLaws start → to ≤ run.cycles → run.cycles ≤ 2 ^ 50
+pub segment-parts : (run : Run) (start : Start) (first old new : Files) (at to : ℕ) (more : Pieces) → IsStart start → RunLaws start → to ≤ run.cycles → run.cycles ≤ cycle_limit
     → lengthened (pieces_until start run.cycles at) more ≡ pieces_until start run.cycles to
     → AddsParts run old new more → HoldsUntil start run first old at → LeavesParts run first new (pieces_of start run.cycles)
 segment-parts run start first old new at to more from laws within small is adds holds =
@@ -84,10 +84,6 @@ state-parts run start first old new state is adds holds =
     subst (LeavesParts run first new) (with-state start run.cycles state is) (adds first (pieces_until start run.cycles run.cycles) holds)
 
 -- WHY IT STOPS
-
-pub fault-cause : (start : Start) (run : Run) (old new : DepotState) (command_outcome : CommandOutcome) → IsWriteFault run old new command_outcome → RunCause start run old new command_outcome
-fault-cause start run old new (WriteFault which) fault = fault
-fault-cause start run old new _ fault = absurd fault
 
 pub unwritten-cause : (start : Start) (run : Run) (old new : DepotState) (command_outcome : CommandOutcome) → IsUnwritten run old new command_outcome → RunCause start run old new command_outcome
 unwritten-cause start run old new (WriteFault which) fault = fault

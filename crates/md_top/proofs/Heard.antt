@@ -1,5 +1,6 @@
 -- Runs from a start that is power-on are heard, by the laws on what a run reaches.
-use Rattle.std.proofs.Common.{◌≡◌, ℕ, Bool, ◌^◌, ◌≤◌, List, sym, subst, ap, ◌∙◌}
+use Rattle.std.proofs.Common.{◌≡◌, ℕ, Bool, ◌≤◌, List, sym, subst, ap, ◌∙◌}
+use Rattle.md_word.specs.Clock.{cycle_limit}
 use Rattle.md_word.specs.declared.event.Entry.{Entry}
 use Rattle.md_pads.specs.Recording.{Recorded}
 use Rattle.md_chips.specs.Console.{Console, IsRunTo, power_on}
@@ -10,7 +11,7 @@ use Rattle.md_top.specs.Heard.{HearsRuns}
 
 -- what a law says of the runs of this cartridge
 abbrev AreSo : List ℕ → (ℕ → List Entry → Media → Type 0) → Type 0
-AreSo cart So = (recording : Recorded) (pal : Bool) (z : Console) (end : ℕ) (entries : List Entry) (output : Media) → end ≤ 2 ^ 50 → IsRunTo (power_on cart recording pal) end z entries output → So end entries output
+AreSo cart So = (recording : Recorded) (pal : Bool) (z : Console) (end : ℕ) (entries : List Entry) (output : Media) → end ≤ cycle_limit → IsRunTo (power_on cart recording pal) end z entries output → So end entries output
 
 pub runs-heard : (start : Start) (one other : List ℕ) → one ≡ start.console.cart → other ≡ start.console.cart
     → AreSo one (λ end entries output. HearsLevels end entries output.levels) → AreSo other (λ end entries output. HearsSides end entries output.sides) → HearsRuns start

@@ -1,7 +1,7 @@
 -- What reading a saved state results in.
-use Rattle.std.proofs.Common.{◌≡◌, ◌⊎◌, inl, inr, ℕ, ◌<◌, ◌≤◌, List, length, Option, Some, None, sym, ap, ◌∙◌, subst}
+use Rattle.std.proofs.Common.{◌≡◌, inl, inr, ℕ, ◌<◌, ◌≤◌, List, length, Option, Some, None, sym, ap, ◌∙◌, subst}
 use Rattle.std.specs.Prelude.{IsSomeAnd}
-use Rattle.md_outer.specs.Outside.{DepotState, Files, GoesOn, Rose}
+use Rattle.md_outer.specs.Outside.{DepotState, Files, GoesOn}
 use Rattle.md_args.specs.declared.files.Input.TheVariants.{State}
 use Rattle.md_top.specs.Inputs.{IsUnread}
 use Rattle.md_top.specs.Loads.{IsFound, IsFoundIn, IsRefused, StateCause, state_limit}

@@ -1,6 +1,7 @@
 -- The run that the machine made is the one of the definition, which continues from cycle to cycle.
-use Rattle.std.proofs.Common.{◌≡◌, ℕ, ◌+◌, ◌-◌, ◌<◌, ◌≤◌, ◌^◌, ◌⊎◌, inl, inr, true, false, List, ◌++◌, refl, sym, ap, ◌∙◌, subst, arith}
+use Rattle.std.proofs.Common.{◌≡◌, ℕ, ◌+◌, ◌-◌, ◌<◌, ◌≤◌, ◌⊎◌, inl, inr, true, false, List, ◌++◌, refl, sym, ap, ◌∙◌, subst, arith}
 use Rattle.std.proofs.lemmas.Bool.{le-leb, lt-leb, leb-false, leb-true}
+use Rattle.md_word.specs.Clock.{cycle_limit}
 use Rattle.md_word.specs.declared.event.Entry.{Entry}
 use Rattle.md_chips.specs.Console.{AllBelow, Console, IsRunTo, journal, key_in, mover, ran, media_after}
 use Rattle.md_chips.specs.Media.{Media, joined}
@@ -9,7 +10,7 @@ use Rattle.md_chips.specs.Starts.{Start}
 use Rattle.md_top.specs.Runs.{RunLaws, entries_from, is_quiet, media_from, moves_from, run_from}
 use Rattle.md_top.proofs.Least.{least-below, least-found, least-is, least-le}
 
-pub moves-found : (start : Start) (end : ℕ) {after : Console} {entries : List Entry} {sound : Media} → RunLaws start → end ≤ 2 ^ 50
+pub moves-found : (start : Start) (end : ℕ) {after : Console} {entries : List Entry} {sound : Media} → RunLaws start → end ≤ cycle_limit
     → (run : IsRunTo start.console end after entries sound) → moves_from start end ≡ run.moves
 unfolding moves_from
 moves-found start end {after} laws small run =
@@ -24,7 +25,7 @@ pub record Found (start : Start) (end : ℕ) (after : Console) (entries : List E
   pub entered : entries ≡ entries_from start end
   pub rendered_to : sound ≡ media_from start end
 
-pub run-found : (start : Start) (end : ℕ) {after : Console} {entries : List Entry} {sound : Media} → RunLaws start → end ≤ 2 ^ 50
+pub run-found : (start : Start) (end : ℕ) {after : Console} {entries : List Entry} {sound : Media} → RunLaws start → end ≤ cycle_limit
     → IsRunTo start.console end after entries sound → Found start end after entries sound
 unfolding entries_from media_from
 run-found start end laws small run =
@@ -39,18 +40,18 @@ run-found start end laws small run =
 all_early : (start : Start) (end : ℕ) → ((k : ℕ) → k ≤ end - start.at + 5 → is_quiet end (ran start.console k) ≡ false) → AllBelow start.console end (end - start.at + 6)
 all_early start end none k below = leb-false end (key_in (ran start.console k) (mover (ran start.console k))).cycle (none k (omega arith))
 
-complete_from : (start : Start) (end : ℕ) → RunLaws start → end ≤ 2 ^ 50
+complete_from : (start : Start) (end : ℕ) → RunLaws start → end ≤ cycle_limit
     → (is_quiet end (ran start.console (moves_from start end)) ≡ true) ⊎ ((k : ℕ) → k ≤ end - start.at + 5 → is_quiet end (ran start.console k) ≡ false)
     → is_quiet end (ran start.console (moves_from start end)) ≡ true
 complete_from start end laws small (inl quiet) = quiet
 complete_from start end laws small (inr none) = absurd (omega (arith, laws.few_events end (end - start.at + 6) small (all_early start end none)))
 
-pub run-complete : (start : Start) (end : ℕ) → RunLaws start → end ≤ 2 ^ 50 → is_quiet end (run_from start end) ≡ true
+pub run-complete : (start : Start) (end : ℕ) → RunLaws start → end ≤ cycle_limit → is_quiet end (run_from start end) ≡ true
 unfolding moves_from
 run-complete start end laws small = complete_from start end laws small (least-found (λ n. is_quiet end (ran start.console n)) (end - start.at + 5))
 
 -- and is a run to it
-pub run-made : (start : Start) (end : ℕ) → RunLaws start → end ≤ 2 ^ 50
+pub run-made : (start : Start) (end : ℕ) → RunLaws start → end ≤ cycle_limit
     → IsRunTo start.console end (run_from start end) (entries_from start end) (media_from start end)
 unfolding entries_from media_from moves_from
 run-made start end laws small =
@@ -67,7 +68,7 @@ run-made start end laws small =
     }
 
 -- a run to a later cycle has no fewer moves
-pub moves-later : (start : Start) (s t : ℕ) → RunLaws start → t ≤ 2 ^ 50 → s ≤ t → moves_from start s ≤ moves_from start t
+pub moves-later : (start : Start) (s t : ℕ) → RunLaws start → t ≤ cycle_limit → s ≤ t → moves_from start s ≤ moves_from start t
 unfolding moves_from
 moves-later start s t laws small within =
     let late : t ≤ (key_in (run_from start t) (mover (run_from start t))).cycle =
@@ -83,7 +84,7 @@ pub record Later (start : Start) (s t : ℕ) : Type 0 where
   pub more_media : media_from start t ≡ joined (media_from start s) output
   pub run : IsRunTo (run_from start s) t (run_from start t) entries output
 
-pub later_run : (start : Start) (s t : ℕ) → RunLaws start → t ≤ 2 ^ 50 → s ≤ t → Later start s t
+pub later_run : (start : Start) (s t : ℕ) → RunLaws start → t ≤ cycle_limit → s ≤ t → Later start s t
 unfolding entries_from media_from
 later_run start s t laws small within =
     let on : moves_from start s ≤ moves_from start t = moves-later start s t laws small within in

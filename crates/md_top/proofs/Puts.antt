@@ -1,5 +1,5 @@
 -- Texts that are put one after the other.
-use Rattle.std.proofs.Common.{◌≡◌, ℕ, zero, suc, ◌≤◌, List, ◌++◌, Result, Ok, Err, Option, refl, ◌⊎◌, inl, inr, ap, ◌∙◌, sym, subst, append_assoc, arith}
+use Rattle.std.proofs.Common.{◌≡◌, ℕ, ◌≤◌, List, ◌++◌, Result, Ok, Err, Option, ◌⊎◌, inl, inr, ap, ◌∙◌, sym, subst, append_assoc, arith}
 use Rattle.std.specs.Prelude.{OnErr, OnOk}
 use Rattle.md_top.specs.Answers.{PutsAll, PutsCommandOutcome, PutsLine, PutsPart, Reports}
 use Rattle.md_top.specs.CommandOutcomes.{failed_status, status_of}
@@ -43,12 +43,6 @@ puts_stop observable first second old new e f one = record {
   part = λ t. ((one.part t).0, prefix_longer (one.part t).0 first second (one.part t).1, (one.part t).2);
 }
 
--- a text was put, or the sink failed within it
-pub put_or_part : {E : Type 0} (observable : Type 0) (text : List ℕ) (old new : SinkState) (result : Result (Unit {0}) E) → PutsText observable text old new result
-    → PutsAll observable text old new ⊎ PutsPart observable text old new
-put_or_part observable text old new (Ok done) puts = inl (record { later = puts.later; bytes = puts.whole })
-put_or_part observable text old new (Err fault) puts = inr (record { rose = puts.failed; bytes = puts.part })
-
 -- a line that was put, or within which the sink failed, and the status after it
 line_put : {E : Type 0} (observable : Type 0) (text : List ℕ) (old new : SinkState) (put : Result (Unit {0}) E) (of status : ℕ) → PutsText observable text old new put
     → OnOk put (status ≡ of) → OnErr put (status ≡ failed_status of) → PutsLine observable text of old new status
@@ -71,8 +65,3 @@ pub line_of : (observable : Type 0) (text : List ℕ) (of : ℕ) (old new : Sink
     → PutsAll observable text old new ⊎ PutsPart observable text old new → PutsLine observable text of old new status
 line_of observable text of old new status is same (inl whole) = inl (is, whole)
 line_of observable text of old new status is same (inr part) = inr (is ∙ same, part)
-
--- a status other than 0 stays
-pub status_stays : (status : ℕ) → (status ≡ 0 → ⊥) → status ≡ failed_status status
-status_stays zero other = absurd (other refl)
-status_stays (suc n) other = refl

@@ -1,5 +1,6 @@
 -- A run that came to its end ends well.
-use Rattle.std.proofs.Common.{◌≡◌, ℕ, ◌^◌, ◌≤◌, Bool, List, ◌++◌, refl, sym, ap, subst, ◌∙◌, arith}
+use Rattle.std.proofs.Common.{◌≡◌, ℕ, ◌≤◌, Bool, List, ◌++◌, refl, sym, ap, subst, ◌∙◌, arith}
+use Rattle.md_word.specs.Clock.{cycle_limit}
 use Rattle.md_word.specs.declared.event.Entry.{Entry}
 use Rattle.md_chips.specs.Lists.{ListsEndAsRun}
 use Rattle.md_chips.specs.Console.{Console, IsRunTo}
@@ -24,7 +25,7 @@ use Rattle.md_top.proofs.LeastRuns.{Found, Later, later_run, run-found, run-made
 use Rattle.md_top.proofs.Segments.{frames_bytes-append, journal_bytes-append, paired, sound_bytes-append}
 
 -- the bytes of the rest stand after those of the first part
-rest-frames : (start : Start) (at end : ℕ) (output : Media) → RunLaws start → at ≤ 2 ^ 50 → media_from start end ≡ joined (media_from start at) output
+rest-frames : (start : Start) (at end : ℕ) (output : Media) → RunLaws start → at ≤ cycle_limit → media_from start end ≡ joined (media_from start at) output
     → frames_to start end ≡ frames_to start at ++ frames_bytes (saved_start start at).console.pal output.frames
 unfolding frames_to
 rest-frames start at end output laws small more =
@@ -34,7 +35,7 @@ rest-frames start at end output laws small more =
     ∙ frames_bytes-append start.console.pal (media_from start at).frames output.frames
     ∙ ap (λ (pal : Bool). frames_bytes start.console.pal (media_from start at).frames ++ frames_bytes pal output.frames) (sym region)
 
-rest-sound : (start : Start) (at end : ℕ) (output : Media) → IsStart start → RunLaws start → at ≤ 2 ^ 50 → media_from start end ≡ joined (media_from start at) output
+rest-sound : (start : Start) (at end : ℕ) (output : Media) → IsStart start → RunLaws start → at ≤ cycle_limit → media_from start end ≡ joined (media_from start at) output
     → sound_bytes (media_from start end) ≡ sound_bytes (media_from start at) ++ sound_bytes output
 rest-sound start at end output is laws small more =
     ap sound_bytes more ∙ sound_bytes-append (media_from start at) output (paired start at is laws small)
@@ -78,7 +79,7 @@ ends-here : (start : Start) (machine : MachineValue) (accesses finished : ℕ) �
     → RunsWell start machine.at start.at finished accesses machine.console.main.halted
 unfolding halted_from
 ends-here start machine accesses finished came observable states lists end saved =
-    let small : machine.at ≤ 2 ^ 50 = omega (arith, end.1) in
+    let small : machine.at ≤ cycle_limit = omega (arith, end.1) in
     let made : IsRunTo start.console machine.at (run_from start machine.at) (entries_from start machine.at) (media_from start machine.at) = run-made start machine.at came.laws small in
     let found : Found start machine.at machine.console (entries_from start machine.at) (media_from start machine.at) = run-found start machine.at came.laws small came.run in
     let reached : IsReached machine.at machine.console =

@@ -1,7 +1,7 @@
 -- A session of two players: what its outcome says.
-use Rattle.std.proofs.Common.{◌≡◌, ◌≢◌, ◌⊎◌, inl, inr, ℕ, ◌<◌, ◌≤◌, List, [], length, Option, Some, None, refl, sym, ap, subst, ◌∙◌, arith}
+use Rattle.std.proofs.Common.{◌≡◌, ◌≢◌, ◌⊎◌, inl, inr, ℕ, ◌<◌, ◌≤◌, List, [], length, Option, Some, None, refl, sym, ap, ◌∙◌}
 use Rattle.std.specs.Prelude.{IsSomeAnd, unwrap_or}
-use Rattle.md_outer.specs.Outside.{DepotState, Files, GoesOn, Rose}
+use Rattle.md_outer.specs.Outside.{DepotState, Files, Rose}
 use Rattle.md_args.specs.Words.{Rollback, Rolling}
 use Rattle.md_args.specs.declared.files.Input.TheVariants.{Script}
 use Rattle.md_rollback.specs.declared.line_fault.LineFault.{LineFault}
@@ -12,11 +12,10 @@ use Rattle.md_rollback.specs.declared.rolled.Rolled.{Rolled}
 use Rattle.md_rollback.proofs.Outcomes.{done_or_refused}
 use Rattle.md_top.specs.CommandOutcomes.{status_of}
 use Rattle.md_top.specs.Refusals.{inputs_command_outcome, roll_command_outcome}
-use Rattle.md_top.specs.Inputs.{CartCause, IsAccepted, IsTooLong, IsUnread, cart_of}
+use Rattle.md_top.specs.Inputs.{CartCause, cart_of}
 use Rattle.md_top.specs.Rollings.{CanRoll, IsRollFound, IsRolledTo, RollEnds, completion_outcome, inputs_limit}
 use Rattle.md_top.specs.declared.command_outcome.CommandOutcome.{CommandOutcome}
 use Rattle.md_top.specs.declared.command_outcome.CommandOutcome.TheVariants.{LineRefused, ReadFault, RolledBack, TooLong}
-use Rattle.md_top.proofs.Kept.{unread_before}
 use Rattle.md_top.proofs.Right.{read_long, read_missing, read_within, right_accepted}
 use Rattle.md_top.proofs.RunsRight.{cart_always, cart_there, file_there, file_within}
 use Rattle.md_top.proofs.Statuses.{Says, cart_says, missing}
@@ -113,37 +112,3 @@ roll_done observable words old new (ReadFault Script) ready (accepted, inl rose)
 roll_done observable words old new (ReadFault Script) ready (accepted, inr missing) clean t = absurd (file_there (old.files words.inputs) _ ready.1.1 missing.1)
 roll_done observable words old new (TooLong Script) ready (accepted, long) clean t = absurd (file_within inputs_limit (old.files words.inputs) _ ready.1.1 (long t))
 roll_done observable words old new other ready cause clean t = cart_there observable words.rom old new other ready.1.0 cause clean t
-
--- ---- what was fetched
-
--- why a session ends after its cartridge
-pub rolled_cause : (observable : Type 0) (words : Rolling) (old new : DepotState) (cart inputs : List ℕ) (outcome : Completion)
-    → (observable → IsAccepted (old.files words.rom) × (cart ≡ cart_of words.rom old.files)) → (observable → old.files words.inputs ≡ Some inputs) → length inputs ≤ inputs_limit
-    → CompletesWith cart words.window inputs outcome → RollEnds observable words old new (completion_outcome outcome)
-rolled_cause observable words old new cart inputs outcome found is within rolled = by outcome (λ t. (
-  (found t).0,
-  subst (λ (f : Option (List ℕ)). IsSomeAnd f (λ s. (length s ≤ inputs_limit) × CompletesWith (cart_of words.rom old.files) words.window s outcome)) (sym (is t))
-      (within, subst (λ (c : List ℕ). CompletesWith c words.window inputs outcome) (found t).1 rolled),
-))
-  where
-    by : (o : Completion) → (observable → IsRolledTo words old.files o) → RollEnds observable words old new (completion_outcome o)
-    by (completion.Done rolled) done = done
-    by (completion.Refused line fault) refused = refused
-    by completion.NoMemory memory = tt
-
-pub unread_inputs : (observable : Type 0) (words : Rolling) (old mid new : DepotState) → (observable → IsAccepted (old.files words.rom)) → (observable → mid.files ≡ old.files) → GoesOn old mid
-    → IsUnread observable words.inputs mid new → RollEnds observable words old new (ReadFault Script)
-unread_inputs observable words old mid new accepted same on cause = (accepted, unread_before observable words.inputs old mid new same on cause)
-
-pub long_inputs : (observable : Type 0) (words : Rolling) (old mid new : DepotState) → (observable → IsAccepted (old.files words.rom)) → (observable → mid.files ≡ old.files)
-    → IsTooLong observable inputs_limit words.inputs mid → RollEnds observable words old new (TooLong Script)
-long_inputs observable words old mid new accepted same long =
-    (accepted, λ t. subst (λ (files : Files). IsSomeAnd (files words.inputs) (λ inputs. inputs_limit < length inputs)) (same t) (long t))
-
--- why a session has no cartridge
-pub no_cart_rolls : (observable : Type 0) (words : Rolling) (old new : DepotState) (command_outcome : CommandOutcome) → CartCause observable words.rom old new command_outcome → RollEnds observable words old new command_outcome
-no_cart_rolls observable words old new (RolledBack rolled) cause = absurd cause
-no_cart_rolls observable words old new (LineRefused line fault) cause = absurd cause
-no_cart_rolls observable words old new (ReadFault Script) cause = absurd cause
-no_cart_rolls observable words old new (TooLong Script) cause = absurd cause
-no_cart_rolls observable words old new _ cause = cause

@@ -1,10 +1,11 @@
 -- A segment after a run is a run, and what its outputs hold.
-use Rattle.std.proofs.Common.{◌≡◌, ℕ, Bool, true, false, zero, suc, ◌+◌, ◌-◌, ◌*◌, ◌≤◌, ◌^◌, List, [], ◌∷◌, ◌++◌, length, refl, sym, ap, ◌∙◌, subst, append_assoc, append-nil, arith}
+use Rattle.std.proofs.Common.{◌≡◌, ℕ, Bool, true, false, zero, suc, ◌+◌, ◌-◌, ◌*◌, ◌≤◌, List, [], ◌∷◌, ◌++◌, length, refl, sym, ap, ◌∙◌, subst, append_assoc, append-nil, arith}
 use Rattle.std.specs.Prelude.{ℤ}
 use Rattle.std.proofs.lemmas.Grind.{flat_map-append}
 use Rattle.md_outer.specs.Outside.{IsPrefix}
 use Rattle.md_files.specs.Journal.{entry_bytes}
 use Rattle.md_files.specs.Wav.{wav_head}
+use Rattle.md_word.specs.Clock.{cycle_limit}
 use Rattle.md_word.specs.declared.event.Entry.{Entry}
 use Rattle.md_chips.specs.Console.{AllBelow, Console, IsRunTo, journal, mover, ran, media_after}
 use Rattle.md_chips.specs.Machines.{MachineValue}
@@ -19,7 +20,7 @@ use Rattle.md_top.specs.Heard.{HearsRuns}
 use Rattle.md_top.specs.Counts.{pairs_between}
 use Rattle.md_top.specs.Limits.{IsEnd}
 use Rattle.md_top.specs.Outputs.{Pieces, lengthened, nothing}
-use Rattle.md_top.specs.Runs.{RunLaws, entries_from, frames_to, halted_from, journal_to, media_from, moves_from, pieces_of, pieces_until, run_from, sound_until, state_to}
+use Rattle.md_top.specs.Runs.{RunLaws, entries_from, frames_to, journal_to, media_from, moves_from, pieces_of, pieces_until, run_from, sound_until, state_to}
 use Rattle.md_top.proofs.Writes.{ArePrefixes}
 use Rattle.md_top.proofs.LeastRuns.{Found, Later, later_run, moves-found, run-found, run-made}
 
@@ -61,7 +62,7 @@ pub record Segment (start : Start) (at to : ℕ) (after : MachineValue) : Type 0
   pub entries : entries_from start to ≡ entries_from start at ++ after.entries
   pub output : media_from start to ≡ joined (media_from start at) after.media
 
-pub segment_made : (start : Start) (at to : ℕ) (before : Console) (after : MachineValue) → RunLaws start → to ≤ 2 ^ 50 → at ≤ to
+pub segment_made : (start : Start) (at to : ℕ) (before : Console) (after : MachineValue) → RunLaws start → to ≤ cycle_limit → at ≤ to
     → IsRunTo start.console at before (entries_from start at) (media_from start at) → IsRunTo before to after.console after.entries after.media
     → Segment start at to after
 segment_made start at to before after laws small within first second =
@@ -76,13 +77,13 @@ segment_made start at to before after laws small within first second =
     }
 
 -- a run has no more entries than cycles and chips
-pub entries-fit : (start : Start) (at : ℕ) (after : Console) → RunLaws start → at ≤ 2 ^ 50 → IsRunTo start.console at after (entries_from start at) (media_from start at)
+pub entries-fit : (start : Start) (at : ℕ) (after : Console) → RunLaws start → at ≤ cycle_limit → IsRunTo start.console at after (entries_from start at) (media_from start at)
     → length (entries_from start at) ≤ at - start.at + 5
 entries-fit start at after laws small run =
     omega (arith, ap length run.entered, laws.few_entries run.moves, laws.few_events at run.moves small run.below)
 
 -- at the start nothing was made
-no-moves : (start : Start) → IsStart start → RunLaws start → start.at ≤ 2 ^ 50 → moves_from start start.at ≡ 0
+no-moves : (start : Start) → IsStart start → RunLaws start → start.at ≤ cycle_limit → moves_from start start.at ≡ 0
 unfolding ran
 no-moves start is laws small =
     let run : IsRunTo start.console start.at (run_from start start.at) (entries_from start start.at) (media_from start start.at) = run-made start start.at laws small in
@@ -92,23 +93,23 @@ no-moves start is laws small =
     none zero below = refl
     none (suc n) below = absurd (omega (arith, below 0 (omega arith), is.quiet (mover start.console) (mover-lt start.console)))
 
-pub no-entries : (start : Start) → IsStart start → RunLaws start → start.at ≤ 2 ^ 50 → entries_from start start.at ≡ []
+pub no-entries : (start : Start) → IsStart start → RunLaws start → start.at ≤ cycle_limit → entries_from start start.at ≡ []
 unfolding entries_from journal
 no-entries start is laws small = ap (journal start.console) (no-moves start is laws small)
 
-pub no-media : (start : Start) → IsStart start → RunLaws start → start.at ≤ 2 ^ 50 → media_from start start.at ≡ no_media
+pub no-media : (start : Start) → IsStart start → RunLaws start → start.at ≤ cycle_limit → media_from start start.at ≡ no_media
 unfolding media_from media_after
 no-media start is laws small = ap (media_after start.console) (no-moves start is laws small)
 
 -- each level has its sums
-pub paired : (start : Start) (at : ℕ) → IsStart start → RunLaws start → at ≤ 2 ^ 50 → length (media_from start at).sides ≡ length (media_from start at).levels
+pub paired : (start : Start) (at : ℕ) → IsStart start → RunLaws start → at ≤ cycle_limit → length (media_from start at).sides ≡ length (media_from start at).levels
 paired start at is laws small =
     let run : IsRunTo start.console at (run_from start at) (entries_from start at) (media_from start at) = run-made start at laws small in
     laws.sides_counted (run_from start at) at (entries_from start at) (media_from start at) is run
     ∙ sym (laws.levels_counted (run_from start at) at (entries_from start at) (media_from start at) is run)
 
 -- what the outputs hold at a cycle is a prefix of what they hold later
-sound-grows : (start : Start) (end s t : ℕ) → IsStart start → RunLaws start → t ≤ 2 ^ 50 → s ≤ t → IsPrefix (sound_until start end s) (sound_until start end t)
+sound-grows : (start : Start) (end s t : ℕ) → IsStart start → RunLaws start → t ≤ cycle_limit → s ≤ t → IsPrefix (sound_until start end s) (sound_until start end t)
 unfolding sound_until
 sound-grows start end s t is laws small within =
     let more : Later start s t = later_run start s t laws small within in (
@@ -117,19 +118,19 @@ sound-grows start end s t is laws small within =
           ∙ ap (λ (l : List ℕ). wav_head (length (media_from start end).levels) start.console.pal ++ l) (sym (sound_bytes-append (media_from start s) more.output (paired start s is laws (omega (arith, small, within)))) ∙ ap sound_bytes (sym more.more_media)),
     )
 
-frames-grow : (start : Start) (s t : ℕ) → RunLaws start → t ≤ 2 ^ 50 → s ≤ t → IsPrefix (frames_to start s) (frames_to start t)
+frames-grow : (start : Start) (s t : ℕ) → RunLaws start → t ≤ cycle_limit → s ≤ t → IsPrefix (frames_to start s) (frames_to start t)
 unfolding frames_to
 frames-grow start s t laws small within =
     let more : Later start s t = later_run start s t laws small within in
     (frames_bytes start.console.pal more.output.frames, sym (frames_bytes-append start.console.pal (media_from start s).frames more.output.frames) ∙ ap (λ (m : Media). frames_bytes start.console.pal m.frames) (sym more.more_media))
 
-journal-grows : (start : Start) (s t : ℕ) → RunLaws start → t ≤ 2 ^ 50 → s ≤ t → IsPrefix (journal_to start s) (journal_to start t)
+journal-grows : (start : Start) (s t : ℕ) → RunLaws start → t ≤ cycle_limit → s ≤ t → IsPrefix (journal_to start s) (journal_to start t)
 unfolding journal_to
 journal-grows start s t laws small within =
     let more : Later start s t = later_run start s t laws small within in
     (journal_bytes more.entries, sym (journal_bytes-append (entries_from start s) more.entries) ∙ ap journal_bytes (sym more.more_entries))
 
-pub pieces-front : (start : Start) (end s : ℕ) → IsStart start → RunLaws start → end ≤ 2 ^ 50 → s ≤ end → ArePrefixes (pieces_until start end s) (pieces_of start end)
+pub pieces-front : (start : Start) (end s : ℕ) → IsStart start → RunLaws start → end ≤ cycle_limit → s ≤ end → ArePrefixes (pieces_until start end s) (pieces_of start end)
 pieces-front start end s is laws small within = record {
   frames = frames-grow start s end laws small within;
   sound = sound-grows start end s end is laws small within;
@@ -138,7 +139,7 @@ pieces-front start end s is laws small within = record {
 }
 
 -- a machine at its start, with nothing made
-pub at-start : (start : Start) → IsStart start → RunLaws start → HearsRuns start → IsReached start.at start.console → start.at ≤ 2 ^ 50
+pub at-start : (start : Start) → IsStart start → RunLaws start → HearsRuns start → IsReached start.at start.console → start.at ≤ cycle_limit
     → CameTo start (record { at = start.at; console = start.console; entries = []; media = no_media }) 0
 unfolding ran
 at-start start is laws heard reached small = record {
@@ -191,7 +192,7 @@ pieces-next start end at to more none frames sound journal = λ i. record {
 }
 
 -- the outputs before the first segment: the head, and nothing else
-pub head-first : (start : Start) (end : ℕ) → IsStart start → RunLaws start → start.at ≤ 2 ^ 50 → IsEnd end
+pub head-first : (start : Start) (end : ℕ) → IsStart start → RunLaws start → start.at ≤ cycle_limit → IsEnd end
     → wav_head (pairs_between start.at end) start.console.pal ≡ sound_until start end start.at
 unfolding sound_until sound_bytes
 head-first start end is laws small (some, near) =
@@ -201,25 +202,20 @@ head-first start end is laws small (some, near) =
     ap (λ (n : ℕ). wav_head n start.console.pal) (sym count) ∙ sym (append-nil (wav_head (length (media_from start end).levels) start.console.pal))
     ∙ ap (λ (l : Media). wav_head (length (media_from start end).levels) start.console.pal ++ sound_bytes l) (sym (no-media start is laws small))
 
-frames-first : (start : Start) → IsStart start → RunLaws start → start.at ≤ 2 ^ 50 → frames_to start start.at ≡ []
+frames-first : (start : Start) → IsStart start → RunLaws start → start.at ≤ cycle_limit → frames_to start start.at ≡ []
 unfolding frames_to frames_bytes
 frames-first start is laws small = ap (λ (m : Media). frames_bytes start.console.pal m.frames) (no-media start is laws small)
 
-journal-first : (start : Start) → IsStart start → RunLaws start → start.at ≤ 2 ^ 50 → journal_to start start.at ≡ []
+journal-first : (start : Start) → IsStart start → RunLaws start → start.at ≤ cycle_limit → journal_to start start.at ≡ []
 unfolding journal_to journal_bytes
 journal-first start is laws small = ap journal_bytes (no-entries start is laws small)
 
-pub pieces-first : (start : Start) (end : ℕ) (head : List ℕ) → IsStart start → RunLaws start → start.at ≤ 2 ^ 50 → head ≡ sound_until start end start.at
+pub pieces-first : (start : Start) (end : ℕ) (head : List ℕ) → IsStart start → RunLaws start → start.at ≤ cycle_limit → head ≡ sound_until start end start.at
     → record nothing { sound = head } ≡ pieces_until start end start.at
 pieces-first start end head is laws small same =
     λ i. record { frames = sym (frames-first start is laws small) i; sound = same i; journal = sym (journal-first start is laws small) i; state = [] }
 
--- whether the 68000 of a run is halted
-pub halted-found : (start : Start) (machine : MachineValue) (accesses : ℕ) → CameTo start machine accesses → machine.at ≤ 2 ^ 50 → machine.console.main.halted ≡ halted_from start machine.at
-unfolding halted_from
-halted-found start machine accesses came small = ap (λ (m : Console). m.main.halted) (run-found start machine.at came.laws small came.run).console
-
 -- the state to which a run came
-pub state-found : (start : Start) (machine : MachineValue) (accesses : ℕ) → CameTo start machine accesses → machine.at ≤ 2 ^ 50 → state_bytes machine.at machine.console ≡ state_to start machine.at
+pub state-found : (start : Start) (machine : MachineValue) (accesses : ℕ) → CameTo start machine accesses → machine.at ≤ cycle_limit → state_bytes machine.at machine.console ≡ state_to start machine.at
 unfolding state_to
 state-found start machine accesses came small = ap (state_bytes machine.at) (run-found start machine.at came.laws small came.run).console

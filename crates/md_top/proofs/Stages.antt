@@ -1,11 +1,11 @@
 -- What comes of a command line from where it was prepared to.
-use Rattle.std.proofs.Common.{◌≡◌, ◌≢◌, ◌⊎◌, inl, inr, ℕ, Option, Some, None, refl, sym, ap, subst, ◌∙◌, arith}
+use Rattle.std.proofs.Common.{◌≡◌, ◌≢◌, ◌⊎◌, inl, inr, ℕ, Option, Some, None, refl, sym, subst, ◌∙◌, arith}
 use Rattle.std.specs.Prelude.{codes}
-use Rattle.md_outer.specs.Outside.{DepotState, Files, Rose, SinkState}
+use Rattle.md_outer.specs.Outside.{DepotState, Files, SinkState}
 use Rattle.md_args.specs.Words.{Command, Demo, Run, RunCart, RunDemo, Info, Convert, Assemble, Debug, Rollback}
 use Rattle.md_top.specs.Answers.{PutsAll, PutsPart, Reports, Shows}
 use Rattle.md_top.specs.Courses.{start_in}
-use Rattle.md_top.specs.Demos.{IsSummary, demo_start}
+use Rattle.md_top.specs.Demos.{IsSummary}
 use Rattle.md_top.specs.CommandOutcomes.{HasCause, LeavesFiles, RunCause, RunLeaves, status_of}
 use Rattle.md_top.specs.Outputs.{Holds, nothing}
 use Rattle.md_top.specs.Stages.{IsAboutToRun, IsAboutToRunDemo, IsAnswered, LeavesBegun}

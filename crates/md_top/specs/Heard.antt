@@ -1,5 +1,6 @@
 -- What is heard of a run from power-on.
-use Rattle.std.specs.Prelude.{◌≡◌, ℕ, ◌^◌, ◌≤◌, List}
+use Rattle.std.specs.Prelude.{◌≡◌, ℕ, ◌≤◌, List}
+use Rattle.md_word.specs.Clock.{cycle_limit}
 use Rattle.md_word.specs.declared.event.Entry.{Entry}
 use Rattle.md_chips.specs.Console.{Console, IsRunTo}
 use Rattle.md_chips.specs.Media.{Media}
@@ -17,7 +18,7 @@ HearsWrites end entries output = HearsLevels end entries output.levels × HearsS
 abbrev pub HearsRuns : Start → Type 0
 HearsRuns start =
     (inputs : Inputs) (console : Console) (end : ℕ) (entries : List Entry) (output : Media) → start ≡ powered_on inputs
-    → end ≤ 2 ^ 50 → IsRunTo start.console end console entries output → HearsWrites end entries output
+    → end ≤ cycle_limit → IsRunTo start.console end console entries output → HearsWrites end entries output
 
 -- and in the run to a cycle, of which the outputs are made
 abbrev pub IsHeard : Start → ℕ → Type 0

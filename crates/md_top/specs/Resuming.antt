@@ -1,5 +1,5 @@
 -- What comes of a run at its end, and of its machine where it is saved there.
-use Rattle.std.specs.Prelude.{◌≡◌, ℕ, ◌^◌, ◌≤◌, List, ◌++◌, length, Option}
+use Rattle.std.specs.Prelude.{◌≡◌, ℕ, ◌≤◌, List, ◌++◌, length, Option}
 use Rattle.md_word.specs.declared.event.Entry.{Entry}
 use Rattle.md_chips.specs.Console.{Console, IsQuiet, IsRunTo}
 use Rattle.md_chips.specs.Lists.{ListsEndAsRun}
@@ -14,7 +14,7 @@ use Rattle.save_state.specs.States.{settled_console, state_bytes}
 use Rattle.save_state.specs.Versions.{IsState}
 use Rattle.md_top.specs.Counts.{pairs_between}
 use Rattle.md_top.specs.Heard.{IsHeard}
-use Rattle.md_word.specs.Clock.{last_cycle}
+use Rattle.md_word.specs.Clock.{cycle_limit, last_cycle}
 use Rattle.md_top.specs.Runs.{entries_from, frames_to, halted_from, journal_to, media_from, run_from, state_to}
 
 -- where a run continues from what is saved at a cycle: the machine there, caught up
@@ -65,10 +65,10 @@ pub record RunsWell (start : Start) (end : ℕ) (begun finished counted : ℕ) (
 
 -- the laws on saved states
 pub record StateLaws : Type 0 where
-  pub reach : (m z : Console) (at end : ℕ) (entries : List Entry) (output : Media) → IsReached at m → at ≤ end → end ≤ 2 ^ 50
+  pub reach : (m z : Console) (at end : ℕ) (entries : List Entry) (output : Media) → IsReached at m → at ≤ end → end ≤ cycle_limit
       → IsRunTo m end z entries output → IsReached end z
   pub ready : (at : ℕ) (m : Console) → 1 ≤ at → at ≤ last_cycle → IsReached at m → IsReady at m
-  pub goes_on : (m z : Console) (at end : ℕ) (entries : List Entry) (output : Media) → HasValidParts m → IsQuiet at m → at ≤ end → end ≤ 2 ^ 50
+  pub goes_on : (m z : Console) (at end : ℕ) (entries : List Entry) (output : Media) → HasValidParts m → IsQuiet at m → at ≤ end → end ≤ cycle_limit
       → IsRunTo m end z entries output → GoesOn end (settled_console at m) z entries output
   pub one_run : (m w z : Console) (end : ℕ) (first second : List Entry) (output other : Media) → IsRunTo m end w first output
       → IsRunTo m end z second other → (w ≡ z) × (first ≡ second) × (output ≡ other)

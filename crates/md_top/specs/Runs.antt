@@ -1,5 +1,6 @@
 -- A run of the machine from a start, which always moves the chip of least key.
-use Rattle.std.specs.Prelude.{◌≡◌, ℕ, ◌+◌, ◌-◌, ◌*◌, ◌^◌, ◌<◌, ◌≤◌, nat_le, Bool, List, [], ◌++◌, length, Option}
+use Rattle.std.specs.Prelude.{◌≡◌, ℕ, ◌+◌, ◌-◌, ◌*◌, ◌<◌, ◌≤◌, nat_le, Bool, List, [], ◌++◌, length, Option}
+use Rattle.md_word.specs.Clock.{cycle_limit}
 use Rattle.md_word.specs.declared.event.Entry.{Entry}
 use Rattle.md_files.specs.Wav.{wav_head}
 use Rattle.md_chips.specs.Console.{AllBelow, Console, IsRunTo, journal, key_in, media_after, mover, power_on, ran}
@@ -70,7 +71,7 @@ pieces_of start end = record (pieces_until start end end) { state = state_to sta
 -- what the machine's laws say of the runs from a start
 pub record RunLaws (start : Start) : Type 0 where
   -- there are never more events below a cycle than cycles up to it, and chips
-  pub few_events : (end n : ℕ) → end ≤ 2 ^ 50 → AllBelow start.console end n → n ≤ end - start.at + 5
+  pub few_events : (end n : ℕ) → end ≤ cycle_limit → AllBelow start.console end n → n ≤ end - start.at + 5
   -- no next event is before that of the chip that moves
   pub mover_first : (m : Console) (i : ℕ) → i < 5 → (key_in m (mover m)).cycle ≤ (key_in m i).cycle
   -- there are no more entries than moves

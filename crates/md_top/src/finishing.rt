@@ -1,4 +1,4 @@
-ghost use Rattle.std.specs.Prelude.{◌≡◌, ◌≢◌, ℕ, ◌≤◌, Option, Some};
+ghost use Rattle.std.specs.Prelude.{◌≢◌, ℕ, ◌≤◌, Option, Some};
 ghost use Rattle.md_outer.specs.Outside.{DepotState, SinkState};
 ghost use Rattle.md_top.specs.Answers.{Answers, Causes, Reports};
 ghost use Rattle.md_top.specs.Courses.{start_in};

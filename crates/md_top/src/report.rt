@@ -3,7 +3,6 @@ ghost use Rattle.std.specs.Option.{option_copied};
 ghost use Rattle.hex.specs.Hex.{encode_lower};
 ghost use Rattle.md_outer.specs.Outside.{PutsText};
 ghost use Rattle.md_top.specs.Answers.{PutsAll, PutsCommandOutcome, PutsPart, Reports};
-ghost use Rattle.md_top.specs.Counts.{frames_between};
 ghost use Rattle.md_top.specs.CommandOutcomes.{failed_status, status_of};
 ghost use Rattle.md_top.specs.Texts.{carts_line, counts_of, file_line, halted_line, lines_of, number_line, numbers_line};
 ghost use Rattle.md_args.specs.Shown.{shown_command};

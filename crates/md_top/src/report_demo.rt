@@ -1,5 +1,4 @@
-ghost use Rattle.std.specs.Prelude.{◌≡◌, ◌++◌, codes};
-ghost use Rattle.hex.specs.Hex.{encode_lower};
+ghost use Rattle.std.specs.Prelude.{◌++◌, codes};
 ghost use Rattle.md_outer.specs.Outside.{PutsText};
 ghost use Rattle.md_top.specs.Texts.{digest_line, digest_lines, lines_of};
 

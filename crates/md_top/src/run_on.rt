@@ -5,7 +5,7 @@ ghost use Rattle.md_top.specs.Courses.{CameFrom, IsAtStart, IsUnderway, cycle_of
 ghost use Rattle.md_top.specs.Counts.{count_of_frames, frames_between, pairs_between, pairs_of};
 ghost use Rattle.md_top.specs.CommandOutcomes.{HoldsUntil, RunCause, RunLeaves};
 ghost use Rattle.md_word.specs.Clock.{last_cycle};
-ghost use Rattle.md_top.specs.Limits.{IsEnd, segment_cycles};
+ghost use Rattle.md_top.specs.Limits.{IsEnd};
 ghost use Rattle.md_top.specs.Limits as limits;
 ghost use Rattle.md_top.specs.Outputs.{AreBegun, Holds, IsWriteFault, LeavesParts, nothing};
 ghost use Rattle.md_top.specs.Runs.{pieces_of};

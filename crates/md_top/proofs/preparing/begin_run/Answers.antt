@@ -3,7 +3,6 @@ use Rattle.md_outer.specs.Outside.{Files}
 use Rattle.md_args.specs.Shown.{shown_run}
 use Rattle.md_top.specs.Courses.{start_in}
 use Rattle.md_top.specs.Outputs.{Holds, LeavesParts, nothing}
-use Rattle.md_top.specs.declared.command_outcome.CommandOutcome.TheVariants.{Memory}
 use Rattle.md_top.proofs.Ends.{empty-parts, goes-far, unbegun-files, unbegun-run, unchanged, untouched}
 use Rattle.md_top.proofs.preparing.begin_run.Goals as goal
 
