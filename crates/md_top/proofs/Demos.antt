@@ -1,61 +1,19 @@
--- The run of a demonstration cartridge: what its digests hold, and what its outcome says.
-use Rattle.std.proofs.Common.{◌≡◌, ◌⊎◌, inl, inr, ℕ, ◌<◌, ◌≤◌, List, [], ◌++◌, Bool, cond, Some, refl, sym, ap, subst, ◌∙◌, arith}
+-- The run of a demonstration cartridge: what its outcome says.
+use Rattle.std.proofs.Common.{◌≡◌, ◌⊎◌, inl, inr, ◌<◌, ◌≤◌, Bool, cond, Some, refl, sym, ap, ◌∙◌, arith}
 use Rattle.std.proofs.lemmas.Bool.{le-ltb, lt-ltb, le-leb, lt-leb}
-use Rattle.sha2.specs.Hashers.{Holds256}
-use Rattle.sha2.specs.Sha256.{sha256}
 use Rattle.md_outer.specs.Outside.{DepotState, Files}
-use Rattle.md_word.specs.declared.event.Entry.{Entry}
-use Rattle.md_chips.specs.Media.{Media}
-use Rattle.md_machine.specs.Outputs.{frames_bytes, journal_bytes, sound_bytes}
-use Rattle.md_chips.specs.Starts.{IsStart, Start}
 use Rattle.md_vgm.specs.Outcomes.{Outcome}
 use Rattle.md_args.specs.Words.{Demo, RunDemo}
-use Rattle.md_top.specs.Demos.{DemoEnds, HaveUntil, demo_start, digests_from, summary_from}
+use Rattle.run_command.specs.Demos.{demo_start, summary_from}
+use Rattle.md_top.specs.Demos.{DemoEnds}
 use Rattle.md_top.specs.CommandOutcomes.{status_of}
 use Rattle.md_top.specs.Refusals.{Findings, demo_command_outcome, right_completion}
 use Rattle.md_top.specs.Inputs.{Verdict}
-use Rattle.md_word.specs.Clock.{cycle_limit, last_cycle}
-use Rattle.md_top.specs.Limits.{IsEnd}
-use Rattle.md_top.specs.Runs.{RunLaws, entries_from, media_from}
-use Rattle.md_top.specs.declared.digests.Digests.{Digests}
+use Rattle.md_word.specs.Clock.{last_cycle}
+use Rattle.run_command.specs.Limits.{IsEnd}
 use Rattle.md_top.specs.declared.command_outcome.CommandOutcome.{CommandOutcome}
 use Rattle.md_top.specs.declared.command_outcome.CommandOutcome.TheVariants.{Behind, DemoDone, Memory, TooFar}
-use Rattle.md_top.specs.declared.hashers.Hashers.{Hashers}
-use Rattle.md_top.proofs.Segments.{no-entries, no-media}
 use Rattle.md_top.proofs.Statuses.{Says}
-
--- THE DIGESTS
-
--- at the start nothing was made
-pub have-none : (start : Start) (hashers : Hashers) → IsStart start → RunLaws start → start.at ≤ cycle_limit
-    → Holds256 hashers.frames [] → Holds256 hashers.samples [] → Holds256 hashers.journal [] → HaveUntil start start.at hashers
-unfolding frames_bytes sound_bytes journal_bytes
-have-none start hashers is laws small frames samples journal = record {
-  frames = subst (λ (m : Media). Holds256 hashers.frames (frames_bytes start.console.pal m.frames)) (sym (no-media start is laws small)) frames;
-  samples = subst (λ (m : Media). Holds256 hashers.samples (sound_bytes m)) (sym (no-media start is laws small)) samples;
-  journal = subst (λ (l : List Entry). Holds256 hashers.journal (journal_bytes l)) (sym (no-entries start is laws small)) journal;
-}
-
--- after a segment
-pub have-more : (start : Start) (at to : ℕ) (old new : Hashers) (frames samples journal : List ℕ) → HaveUntil start at old
-    → ((bytes : List ℕ) → Holds256 old.frames bytes → Holds256 new.frames (bytes ++ frames))
-    → ((bytes : List ℕ) → Holds256 old.samples bytes → Holds256 new.samples (bytes ++ samples))
-    → ((bytes : List ℕ) → Holds256 old.journal bytes → Holds256 new.journal (bytes ++ journal))
-    → frames_bytes start.console.pal (media_from start to).frames ≡ frames_bytes start.console.pal (media_from start at).frames ++ frames
-    → sound_bytes (media_from start to) ≡ sound_bytes (media_from start at) ++ samples
-    → journal_bytes (entries_from start to) ≡ journal_bytes (entries_from start at) ++ journal → HaveUntil start to new
-have-more start at to old new frames samples journal have more_frames more_samples more_journal frames_are samples_are journal_is = record {
-  frames = subst (λ (l : List ℕ). Holds256 new.frames l) (sym frames_are) (more_frames (frames_bytes start.console.pal (media_from start at).frames) have.frames);
-  samples = subst (λ (l : List ℕ). Holds256 new.samples l) (sym samples_are) (more_samples (sound_bytes (media_from start at)) have.samples);
-  journal = subst (λ (l : List ℕ). Holds256 new.journal l) (sym journal_is) (more_journal (journal_bytes (entries_from start at)) have.journal);
-}
-
--- the digests at the end
-pub digests-are : (start : Start) (end : ℕ) (digests : Digests) → digests.frames ≡ sha256 (frames_bytes start.console.pal (media_from start end).frames)
-    → digests.samples ≡ sha256 (sound_bytes (media_from start end)) → digests.journal ≡ sha256 (journal_bytes (entries_from start end))
-    → digests ≡ digests_from start end
-unfolding digests_from
-digests-are start end digests frames samples journal = λ i. record { frames = frames i; samples = samples i; journal = journal i }
 
 -- WHAT AN ENDING SAYS
 

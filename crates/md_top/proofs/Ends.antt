@@ -1,135 +1,21 @@
--- How a run ends: what the outputs hold on the way, and why it stops.
-use Rattle.std.proofs.Common.{◌≡◌, ◌≢◌, ℕ, ◌<◌, ◌≤◌, List, [], Result, Ok, Err, Option, Some, None, append-nil, refl, subst, ◌∙◌, arith}
-use Rattle.std.specs.Prelude.{IfErr, IsSome, OnOk, OnErr}
+-- How a run ends, as the outcome of its command.
+use Rattle.std.proofs.Common.{◌≡◌, ◌<◌, ◌≤◌, subst, ◌∙◌}
 use Rattle.md_outer.specs.Outside.{DepotState, Files, GoesOn}
-use Rattle.md_top.specs.CommandOutcomes.{HoldsUntil, RunCause, RunEnds, RunFiles, RunLeaves, RunsFrom}
-use Rattle.md_word.specs.Clock.{cycle_limit, last_cycle}
-use Rattle.md_top.specs.Limits.{IsEnd}
-use Rattle.md_top.specs.Loads.{Begins, LoadCause, MayBeginAt}
-use Rattle.md_top.specs.Outputs.{Adds, AddsParts, AreBegun, Holds, IsBegun, IsUnwritten, IsWriteFault, LeavesParts, Parts, Pieces, all_of, lengthened, nothing, number_in}
-use Rattle.md_top.specs.Runs.{RunLaws, frames_to, journal_to, pieces_of, pieces_until, sound_until, state_to}
-use Rattle.md_chips.specs.Starts.{IsStart, Start}
-use Rattle.md_args.specs.Files.{run_output}
+use Rattle.md_word.specs.Clock.{last_cycle}
+use Rattle.md_chips.specs.Starts.{Start}
 use Rattle.md_args.specs.Words.{Run}
 use Rattle.md_args.specs.declared.files.Input.TheVariants.{State}
-use Rattle.md_args.specs.declared.files.Output.TheVariants.{Frames, Journal, Listing, Save, Sound, Target}
+use Rattle.run_command.specs.Limits.{IsEnd}
+use Rattle.run_command.specs.Outputs.{LeavesParts, all_of, nothing}
+use Rattle.run_command.specs.RunOutcomes.{IsUnwritten, RunCause, RunLeaves}
+use Rattle.run_command.specs.Runs.{pieces_of}
+use Rattle.run_command.specs.declared.run_outcome.RunOutcome.{RunOutcome}
+use Rattle.run_command.specs.declared.run_outcome.RunOutcome.TheVariants as run_outcome
+use Rattle.run_command.proofs.Ends.{cause-before, no_part, untouched, unwritten-cause, unwritten-leaves}
+use Rattle.md_top.specs.CommandOutcomes.{RunEnds, RunFiles, RunsFrom, of_run}
+use Rattle.md_top.specs.Loads.{Begins, LoadCause, MayBeginAt}
 use Rattle.md_top.specs.declared.command_outcome.CommandOutcome.{CommandOutcome}
 use Rattle.md_top.specs.declared.command_outcome.CommandOutcome.TheVariants.{Done, Memory, OtherCart, ReadFault, StateInvalid, TooLong, WriteFault}
-use Rattle.md_top.specs.declared.outputs.Outputs.{Outputs}
-use Rattle.md_top.proofs.Puts.{rose_later}
-use Rattle.md_top.proofs.Segments.{pieces-first, pieces-front}
-use Rattle.md_top.proofs.Writes.{nothing-front, parts-longer}
-
--- RESULTS
-
-pub on-ok : {A E P Q : Type 0} (r : Result A E) → (P → Q) → OnOk r P → OnOk r Q
-on-ok (Ok x) f p = f p
-on-ok (Err e) f p = tt
-
-pub on-err : {A E P Q : Type 0} (r : Result A E) → (P → Q) → OnErr r P → OnErr r Q
-on-err (Ok x) f p = tt
-on-err (Err e) f p = f p
-
-pub both-err : {A E Q : Type 0} {P R : E → Type 0} (r : Result A E) → ((e : E) → P e → Q → R e) → IfErr r P → OnErr r Q → IfErr r R
-both-err (Ok x) f p q = tt
-both-err (Err e) f p q = f e p q
-
--- WHAT THE OUTPUTS HOLD
-
-pub head-held : (run : Run) (start : Start) (first files : Files) (head : List ℕ) → IsStart start → RunLaws start → start.at ≤ cycle_limit
-    → head ≡ sound_until start run.cycles start.at
-    → Holds run first files (record nothing { sound = head }) → HoldsUntil start run first files start.at
-head-held run start first files head is laws small same holds =
-    subst (Holds run first files) (pieces-first start run.cycles head is laws small same) holds
-
-pub head-parts : (run : Run) (start : Start) (first files : Files) (head : List ℕ) → IsStart start → RunLaws start → start.at ≤ run.cycles → run.cycles ≤ cycle_limit
-    → head ≡ sound_until start run.cycles start.at
-    → LeavesParts run first files (record nothing { sound = head }) → LeavesParts run first files (pieces_of start run.cycles)
-head-parts run start first files head is laws within small same leaves =
-    parts-longer run first files (pieces_until start run.cycles start.at) (pieces_of start run.cycles)
-    (subst (LeavesParts run first files) (pieces-first start run.cycles head is laws (omega (arith, within, small)) same) leaves)
-    (pieces-front start run.cycles start.at is laws small within)
-
-pub segment-held : (run : Run) (start : Start) (first old new : Files) (at to : ℕ) (more : Pieces)
-    → lengthened (pieces_until start run.cycles at) more ≡ pieces_until start run.cycles to
-    → Adds run old new more → HoldsUntil start run first old at → HoldsUntil start run first new to
-segment-held run start first old new at to more is adds holds =
-    subst (Holds run first new) is (adds first (pieces_until start run.cycles at) holds)
-
-pub segment-parts : (run : Run) (start : Start) (first old new : Files) (at to : ℕ) (more : Pieces) → IsStart start → RunLaws start → to ≤ run.cycles → run.cycles ≤ cycle_limit
-    → lengthened (pieces_until start run.cycles at) more ≡ pieces_until start run.cycles to
-    → AddsParts run old new more → HoldsUntil start run first old at → LeavesParts run first new (pieces_of start run.cycles)
-segment-parts run start first old new at to more from laws within small is adds holds =
-    parts-longer run first new (pieces_until start run.cycles to) (pieces_of start run.cycles)
-    (subst (LeavesParts run first new) is (adds first (pieces_until start run.cycles at) holds))
-    (pieces-front start run.cycles to from laws small within)
-
--- the state after the last segment
-with-state : (start : Start) (end : ℕ) (state : List ℕ) → state ≡ state_to start end → lengthened (pieces_until start end end) (record nothing { state = state }) ≡ pieces_of start end
-with-state start end state is = λ i. record {
-  frames = append-nil (frames_to start end) i;
-  sound = append-nil (sound_until start end end) i;
-  journal = append-nil (journal_to start end) i;
-  state = is i;
-}
-
-pub state-held : (run : Run) (start : Start) (first old new : Files) (state : List ℕ) → state ≡ state_to start run.cycles
-    → Adds run old new (record nothing { state = state }) → HoldsUntil start run first old run.cycles → Holds run first new (pieces_of start run.cycles)
-state-held run start first old new state is adds holds =
-    subst (Holds run first new) (with-state start run.cycles state is) (adds first (pieces_until start run.cycles run.cycles) holds)
-
-pub state-parts : (run : Run) (start : Start) (first old new : Files) (state : List ℕ) → state ≡ state_to start run.cycles
-    → AddsParts run old new (record nothing { state = state }) → HoldsUntil start run first old run.cycles → LeavesParts run first new (pieces_of start run.cycles)
-state-parts run start first old new state is adds holds =
-    subst (LeavesParts run first new) (with-state start run.cycles state is) (adds first (pieces_until start run.cycles run.cycles) holds)
-
--- WHY IT STOPS
-
-pub unwritten-cause : (start : Start) (run : Run) (old new : DepotState) (command_outcome : CommandOutcome) → IsUnwritten run old new command_outcome → RunCause start run old new command_outcome
-unwritten-cause start run old new (WriteFault which) fault = fault
-unwritten-cause start run old new Memory fault = tt
-unwritten-cause start run old new _ fault = absurd fault
-
--- a cause from later on is one from before
-pub cause-before : (start : Start) (run : Run) (old mid new : DepotState) (command_outcome : CommandOutcome) → GoesOn old mid → RunCause start run mid new command_outcome → RunCause start run old new command_outcome
-cause-before start run old mid new (Done from frames accesses halted) on cause = cause
-cause-before start run old mid new Memory on cause = tt
-cause-before start run old mid new (WriteFault which) on cause = (cause.0, rose_later old.write_faults mid.write_faults new.write_faults on.writes cause.1)
-cause-before start run old mid new _ on cause = absurd cause
-
-pub unwritten-before : (run : Run) (old mid new : DepotState) (command_outcome : CommandOutcome) → GoesOn old mid → IsUnwritten run mid new command_outcome → IsUnwritten run old new command_outcome
-unwritten-before run old mid new Memory on cause = tt
-unwritten-before run old mid new (WriteFault which) on cause = (cause.0, rose_later old.write_faults mid.write_faults new.write_faults on.writes cause.1)
-unwritten-before run old mid new _ on cause = absurd cause
-
--- it is not out of memory
-pub fault-not_memory : (run : Run) (old new : DepotState) (command_outcome : CommandOutcome) → IsWriteFault run old new command_outcome → command_outcome ≢ Memory
-fault-not_memory run old new command_outcome fault is = subst (IsWriteFault run old new) is fault
-
-pub fault-leaves : (start : Start) (run : Run) (first files : Files) (old new : DepotState) (command_outcome : CommandOutcome) → IsWriteFault run old new command_outcome
-    → LeavesParts run first files (pieces_of start run.cycles) → RunLeaves start run first files command_outcome
-fault-leaves start run first files old new (WriteFault which) fault leaves = leaves
-fault-leaves start run first files old new _ fault leaves = absurd fault
-
-pub unwritten-leaves : (start : Start) (run : Run) (first files : Files) (old new : DepotState) (command_outcome : CommandOutcome) → IsUnwritten run old new command_outcome
-    → LeavesParts run first files nothing → RunLeaves start run first files command_outcome
-unwritten-leaves start run first files old new (WriteFault which) fault leaves = parts-longer run first files nothing (pieces_of start run.cycles) leaves (nothing-front (pieces_of start run.cycles))
-unwritten-leaves start run first files old new Memory fault leaves = leaves
-unwritten-leaves start run first files old new _ fault leaves = absurd fault
-
--- no output is begun
-abbrev no_part : Parts
-no_part = record { frames = None; sound = None; journal = None; state = None }
-
-pub untouched : (run : Run) (old new : Files) → new ≡ old → LeavesParts run old new nothing
-untouched run old new same = record {
-  parts = no_part;
-  frames = tt;
-  sound = tt;
-  journal = tt;
-  state = tt;
-  files = same;
-}
 
 pub unchanged : (run : Run) (old new : Files) (command_outcome : CommandOutcome) → new ≡ old → RunFiles run old new command_outcome
 unchanged run old new (Done from frames accesses halted) same = (no_part, same)
@@ -141,32 +27,30 @@ unchanged run old new _ same = same
 abbrev pub AreOne : Type 0
 AreOne = (run : Run) (files : Files) (a b : Start) → Begins run files a → Begins run files b → a ≡ b
 
-run-from : (run : Run) (start : Start) (old mid new : DepotState) (command_outcome : CommandOutcome) → AreOne → Begins run old.files start → start.at < run.cycles → GoesOn old mid
-    → RunCause start run mid new command_outcome → RunLeaves start run old.files new.files command_outcome → RunsFrom run old new command_outcome
-run-from run start old mid new command_outcome one begins ahead on cause leaves = record {
+run-from : (run : Run) (start : Start) (old mid new : DepotState) (outcome : RunOutcome) → AreOne → Begins run old.files start → start.at < run.cycles → GoesOn old mid
+    → RunCause start run mid new outcome → RunLeaves start run old.files new.files outcome → RunsFrom run old new outcome
+run-from run start old mid new outcome one begins ahead on cause leaves = record {
   start = start;
   begins = begins;
   alone = λ other also. one run old.files other start also begins;
   above = ahead;
-  cause = cause-before start run old mid new command_outcome on cause;
+  cause = cause-before start run old mid new outcome on cause;
   files = leaves;
 }
 
-pub end-of-run : (observable : Type 0) (run : Run) (start : Start) (old mid new : DepotState) (command_outcome : CommandOutcome) → AreOne → IsEnd run.cycles → MayBeginAt run start.at
-    → (observable → Begins run old.files start) → start.at < run.cycles → GoesOn old mid → RunCause start run mid new command_outcome
-    → (observable → RunLeaves start run old.files new.files command_outcome) → RunEnds observable run old new command_outcome
-end-of-run observable run start old mid new (Done from frames accesses halted) one end may begins ahead on cause leaves =
-    (end, (λ none. cause.from ∙ may none), λ t. run-from run start old mid new (Done from frames accesses halted) one (begins t) ahead on cause (leaves t))
-end-of-run observable run start old mid new Memory one end may begins ahead on cause leaves = tt
-end-of-run observable run start old mid new (WriteFault which) one end may begins ahead on cause leaves =
-    (end, (λ t. run-from run start old mid new (WriteFault which) one (begins t) ahead on cause (leaves t)), cause-before start run old mid new (WriteFault which) on cause)
-end-of-run observable run start old mid new _ one end may begins ahead on cause leaves = absurd cause
+pub end-of-run : (observable : Type 0) (run : Run) (start : Start) (old mid new : DepotState) (outcome : RunOutcome) → AreOne → IsEnd run.cycles → MayBeginAt run start.at
+    → (observable → Begins run old.files start) → start.at < run.cycles → GoesOn old mid → RunCause start run mid new outcome
+    → (observable → RunLeaves start run old.files new.files outcome) → RunEnds observable run old new (of_run outcome)
+end-of-run observable run start old mid new (run_outcome.Done from frames accesses halted) one end may begins ahead on cause leaves =
+    (end, (λ none. cause.from ∙ may none), λ t. run-from run start old mid new (run_outcome.Done from frames accesses halted) one (begins t) ahead on cause (leaves t))
+end-of-run observable run start old mid new run_outcome.Memory one end may begins ahead on cause leaves = tt
+end-of-run observable run start old mid new (run_outcome.WriteFault which) one end may begins ahead on cause leaves =
+    (end, (λ t. run-from run start old mid new (run_outcome.WriteFault which) one (begins t) ahead on cause (leaves t)), cause-before start run old mid new (run_outcome.WriteFault which) on cause)
 
-pub files-of-run : (run : Run) (start : Start) (old new : Files) (command_outcome : CommandOutcome) → RunLeaves start run old new command_outcome → RunFiles run old new command_outcome
-files-of-run run start old new (Done from frames accesses halted) leaves = (all_of (pieces_of start run.cycles), leaves)
-files-of-run run start old new (WriteFault which) leaves = (leaves.parts, leaves.files)
-files-of-run run start old new Memory leaves = leaves
-files-of-run run start old new _ leaves = leaves
+pub files-of-run : (run : Run) (start : Start) (old new : Files) (outcome : RunOutcome) → RunLeaves start run old new outcome → RunFiles run old new (of_run outcome)
+files-of-run run start old new (run_outcome.Done from frames accesses halted) leaves = (all_of (pieces_of start run.cycles), leaves)
+files-of-run run start old new (run_outcome.WriteFault which) leaves = (leaves.parts, leaves.files)
+files-of-run run start old new run_outcome.Memory leaves = leaves
 
 -- a run that found no machine
 pub load-ends : (observable : Type 0) (run : Run) (old new : DepotState) (command_outcome : CommandOutcome) → run.cycles ≤ last_cycle → LoadCause observable run old new command_outcome → RunEnds observable run old new command_outcome
@@ -177,56 +61,16 @@ load-ends observable run old new (OtherCart kept given) near cause = (near, caus
 load-ends observable run old new Memory near cause = tt
 load-ends observable run old new _ near cause = absurd cause.2
 
--- an output that is begun and empty
-pub empty-parts : (run : Run) (old new : Files) → Holds run old new nothing → LeavesParts run old new nothing
-empty-parts run old new holds = record {
-  parts = all_of nothing;
-  frames = ([], refl);
-  sound = ([], refl);
-  journal = ([], refl);
-  state = ([], refl);
-  files = holds;
-}
-
 -- a run that found its start, and did not begin
-pub unbegun-run : (observable : Type 0) (run : Run) (start : Start) (old mid new : DepotState) (command_outcome : CommandOutcome) → AreOne → IsEnd run.cycles → MayBeginAt run start.at
-    → (observable → Begins run old.files start) → start.at < run.cycles → GoesOn old mid → (observable → mid.files ≡ old.files) → IsUnwritten run mid new command_outcome
-    → (observable → LeavesParts run mid.files new.files nothing) → RunEnds observable run old new command_outcome
-unbegun-run observable run start old mid new command_outcome one end may begins ahead on same unwritten leaves =
-    end-of-run observable run start old mid new command_outcome one end may begins ahead on (unwritten-cause start run mid new command_outcome unwritten)
-    (λ t. subst (λ (files : Files). RunLeaves start run files new.files command_outcome) (same t)
-    (unwritten-leaves start run mid.files new.files mid new command_outcome unwritten (leaves t)))
+pub unbegun-run : (observable : Type 0) (run : Run) (start : Start) (old mid new : DepotState) (outcome : RunOutcome) → AreOne → IsEnd run.cycles → MayBeginAt run start.at
+    → (observable → Begins run old.files start) → start.at < run.cycles → GoesOn old mid → (observable → mid.files ≡ old.files) → IsUnwritten run mid new outcome
+    → (observable → LeavesParts run mid.files new.files nothing) → RunEnds observable run old new (of_run outcome)
+unbegun-run observable run start old mid new outcome one end may begins ahead on same unwritten leaves =
+    end-of-run observable run start old mid new outcome one end may begins ahead on (unwritten-cause start run mid new outcome unwritten)
+    (λ t. subst (λ (files : Files). RunLeaves start run files new.files outcome) (same t)
+    (unwritten-leaves start run mid.files new.files mid new outcome unwritten (leaves t)))
 
-pub unbegun-files : (run : Run) (old new : DepotState) (first files : Files) (command_outcome : CommandOutcome) → IsUnwritten run old new command_outcome → LeavesParts run first files nothing → RunFiles run first files command_outcome
-unbegun-files run old new first files (WriteFault which) unwritten leaves = (leaves.parts, leaves.files)
-unbegun-files run old new first files Memory unwritten leaves = leaves
-unbegun-files run old new first files _ unwritten leaves = absurd unwritten
-
--- NUMBERS OF BEGUN OUTPUTS
-
-held : (name : Option (List ℕ)) (found : Option (List ℕ)) → IsSome name → found ≡ name → IsSome found
-held name found some is = rw is some
-
-pub begun-one : (old new : DepotState) (number : Option ℕ) (name : Option (List ℕ)) → GoesOn old new → IsBegun old.begun number name → IsBegun new.begun number name
-begun-one old new None name on begun = begun
-begun-one old new (Some file) name on (some, is) = (some, on.names file (held name (old.begun file) some is) ∙ is)
-
-pub begun-on : (run : Run) (old new : DepotState) (outputs : Outputs) → GoesOn old new → AreBegun run old.begun outputs → AreBegun run new.begun outputs
-begun-on run old new outputs on begun = λ which. begun-one old new (number_in outputs which) (run_output run which) on (begun which)
-
--- those of a run are all
-pub all-begun : (run : Run) (begun : ℕ → Option (List ℕ)) (outputs : Outputs) → IsBegun begun outputs.frames run.frames → IsBegun begun outputs.sound run.sound
-    → IsBegun begun outputs.journal run.journal → IsBegun begun outputs.save run.save → AreBegun run begun outputs
-all-begun run begun outputs frames sound journal save Frames = frames
-all-begun run begun outputs frames sound journal save Sound = sound
-all-begun run begun outputs frames sound journal save Journal = journal
-all-begun run begun outputs frames sound journal save Save = save
-all-begun run begun outputs frames sound journal save Target = refl
-all-begun run begun outputs frames sound journal save Listing = refl
-
-pub goes-far : (old mid new : DepotState) → GoesOn old mid → GoesOn mid new → GoesOn old new
-goes-far old mid new first second = record {
-  names = λ file some. second.names file (held (old.begun file) (mid.begun file) some (first.names file some)) ∙ first.names file some;
-  reads = omega (arith, first.reads, second.reads);
-  writes = omega (arith, first.writes, second.writes);
-}
+pub unbegun-files : (run : Run) (old new : DepotState) (first files : Files) (outcome : RunOutcome) → IsUnwritten run old new outcome → LeavesParts run first files nothing → RunFiles run first files (of_run outcome)
+unbegun-files run old new first files (run_outcome.WriteFault which) unwritten leaves = (leaves.parts, leaves.files)
+unbegun-files run old new first files run_outcome.Memory unwritten leaves = leaves
+unbegun-files run old new first files (run_outcome.Done from frames accesses halted) unwritten leaves = absurd unwritten

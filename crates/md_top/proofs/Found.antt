@@ -7,7 +7,7 @@ use Rattle.md_top.specs.Inputs.{Verdict}
 use Rattle.state_laws.specs.Verdicts.{StateInvalidAt}
 use Rattle.md_top.specs.CommandOutcomes.{RunFiles, status_of}
 use Rattle.md_top.specs.Refusals.{Findings, right_completion}
-use Rattle.md_top.specs.Outputs.{Parts, with_part, written}
+use Rattle.run_command.specs.Outputs.{Parts, with_part, written}
 use Rattle.md_vgm.specs.Outcomes.{Outcome}
 use Rattle.md_args.specs.Files.{run_output}
 use Rattle.md_args.specs.Words.{Command, Debug, Debugging, Rollback, Rolling, Run, RunCart}

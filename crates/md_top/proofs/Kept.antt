@@ -8,9 +8,9 @@ use Rattle.md_top.specs.Loads.{IsFound, IsFoundIn, IsRefused, StateCause, state_
 use Rattle.state_laws.specs.Verdicts.{OfOther, StateVerdict, StateInvalidAt}
 use Rattle.md_top.specs.declared.command_outcome.CommandOutcome.{CommandOutcome}
 use Rattle.md_top.specs.declared.command_outcome.CommandOutcome.TheVariants.{Memory, OtherCart, ReadFault, StateInvalid, TooLong}
-use Rattle.md_top.specs.declared.inputs.Inputs.{Inputs}
+use Rattle.run_command.specs.declared.inputs.Inputs.{Inputs}
 use Rattle.md_top.proofs.Fetched.{held}
-use Rattle.md_top.proofs.Puts.{rose_later}
+use Rattle.run_command.proofs.Ends.{rose_later}
 
 pub found-in : (file : Option (List ℕ)) (inputs : Inputs) (bytes : List ℕ) (verdict : StateVerdict) → file ≡ Some bytes → length bytes ≤ state_limit
     → IsFound inputs bytes verdict → IsFoundIn file inputs verdict

@@ -1,5 +1,5 @@
 -- Texts that are put one after the other.
-use Rattle.std.proofs.Common.{◌≡◌, ℕ, ◌≤◌, List, ◌++◌, Result, Ok, Err, Option, ◌⊎◌, inl, inr, ap, ◌∙◌, sym, subst, append_assoc, arith}
+use Rattle.std.proofs.Common.{◌≡◌, ℕ, List, ◌++◌, Result, Ok, Err, Option, ◌⊎◌, inl, inr, ap, ◌∙◌, sym, subst, append_assoc, arith}
 use Rattle.std.specs.Prelude.{OnErr, OnOk}
 use Rattle.md_top.specs.Answers.{PutsAll, PutsCommandOutcome, PutsLine, PutsPart, Reports}
 use Rattle.md_top.specs.CommandOutcomes.{failed_status, status_of}
@@ -8,15 +8,13 @@ use Rattle.md_top.specs.declared.command_outcome.CommandOutcome.{CommandOutcome}
 use Rattle.md_top.specs.declared.command_outcome.CommandOutcome.TheVariants.{Played, ReplyFault}
 use Rattle.md_args.specs.Words.{Command}
 use Rattle.md_debug.proofs.Scripts.{puts_more}
-use Rattle.md_outer.specs.Outside.{IsPrefix, PutsText, Rose, SinkState}
+use Rattle.md_outer.specs.Outside.{IsPrefix, PutsText, SinkState}
 use Rattle.md_outer.specs.declared.sink.Failed.{Failed}
-use Rattle.md_top.proofs.Writes.{prefix-append}
+use Rattle.run_command.proofs.Ends.{rose_later}
+use Rattle.run_command.proofs.Writes.{prefix-append}
 
 prefix_longer : (front first second : List ℕ) → IsPrefix front first → IsPrefix front (first ++ second)
 prefix_longer front first second (rest, is) = (rest ++ second, sym (append_assoc front rest second) ∙ ap (λ (l : List ℕ). l ++ second) is)
-
-pub rose_later : (before mid now : ℕ) → before ≤ mid → Rose mid now → Rose before now
-rose_later before mid now later rose = omega arith
 
 -- a second text after one that was put
 pub puts_on : {E F : Type 0} (observable : Type 0) (first second : List ℕ) (old mid new : SinkState) (result : Result (Unit {0}) F)

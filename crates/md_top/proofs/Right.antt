@@ -12,13 +12,13 @@ use Rattle.md_top.specs.Refusals.{cart_command_outcome, file_command_outcome, ke
 use Rattle.md_top.specs.Inputs.{CartCause, IsAccepted, IsValidated, IsVerdict, Spelled, RecordingCause, Records, Verdict, Unspelled, cart_limit, recording_limit}
 use Rattle.md_top.specs.Loads.{BeginsWith, IsFound, IsFoundIn, IsLoadValidated, StateCause, recording_by, state_limit}
 use Rattle.state_laws.specs.Verdicts.{Keeps, OfOther, StateVerdict, StateInvalidAt}
-use Rattle.md_top.specs.Runs.{entries_from, halted_from, media_from, powered_on}
+use Rattle.run_command.specs.Runs.{entries_from, halted_from, media_from, powered_on}
 use Rattle.md_chips.specs.Starts.{Start}
 use Rattle.md_args.specs.declared.files.Input.{Input}
 use Rattle.md_args.specs.declared.files.Input.TheVariants.{First, Recording, State}
 use Rattle.md_top.specs.declared.command_outcome.CommandOutcome.{CommandOutcome}
 use Rattle.md_top.specs.declared.command_outcome.CommandOutcome.TheVariants.{Done, ReadFault, Short, NoMark, RecordingInvalid, StateInvalid, OtherCart, Behind, Memory, TooLong}
-use Rattle.md_top.specs.declared.inputs.Inputs.{Inputs}
+use Rattle.run_command.specs.declared.inputs.Inputs.{Inputs}
 use Rattle.md_pads.proofs.Whole.{one_recording}
 use Rattle.state_laws.proofs.Whole.{one_verdict}
 

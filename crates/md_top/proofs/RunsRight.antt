@@ -16,7 +16,7 @@ use Rattle.md_args.specs.Words.{Run}
 use Rattle.md_args.specs.declared.files.Input.TheVariants.{First, Recording, State}
 use Rattle.md_top.specs.declared.command_outcome.CommandOutcome.{CommandOutcome}
 use Rattle.md_top.specs.declared.command_outcome.CommandOutcome.TheVariants.{Shown, ReadFault, Short, NoMark, RecordingInvalid, StateInvalid, OtherCart, Memory, TooFar, TooLong}
-use Rattle.md_top.specs.declared.inputs.Inputs.{Inputs}
+use Rattle.run_command.specs.declared.inputs.Inputs.{Inputs}
 use Rattle.md_top.proofs.Right.{file_long, file_state_long, load_right, loaded_run, read_within, recording_same, right_accepted, right_long, right_missing, right_recorded, right_refused}
 
 -- OF A RUN

@@ -1,21 +1,25 @@
 -- What comes of a command line from where it was prepared to.
-use Rattle.std.proofs.Common.{◌≡◌, ◌≢◌, ◌⊎◌, inl, inr, ℕ, Option, Some, None, refl, sym, subst, ◌∙◌, arith}
+use Rattle.std.proofs.Common.{◌≡◌, ◌≢◌, ◌⊎◌, inl, inr, ℕ, Option, Some, None, refl, sym, ap, subst, ◌∙◌, arith}
 use Rattle.std.specs.Prelude.{codes}
 use Rattle.md_outer.specs.Outside.{DepotState, Files, SinkState}
 use Rattle.md_args.specs.Words.{Command, Demo, Run, RunCart, RunDemo, Info, Convert, Assemble, Debug, Rollback}
 use Rattle.md_top.specs.Answers.{PutsAll, PutsPart, Reports, Shows}
-use Rattle.md_top.specs.Courses.{start_in}
-use Rattle.md_top.specs.Demos.{IsSummary}
-use Rattle.md_top.specs.CommandOutcomes.{HasCause, LeavesFiles, RunCause, RunLeaves, status_of}
-use Rattle.md_top.specs.Outputs.{Holds, nothing}
+use Rattle.run_command.specs.Courses.{start_in}
+use Rattle.run_command.specs.Demos.{IsSummary}
+use Rattle.md_top.specs.CommandOutcomes.{HasCause, LeavesFiles, of_run, status_of}
+use Rattle.run_command.specs.RunOutcomes.{RunCause, RunLeaves}
+use Rattle.run_command.specs.Outputs.{Holds, nothing}
 use Rattle.md_top.specs.Stages.{IsAboutToRun, IsAboutToRunDemo, IsAnswered, LeavesBegun}
 use Rattle.md_top.specs.declared.begun_run.BegunRun.{BegunRun}
-use Rattle.md_top.specs.declared.course.Course.{Course}
+use Rattle.run_command.specs.declared.course.Course.{Course}
+use Rattle.run_command.specs.declared.run_outcome.RunOutcome.{RunOutcome}
+use Rattle.run_command.specs.declared.run_outcome.RunOutcome.TheVariants as run_outcome
 use Rattle.md_top.specs.declared.command_outcome.CommandOutcome.{CommandOutcome}
-use Rattle.md_top.specs.declared.command_outcome.CommandOutcome.TheVariants.{Done, DemoDone, Memory, Usage, WriteFault}
-use Rattle.md_top.specs.declared.summary.Summary.{Summary}
+use Rattle.md_top.specs.declared.command_outcome.CommandOutcome.TheVariants.{DemoDone, Usage}
+use Rattle.run_command.specs.declared.summary.Summary.{Summary}
 use Rattle.md_chips.specs.Starts.{Start}
-use Rattle.md_top.proofs.Ends.{AreOne, end-of-run, files-of-run, untouched}
+use Rattle.run_command.proofs.Ends.{untouched}
+use Rattle.md_top.proofs.Ends.{AreOne, end-of-run, files-of-run}
 use Rattle.md_top.proofs.Rows.{causes_of, memory_answers, memory_causes, none_causes}
 use Rattle.md_top.proofs.Puts.{line_of}
 use Rattle.md_top.proofs.Statuses.{IsOf, reported_then}
@@ -61,16 +65,17 @@ ended_answered observable sink command asked old new out between out' status com
     )
 
 -- a run
-pub run_answered : (observable sink : Type 0) (run : Run) (begun : BegunRun) (first now new : DepotState) (out out' : SinkState) (status : ℕ) (command_outcome : CommandOutcome) → AreOne
-    → IsAboutToRun observable run first now begun → RunCause (start_in begun.course) run now new command_outcome
-    → (observable → (files : Files) → Holds run files now.files nothing → RunLeaves (start_in begun.course) run files new.files command_outcome)
+pub run_answered : (observable sink : Type 0) (run : Run) (begun : BegunRun) (first now new : DepotState) (out out' : SinkState) (status : ℕ) (outcome : RunOutcome) (command_outcome : CommandOutcome) → AreOne
+    → IsAboutToRun observable run first now begun → RunCause (start_in begun.course) run now new outcome
+    → (observable → (files : Files) → Holds run files now.files nothing → RunLeaves (start_in begun.course) run files new.files outcome) → command_outcome ≡ of_run outcome
     → Reports sink (Some (RunCart run)) command_outcome out out' status → IsAnswered observable sink (Some (RunCart run)) first new out out' status
-run_answered observable sink run begun first now new out out' status command_outcome one about cause leaves reports =
+run_answered observable sink run begun first now new out out' status outcome command_outcome one about cause leaves same reports =
     let start : Start = start_in begun.course in
-    let left : observable → RunLeaves start run first.files new.files command_outcome = λ t. leaves t first.files (about.empty t) in
-    ended_answered observable sink (Some (RunCart run)) (RunCart run) first new out out out' status command_outcome refl
-    (end-of-run observable run start first now new command_outcome one about.has.end about.has.may about.has.begins about.has.above about.later cause left)
-    (λ t. files-of-run run start first.files new.files command_outcome (left t)) refl reports
+    let left : observable → RunLeaves start run first.files new.files outcome = λ t. leaves t first.files (about.empty t) in
+    ended_answered observable sink (Some (RunCart run)) (RunCart run) first new out out out' status (of_run outcome) refl
+    (end-of-run observable run start first now new outcome one about.has.end about.has.may about.has.begins about.has.above about.later cause left)
+    (λ t. files-of-run run start first.files new.files outcome (left t)) refl
+    (subst (λ (result : CommandOutcome). Reports sink (Some (RunCart run)) result out out' status) same reports)
 
 -- a run of a demonstration cartridge
 pub demo_answered : (observable sink : Type 0) (demo : Demo) (course : Course) (now : DepotState) (out out' : SinkState) (status : ℕ) → IsAboutToRunDemo demo course
@@ -96,11 +101,14 @@ shown_answered observable sink command old new before out out' status same is = 
 
 -- NOT OUT OF MEMORY
 
-pub run_not_ten : (start : Start) (run : Run) (old new : DepotState) (command_outcome : CommandOutcome) → RunCause start run old new command_outcome → command_outcome ≢ Memory → status_of command_outcome ≡ 10 → ⊥
-run_not_ten start run old new (Done from frames accesses halted) cause other is = omega (arith, is)
-run_not_ten start run old new (WriteFault which) cause other is = omega (arith, is)
-run_not_ten start run old new Memory cause other is = other refl
-run_not_ten start run old new _ cause other is = absurd cause
+pub run_not_ten : (start : Start) (run : Run) (old new : DepotState) (outcome : RunOutcome) (command_outcome : CommandOutcome) → RunCause start run old new outcome → outcome ≢ run_outcome.Memory
+    → command_outcome ≡ of_run outcome → status_of command_outcome ≡ 10 → ⊥
+run_not_ten start run old new outcome command_outcome cause other same is = by outcome other (sym (ap status_of same) ∙ is)
+  where
+    by : (one : RunOutcome) → one ≢ run_outcome.Memory → status_of (of_run one) ≡ 10 → ⊥
+    by (run_outcome.Done from frames accesses halted) memory ten = omega (arith, ten)
+    by (run_outcome.WriteFault which) memory ten = omega (arith, ten)
+    by run_outcome.Memory memory ten = memory refl
 
 pub not_ten : (sink : Type 0) (command : Option Command) (command_outcome : CommandOutcome) (out out' : SinkState) (status : ℕ) → Reports sink command command_outcome out out' status
     → (status_of command_outcome ≡ 10 → ⊥) → status ≡ 10 → ⊥

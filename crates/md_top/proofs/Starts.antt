@@ -9,7 +9,7 @@ use Rattle.state_laws.specs.Verdicts.{Keeps}
 use Rattle.md_args.specs.Words.{Run}
 use Rattle.md_top.specs.Inputs.{AreInputs, Records, recording_limit}
 use Rattle.md_top.specs.Loads.{Begins, BeginsWith, IsFoundIn}
-use Rattle.md_top.specs.declared.inputs.Inputs.{Inputs}
+use Rattle.run_command.specs.declared.inputs.Inputs.{Inputs}
 
 -- no bytes spell two recordings
 abbrev SpellOne : Type 0

@@ -24,7 +24,7 @@ use Rattle.md_top.specs.Rollings.{IsRefusedLine}
 use Rattle.md_top.specs.Texts.{text_of}
 use Rattle.md_top.specs.declared.command_outcome.CommandOutcome.{CommandOutcome}
 use Rattle.md_top.specs.declared.command_outcome.CommandOutcome.TheVariants.{Shown, Done, Played, Usage, ReadFault, WriteFault, Short, NoMark, RecordingInvalid, StateInvalid, OtherCart, Behind, Memory, ScriptMemory, TooFar, ReplyFault, TooLong, ScriptRefused, SourceRefused, InputRefused, LineRefused}
-use Rattle.md_top.proofs.Puts.{rose_later}
+use Rattle.run_command.proofs.Ends.{rose_later}
 
 -- what was shown before lowers no count of faults
 replies_later : (observable sink : Type 0) (words : Debugging) (files : Files) (command_outcome : CommandOutcome) (out between : SinkState) → ShowsReplies observable sink words files command_outcome out between

@@ -11,12 +11,13 @@ use Rattle.md_top.specs.Debuggings.{CanDebug, DebugEnds}
 use Rattle.md_top.specs.Demos.{DemoEnds}
 use Rattle.md_top.specs.Inputs.{CartCause, InputCause, IsAccepted, cart_of}
 use Rattle.md_word.specs.Clock.{last_cycle}
-use Rattle.md_top.specs.Limits.{IsEnd}
+use Rattle.run_command.specs.Limits.{IsEnd}
 use Rattle.md_top.specs.Loads.{Begins, CanRun, LoadCause, MayBeginAt}
-use Rattle.md_top.specs.Outputs.{Holds, IsUnwritten, LeavesOthers, LeavesParts, nothing}
-use Rattle.md_top.specs.Resuming.{RunsWell}
+use Rattle.run_command.specs.Outputs.{LeavesOthers, LeavesParts, nothing}
+use Rattle.run_command.specs.RunOutcomes.{IsUnwritten, RunCause, RunLeaves}
+use Rattle.run_command.specs.declared.run_outcome.RunOutcome.{RunOutcome}
+use Rattle.run_command.specs.declared.run_outcome.RunOutcome.TheVariants as run_outcome
 use Rattle.md_top.specs.Rollings.{CanRoll, RollEnds}
-use Rattle.md_top.specs.Runs.{pieces_of, pieces_until}
 use Rattle.md_top.specs.declared.command_outcome.CommandOutcome.{CommandOutcome}
 use Rattle.md_top.specs.declared.command_outcome.CommandOutcome.TheVariants.{Shown, Done, DemoDone, Converted, Played, RolledBack, Usage, ReadFault, WriteFault, Short, NoMark, RecordingInvalid, StateInvalid, OtherCart, Behind, Memory, ScriptMemory, TooFar, ReplyFault, TooLong, ScriptRefused, SourceRefused, InputRefused, LineRefused}
 
@@ -62,32 +63,22 @@ IsReady (Assemble words) files = CanAssemble words files
 IsReady (Debug words) files = CanDebug words files
 IsReady (Rollback words) files = CanRoll words files
 
--- why a run from a start ends, once it has begun
-abbrev pub RunCause : Start → Run → DepotState → DepotState → CommandOutcome → Type 0
-RunCause start run old new (Done from frames accesses halted) = RunsWell start run.cycles from frames accesses halted
-RunCause start run old new command_outcome = IsUnwritten run old new command_outcome
-
--- the outputs hold what the run from a start made below a cycle
-abbrev pub HoldsUntil : Start → Run → Files → Files → ℕ → Type 0
-HoldsUntil start run old new at = Holds run old new (pieces_until start run.cycles at)
-
--- what the files hold once the run from a start has ended
-abbrev pub RunLeaves : Start → Run → Files → Files → CommandOutcome → Type 0
-RunLeaves start run old new (Done from frames accesses halted) = Holds run old new (pieces_of start run.cycles)
-RunLeaves start run old new (WriteFault which) = LeavesParts run old new (pieces_of start run.cycles)
-RunLeaves start run old new Memory = LeavesParts run old new nothing
-RunLeaves start run old new command_outcome = new ≡ old
+-- what a run results in, as the outcome of its command
+abbrev pub of_run : RunOutcome → CommandOutcome
+of_run (run_outcome.Done from frames accesses halted) = Done from frames accesses halted
+of_run (run_outcome.WriteFault which) = WriteFault which
+of_run run_outcome.Memory = Memory
 
 -- A RUN THAT BEGAN, from one start: why it ended, what is promised of it where it ended well, and what its outputs
 -- hold then
-pub record RunsFrom (run : Run) (old new : DepotState) (command_outcome : CommandOutcome) : Type 0 where
+pub record RunsFrom (run : Run) (old new : DepotState) (outcome : RunOutcome) : Type 0 where
   pub start : Start
   pub begins : Begins run old.files start
   -- with no other does it begin: its files spell one recording alone, and keep one machine alone
   pub alone : (other : Start) → Begins run old.files other → other ≡ start
   pub above : start.at < run.cycles
-  pub cause : RunCause start run old new command_outcome
-  pub files : RunLeaves start run old.files new.files command_outcome
+  pub cause : RunCause start run old new outcome
+  pub files : RunLeaves start run old.files new.files outcome
 
 -- Why each may come. What a file holds is spoken of where the depot's contents are observable. Each cause says that
 -- none of the earlier ones holds.
@@ -106,9 +97,9 @@ RunEnds observable run old new (Behind from) =
     × (observable → (start : Start) × Begins run old.files start × (from ≡ start.at))
 RunEnds observable run old new (Done from frames accesses halted) =
     IsEnd run.cycles × MayBeginAt run from
-    × (observable → RunsFrom run old new (Done from frames accesses halted))
+    × (observable → RunsFrom run old new (run_outcome.Done from frames accesses halted))
 RunEnds observable run old new (WriteFault which) =
-    IsEnd run.cycles × (observable → RunsFrom run old new (WriteFault which)) × IsUnwritten run old new (WriteFault which)
+    IsEnd run.cycles × (observable → RunsFrom run old new (run_outcome.WriteFault which)) × IsUnwritten run old new (run_outcome.WriteFault which)
 RunEnds observable run old new (ReadFault State) = (run.cycles ≤ last_cycle) × LoadCause observable run old new (ReadFault State)
 RunEnds observable run old new (TooLong State) = (run.cycles ≤ last_cycle) × LoadCause observable run old new (TooLong State)
 RunEnds observable run old new (StateInvalid place) = (run.cycles ≤ last_cycle) × LoadCause observable run old new (StateInvalid place)

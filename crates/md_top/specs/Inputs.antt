@@ -11,7 +11,7 @@ use Rattle.md_args.specs.declared.files.Input.{Input}
 use Rattle.md_args.specs.declared.files.Input.TheVariants.{First, Recording}
 use Rattle.md_top.specs.declared.command_outcome.CommandOutcome.{CommandOutcome}
 use Rattle.md_top.specs.declared.command_outcome.CommandOutcome.TheVariants.{ReadFault, Short, NoMark, RecordingInvalid, Memory, TooLong}
-use Rattle.md_top.specs.declared.inputs.Inputs.{Inputs}
+use Rattle.run_command.specs.declared.inputs.Inputs.{Inputs}
 
 -- Why each outcome may come. What a file holds is spoken of where the depot's contents are observable. Each cause says
 -- that none of the earlier ones holds.

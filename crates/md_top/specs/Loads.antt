@@ -7,10 +7,10 @@ use Rattle.state_laws.specs.Verdicts.{IsStateVerdict, Keeps, OfOther, StateVerdi
 use Rattle.md_args.specs.Words.{Run}
 use Rattle.md_args.specs.declared.files.Input.TheVariants.{State}
 use Rattle.md_top.specs.Inputs.{AreInputs, IsTooLong, IsUnread, Spelled, Verdict, cart_of}
-use Rattle.md_top.specs.Runs.{powered_on}
+use Rattle.run_command.specs.Runs.{powered_on}
 use Rattle.md_top.specs.declared.command_outcome.CommandOutcome.{CommandOutcome}
 use Rattle.md_top.specs.declared.command_outcome.CommandOutcome.TheVariants.{ReadFault, StateInvalid, OtherCart, Memory, TooLong}
-use Rattle.md_top.specs.declared.inputs.Inputs.{Inputs}
+use Rattle.run_command.specs.declared.inputs.Inputs.{Inputs}
 
 -- the greatest length of a saved state's file
 abbrev pub state_limit : ℕ

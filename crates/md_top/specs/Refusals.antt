@@ -15,15 +15,15 @@ use Rattle.md_args.specs.declared.files.Input.TheVariants.{First, Recording, Scr
 use Rattle.md_top.specs.Assemblies.{asm_command_outcome}
 use Rattle.md_top.specs.Conversions.{convert_command_outcome}
 use Rattle.md_top.specs.Debuggings.{Scripted, played_outcome, script_limit}
-use Rattle.md_top.specs.Demos.{demo_start, summary_from}
+use Rattle.run_command.specs.Demos.{demo_start, summary_from}
 use Rattle.md_top.specs.Inputs.{Spelled, Verdict, Unspelled, cart_limit, cart_of, recording_limit, refusal_of}
 use Rattle.md_word.specs.Clock.{last_cycle}
 use Rattle.md_top.specs.Loads.{state_limit}
 use Rattle.md_top.specs.Rollings.{completion_outcome, inputs_limit}
-use Rattle.md_top.specs.Runs.{entries_from, halted_from, media_from, powered_on}
+use Rattle.run_command.specs.Runs.{entries_from, halted_from, media_from, powered_on}
 use Rattle.md_top.specs.declared.command_outcome.CommandOutcome.{CommandOutcome}
 use Rattle.md_top.specs.declared.command_outcome.CommandOutcome.TheVariants.{Shown, Done, DemoDone, Usage, ReadFault, RecordingInvalid, StateInvalid, OtherCart, Behind, TooFar, TooLong}
-use Rattle.md_top.specs.declared.inputs.Inputs.{Inputs}
+use Rattle.run_command.specs.declared.inputs.Inputs.{Inputs}
 
 -- after the file of an input: it could not be read, it is longer than its limit, or its bytes have an outcome
 abbrev pub read_command_outcome : Input → ℕ → Option (List ℕ) → (List ℕ → CommandOutcome) → CommandOutcome

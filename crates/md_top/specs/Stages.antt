@@ -4,15 +4,15 @@ use Rattle.md_outer.specs.Outside.{DepotState, Files, GoesOn, SinkState}
 use Rattle.md_args.specs.Shown.{shown_command, shown_demo, shown_run}
 use Rattle.md_args.specs.Words.{Command, Demo, Run, RunCart, RunDemo}
 use Rattle.md_top.specs.Answers.{Answers, Causes, Shows}
-use Rattle.md_top.specs.Courses.{IsAtStart, cycle_of, start_in}
-use Rattle.md_top.specs.Demos.{demo_start}
+use Rattle.run_command.specs.Courses.{IsAtStart, cycle_of, start_in}
+use Rattle.run_command.specs.Demos.{demo_start}
 use Rattle.md_top.specs.CommandOutcomes.{HasCause, LeavesFiles}
-use Rattle.md_top.specs.Limits.{IsEnd}
+use Rattle.run_command.specs.Limits.{IsEnd}
 use Rattle.md_top.specs.Loads.{Begins, MayBeginAt}
-use Rattle.md_top.specs.Outputs.{AreBegun, Holds, LeavesParts, nothing}
-use Rattle.md_top.specs.Saves.{CanSave}
+use Rattle.run_command.specs.Outputs.{AreBegun, Holds, LeavesParts, nothing}
+use Rattle.run_command.specs.Saves.{CanSave}
 use Rattle.md_top.specs.declared.begun_run.BegunRun.{BegunRun}
-use Rattle.md_top.specs.declared.course.Course.{Course}
+use Rattle.run_command.specs.declared.course.Course.{Course}
 use Rattle.md_top.specs.declared.prepared.Prepared.{Prepared}
 use Rattle.md_top.specs.declared.prepared.Stage.{Stage}
 use Rattle.md_top.specs.declared.prepared.Stage.TheVariants as stage

@@ -5,10 +5,10 @@ use Rattle.md_args.specs.Files.{input_of, output_of}
 use Rattle.md_args.specs.Words.{Command, end_of}
 use Rattle.md_top.specs.Assemblies.{source_line}
 use Rattle.md_top.specs.Conversions.{fault_line}
-use Rattle.md_top.specs.Counts.{pairs_between}
+use Rattle.run_command.specs.Counts.{pairs_between}
 use Rattle.md_top.specs.Debuggings.{script_line}
 use Rattle.md_top.specs.Rollings.{inputs_line, rolled_lines}
-use Rattle.md_top.specs.declared.digests.Digests.{Digests}
+use Rattle.run_command.specs.declared.digests.Digests.{Digests}
 use Rattle.md_top.specs.declared.command_outcome.CommandOutcome.{CommandOutcome}
 use Rattle.md_top.specs.declared.command_outcome.CommandOutcome.TheVariants.{Behind, Converted, DemoDone, Done, InputRefused, LineRefused, Memory, NoMark, OtherCart, Played, ReadFault, RecordingInvalid, ReplyFault, RolledBack, ScriptMemory, ScriptRefused, Short, Shown, SourceRefused, StateInvalid, TooFar, TooLong, WriteFault}
 

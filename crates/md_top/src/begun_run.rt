@@ -1,6 +1,4 @@
-use crate::course::Course;
-use crate::outputs::Outputs;
-use crate::state_buffers::StateBuffers;
+use run_command::{Course, Outputs, StateBuffers};
 
 /// A run before its first segment. Its outputs are begun, and all memory that it needs is taken.
 #[derive(Drop)]

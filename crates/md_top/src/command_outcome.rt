@@ -1,12 +1,12 @@
 ghost use Rattle.std.specs.Prelude.{◌≡◌};
-ghost use Rattle.md_top.specs.CommandOutcomes.{status_of};
+ghost use Rattle.md_top.specs.CommandOutcomes.{of_run, status_of};
 
-use crate::summary::Summary;
 use crate::text::Text;
 use md_args::{Input, Output};
 use md_debug::DebugFault;
 use md_rollback::{LineFault, Rolled};
 use md_vgm::VgmFault;
+use run_command::{RunOutcome, Summary};
 
 /// What a command line results in.
 #[derive(Drop)]
@@ -84,6 +84,27 @@ pub(crate) enum CommandOutcome {
 }
 
 impl CommandOutcome {
+    /// What a run results in, as an outcome.
+    pub(crate) fn of_run(outcome: RunOutcome) -> CommandOutcome
+        ensures { result ≡ of_run outcome }
+    {
+        match outcome {
+            RunOutcome::Done {
+                from,
+                frames,
+                accesses,
+                halted,
+            } => CommandOutcome::Done {
+                from,
+                frames,
+                accesses,
+                halted,
+            },
+            RunOutcome::WriteFault(which) => CommandOutcome::WriteFault(which),
+            RunOutcome::Memory => CommandOutcome::Memory,
+        }
+    }
+
     /// The status that the program ends with, where the output could be put.
     pub(crate) fn status(&self) -> u8
         ensures { result ≡ status_of self.now }

@@ -1,26 +1,24 @@
 ghost use Rattle.std.specs.Prelude.{◌≢◌, ℕ, ◌≤◌, Option, Some};
 ghost use Rattle.md_outer.specs.Outside.{DepotState, SinkState};
 ghost use Rattle.md_top.specs.Answers.{Answers, Causes, Reports};
-ghost use Rattle.md_top.specs.Courses.{start_in};
-ghost use Rattle.md_top.specs.Demos.{IsSummary};
+ghost use Rattle.run_command.specs.Courses.{start_in};
+ghost use Rattle.run_command.specs.Demos.{IsSummary};
 ghost use Rattle.md_top.specs.Stages.{IsAboutToRun, IsAboutToRunDemo, IsAnswered, IsPrepared, IsRunning, Runs, Stands, WasPrepared};
-ghost use Rattle.md_top.specs.Workers.{CanGoOn, WentOn};
+ghost use Rattle.run_command.specs.Workers.{CanGoOn, WentOn};
 ghost use Rattle.md_top.specs.declared.command_outcome.CommandOutcome.TheVariants.{DemoDone};
-ghost use Rattle.md_top.specs.declared.summary.Summary.{Summary};
+ghost use Rattle.run_command.specs.declared.summary.Summary.{Summary};
 ghost use Rattle.md_args.specs.Shown.{shown_demo, shown_run};
 ghost use Rattle.md_args.specs.Words.{Command, RunCart, RunDemo};
 
 use crate::begun_run::BegunRun;
 use crate::command_outcome::CommandOutcome;
-use crate::course::Course;
-use crate::demo::sum_up;
 use crate::laws::runs_begin_once;
 use crate::prepared::{Prepared, Stage};
 use crate::report::{refuse, report};
-use crate::run_on::write_all;
 use md_args::{CommandWords, DemoWords, RunWords};
 use md_machine::Machine;
 use md_outer::{Depot, Gate, Sink};
+use run_command::{Course, sum_up, write_all};
 use std::sync::Wait;
 use std::thread::Threads;
 
@@ -129,7 +127,8 @@ fn finish_run<F: Fn(&mut Machine, u64), D: Depot, S: Sink>(
         buffers,
     } = begun;
     runs_begin_once();
-    let command_outcome = write_all(go_on, run, &outputs, depot, course, buffers);
+    let outcome = write_all(go_on, run, &outputs, depot, course, buffers);
+    let command_outcome = CommandOutcome::of_run(outcome);
     report(&CommandWords::Run(*run), command_outcome, out)
 }
 

@@ -1,25 +1,20 @@
 ghost use Rattle.std.specs.Prelude.{◌≡◌, All, Some, None, IfOk, IfErr};
-ghost use Rattle.std.specs.Arc.{arc_value};
 ghost use Rattle.std.specs.Option.{option_copied};
 ghost use Rattle.md_outer.specs.Outside.{GoesOn};
 ghost use Rattle.md_pads.specs.Recording.{IsFrame};
-ghost use Rattle.md_top.specs.Courses.{IsFresh, start_at};
+ghost use Rattle.run_command.specs.Courses.{IsFresh, start_at};
 ghost use Rattle.md_top.specs.Loads.{BeginsWith, IsFound, IsRefused, StateCause};
 ghost use Rattle.state_laws.specs.Verdicts.{Keeps};
-ghost use Rattle.md_top.specs.Runs.{powered_on};
 
 use crate::command_outcome::CommandOutcome;
-use crate::inputs::Inputs;
 use machine_laws::saved;
 use md_args::Input;
-use md_machine::{Machine, laws};
+use md_machine::Machine;
 use md_outer::{Depot, Fetch};
-use md_pads::Recording;
 use md_word::NoMemory;
-use rom_header::Cart;
+use run_command::{Inputs, power_on, shared};
 use save_state::{StateFault, read};
 use std::alloc::Global;
-use std::sync::Arc;
 
 /// The greatest length of a saved state's file.
 const LONGEST_STATE: u64 = 2_097_152;
@@ -94,26 +89,4 @@ fn kept_machine(alloc: Global, bytes: &[u8], inputs: Inputs) -> Result<Machine, 
         }),
         Err(StateFault::NoMemory) => Err(CommandOutcome::Memory),
     }
-}
-
-/// The machine of these inputs at power-on.
-pub(crate) fn power_on(alloc: Global, inputs: Inputs) -> Result<Machine, NoMemory>
-    requires { All IsFrame inputs.recording.frames }
-    ensures start { IfOk result (λ machine. start_at machine ≡ powered_on inputs) }
-    ensures fresh { IfOk result IsFresh }
-{
-    laws::power_on_is_start();
-    saved::power_on_is_reached(&inputs.cart);
-    let pal = inputs.pal;
-    let (cart, recording) = shared(alloc, inputs)?;
-    Machine::power_on(alloc, cart, recording, pal)
-}
-
-/// The inputs, each to be held by several owners.
-fn shared(alloc: Global, inputs: Inputs) -> Result<(Arc<Cart>, Arc<Recording>), NoMemory>
-    ensures { IfOk result (λ both. record { cart = arc_value both.0; recording = arc_value both.1; pal = inputs.pal } ≡ inputs) }
-{
-    let cart = Arc::new(alloc, inputs.cart)?;
-    let recording = Arc::new(alloc, inputs.recording)?;
-    Ok((cart, recording))
 }

@@ -3,8 +3,8 @@ ghost use Rattle.md_top.specs.Stages.{workers_of};
 
 use crate::begun_run::BegunRun;
 use crate::command_outcome::CommandOutcome;
-use crate::course::Course;
 use md_args::{CommandWords, DemoWords, RunWords};
+use run_command::Course;
 
 /// A command line up to the first segment of its run: what it came to, or a run that is about to begin.
 #[derive(Drop)]

@@ -1,7 +1,7 @@
 ghost use Rattle.std.specs.Prelude.{◌≡◌, Some, IfOk, IfErr, map, string_bytes};
 ghost use Rattle.md_outer.specs.Outside.{GoesOn};
 ghost use Rattle.md_top.specs.CommandOutcomes.{InfoEnds, RunEnds, RunFiles};
-ghost use Rattle.md_top.specs.Outputs.{LeavesParts, nothing};
+ghost use Rattle.run_command.specs.Outputs.{LeavesParts, nothing};
 ghost use Rattle.md_top.specs.Stages.{HasStart, IsAboutToRun, IsPrepared, LeavesBegun, Stands};
 ghost use Rattle.md_args.specs.Shown.{shown_command, shown_run};
 ghost use Rattle.md_args.specs.Commands.{command_of};
@@ -10,22 +10,19 @@ use crate::assembling::assemble_source;
 use crate::begun_run::BegunRun;
 use crate::command_outcome::CommandOutcome;
 use crate::converting::convert_file;
-use crate::course::Course;
 use crate::debugging::debug_cart;
 use crate::demo::begin_demo;
 use crate::laws::runs_begin_once;
 use crate::loading::first_machine;
-use crate::output::begin_all;
 use crate::prepared::{Prepared, Stage};
 use crate::reading::{read_cart, read_inputs};
 use crate::rolling::roll_cart;
-use crate::saving::make_buffers;
-use crate::segment::begin;
 use crate::text::Text;
 use md_args::{CommandWords, RunWords, read_words};
 use md_outer::{Depot, Sink};
 use md_word::NoMemory;
 use md_word::clock::LAST_CYCLE;
+use run_command::{Course, begin, begin_all, make_buffers};
 use std::alloc::Global;
 
 /// Does what the words of the command line ask for, up to the first segment of a run, and takes all memory for it.
@@ -128,7 +125,7 @@ fn begin_run<D: Depot>(
             course,
             buffers,
         }),
-        Err(command_outcome) => Err(command_outcome),
+        Err(outcome) => Err(CommandOutcome::of_run(outcome)),
     }
 }
 

@@ -6,11 +6,11 @@ ghost use Rattle.md_top.specs.Inputs.{AreInputs, CartCause, InputCause, IsAccept
 ghost use Rattle.md_args.specs.Shown.{shown_run};
 
 use crate::command_outcome::CommandOutcome;
-use crate::inputs::Inputs;
 use md_args::{Input, RunWords};
 use md_outer::{Depot, Fetch};
 use md_pads::{RecFault, Recording};
 use rom_header::{Cart, CartFault, GREATEST};
+use run_command::Inputs;
 use std::alloc::Global;
 
 /// The greatest length of a recording's file: its head of 14 bytes, and 1,048,576 frames.

@@ -14,11 +14,11 @@ use crate::debugging::put_script_line;
 use crate::put::{put_three, put_two};
 use crate::report_demo::put_summary;
 use crate::rolling::{put_inputs_line, put_rolled};
-use crate::run_on::pairs_between;
 use hex::encode_to_slice;
 use itoa::Buffer;
 use md_args::CommandWords;
 use md_outer::{Failed, Sink};
+use run_command::pairs_between;
 
 /// Puts what a command results in, and answers its status.
 pub(crate) fn report<S: Sink>(

@@ -2,11 +2,10 @@ ghost use Rattle.std.specs.Prelude.{◌++◌, codes};
 ghost use Rattle.md_outer.specs.Outside.{PutsText};
 ghost use Rattle.md_top.specs.Texts.{digest_line, digest_lines, lines_of};
 
-use crate::digests::Digests;
 use crate::put::put_three;
 use crate::report::{hexadecimal, put_lines};
-use crate::summary::Summary;
 use md_outer::{Failed, Sink};
+use run_command::{Digests, Summary};
 
 /// Puts the lines of a run of a demonstration cartridge that ends well.
 pub(crate) fn put_summary<S: Sink>(out: &mut S, end: u64, summary: &Summary) -> Result<(), Failed>

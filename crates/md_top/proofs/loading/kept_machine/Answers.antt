@@ -2,10 +2,10 @@ use Rattle.std.proofs.Common.{ap, refl, subst, sym, ◌∙◌}
 use Rattle.std.specs.Prelude.{All}
 use Rattle.std.specs.Arc.{arc_value}
 use Rattle.md_pads.specs.Recording.{IsFrame, Recorded}
-use Rattle.md_top.specs.Courses.{start_at}
+use Rattle.run_command.specs.Courses.{start_at}
 use Rattle.md_top.specs.Loads.{IsFound}
 use Rattle.state_laws.specs.Verdicts.{Keeps, OfOther, StateInvalidAt}
-use Rattle.md_top.specs.declared.inputs.Inputs.{Inputs}
+use Rattle.run_command.specs.declared.inputs.Inputs.{Inputs}
 use Rattle.md_top.proofs.loading.kept_machine.Goals as goal
 
 pub returns-in-Ok-read-clause-found : goal.returns-in-Ok-read-clause-found

@@ -1,7 +1,7 @@
 use Rattle.std.proofs.Common.{◌≤◌, List, ℕ, Some, length, subst}
 use Rattle.std.proofs.lemmas.Result.{IfErr-weaker, IfOk-weaker}
 use Rattle.md_outer.specs.Outside.{DepotState}
-use Rattle.md_top.specs.Courses.{start_at}
+use Rattle.run_command.specs.Courses.{start_at}
 use Rattle.md_top.specs.Loads.{IsFound, IsFoundIn, IsRefused, StateCause, state_limit}
 use Rattle.state_laws.specs.Verdicts.{Keeps}
 use Rattle.md_top.proofs.Fetched.{held}

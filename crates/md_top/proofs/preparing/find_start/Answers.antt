@@ -1,7 +1,7 @@
 use Rattle.std.proofs.Common.{◌∙◌, ap, sym, subst, arith}
 use Rattle.md_outer.specs.Outside.{Files}
 use Rattle.md_chips.specs.Starts.{Start}
-use Rattle.md_top.specs.Courses.{start_at}
+use Rattle.run_command.specs.Courses.{start_at}
 use Rattle.md_top.specs.Loads.{Begins, BeginsWith, LoadCause}
 use Rattle.md_args.specs.Shown.{shown_run}
 use Rattle.md_top.proofs.Ends.{load-ends}

@@ -1,5 +1,5 @@
 use Rattle.std.specs.Prelude.{◌++◌, codes}
-use Rattle.md_top.specs.Counts.{pairs_between}
+use Rattle.run_command.specs.Counts.{pairs_between}
 use Rattle.md_top.specs.Texts.{number_line, numbers_line}
 use Rattle.md_top.proofs.Puts.{puts_on, puts_stop}
 use Rattle.md_top.proofs.report.put_counts.Goals as goal

@@ -1,7 +1,0 @@
-use Rattle.std.proofs.Common.{arith}
-use Rattle.md_top.specs.Courses.{start_at}
-use Rattle.md_top.proofs.LeastRuns.{run-complete}
-use Rattle.md_top.proofs.laws.run_is_complete.Goals as goal
-
-pub returns : goal.returns
-returns c = run-complete (start_at c.args.machine.now) c.args.end c.runs_keep_laws.ensures (omega (arith, c.requires))

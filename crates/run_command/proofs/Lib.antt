@@ -1,0 +1,11 @@
+pub mod Appends
+pub mod Counts
+pub mod Ends
+pub mod Heard
+pub mod Least
+pub mod LeastRuns
+pub mod Named
+pub mod Rests
+pub mod Segments
+pub mod Summaries
+pub mod Writes

@@ -1,0 +1,12 @@
+pub mod Counts
+pub mod Courses
+pub mod Demos
+pub mod Heard
+pub mod Least
+pub mod Limits
+pub mod Outputs
+pub mod Resuming
+pub mod RunOutcomes
+pub mod Runs
+pub mod Saves
+pub mod Workers
