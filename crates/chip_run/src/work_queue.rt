@@ -200,11 +200,6 @@ impl<C: ChipSet, N: Named, L0: Ledger, L1: Ledger, L2: Ledger, L3: Ledger, L4: L
         self.close(rt);
     }
 
-    /// How many helpers are done with this queue.
-    pub(crate) fn left(&self) -> &AtomicU64 {
-        &self.left
-    }
-
     /// A helper is done with this queue.
     pub(crate) fn leave(&self) {
         self.left.fetch_add(1, Ordering::SeqCst);

@@ -8,103 +8,117 @@ use chip_core::ChipSet;
 use md_outer::Gate;
 use std::mem::replace;
 use std::sync::Wait;
-use std::sync::atomic::{AtomicU64, Ordering};
 use std::sync::ledger::Ledger;
 use std::thread;
 use std::thread::{Scope, Threads};
 
-/// Starts a thread that calls `help` with this number of a helper. A helper that the system refuses a thread counts as
-/// one that has left.
-fn start<'s, E, F: Fn(u8) + Sync>(
+/// Starts a thread for the helper of this number.
+fn start<
+    's,
+    E,
+    C: ChipSet,
+    N: Named,
+    L0: Ledger + Send + Sync,
+    L1: Ledger + Send + Sync,
+    L2: Ledger + Send + Sync,
+    L3: Ledger + Send + Sync,
+    L4: Ledger + Send + Sync,
+    R: Threads + Wait + Sync,
+    G: Gate,
+>(
     scope: &'s Scope<'s, E>,
-    help: &'s F,
-    left: &'s AtomicU64,
+    rt: &'s R,
+    bus: &'s Bus<C, N, L0, L1, L2, L3, L4>,
+    work_queue: &'s WorkQueue<C, N, L0, L1, L2, L3, L4>,
+    gate: &'s G,
     worker: u8,
 )
-    requires { F.IsAlwaysCallable help.now }
+    requires { (L0.parts ≡ 1) × (L1.parts ≡ 1) × (L2.parts ≡ 1) × (L3.parts ≡ 1) × (L4.parts ≡ 1) }
 {
     let job = move || -> ()
-        requires { F.IsAlwaysCallable help.now }
+        requires { (L0.parts ≡ 1) × (L1.parts ≡ 1) × (L2.parts ≡ 1) × (L3.parts ≡ 1) × (L4.parts ≡ 1) }
     {
-        help(worker);
+        bus.help(rt, work_queue, worker, gate);
     };
     match scope.spawn(job) {
         Ok(child) => drop(child),
         Err(back) => {
             drop(back);
-            left.fetch_add(1, Ordering::SeqCst);
+            work_queue.leave();
         }
     }
 }
 
 /// Starts a thread for each helper below this number.
-fn start_below<'s, E, F: Fn(u8) + Sync>(
+fn start_below<
+    's,
+    E,
+    C: ChipSet,
+    N: Named,
+    L0: Ledger + Send + Sync,
+    L1: Ledger + Send + Sync,
+    L2: Ledger + Send + Sync,
+    L3: Ledger + Send + Sync,
+    L4: Ledger + Send + Sync,
+    R: Threads + Wait + Sync,
+    G: Gate,
+>(
     scope: &'s Scope<'s, E>,
-    help: &'s F,
-    left: &'s AtomicU64,
+    rt: &'s R,
+    bus: &'s Bus<C, N, L0, L1, L2, L3, L4>,
+    work_queue: &'s WorkQueue<C, N, L0, L1, L2, L3, L4>,
+    gate: &'s G,
     last: u8,
 )
-    requires { F.IsAlwaysCallable help.now }
+    requires { (L0.parts ≡ 1) × (L1.parts ≡ 1) × (L2.parts ≡ 1) × (L3.parts ≡ 1) × (L4.parts ≡ 1) }
 {
     for worker in 0..last {
-        start(scope, help, left, worker);
+        start(scope, rt, bus, work_queue, gate, worker);
     }
 }
 
 /// Starts a thread for each helper: that of the greatest number, which starts the others before its own work, so
 /// that whoever calls pays for one start. Where the system refuses that thread, the caller starts the others.
-fn start_all<'s, E, F: Fn(u8) + Sync>(
+fn start_all<
+    's,
+    E,
+    C: ChipSet,
+    N: Named,
+    L0: Ledger + Send + Sync,
+    L1: Ledger + Send + Sync,
+    L2: Ledger + Send + Sync,
+    L3: Ledger + Send + Sync,
+    L4: Ledger + Send + Sync,
+    R: Threads + Wait + Sync,
+    G: Gate,
+>(
     scope: &'s Scope<'s, E>,
-    help: &'s F,
-    left: &'s AtomicU64,
+    rt: &'s R,
+    bus: &'s Bus<C, N, L0, L1, L2, L3, L4>,
+    work_queue: &'s WorkQueue<C, N, L0, L1, L2, L3, L4>,
+    gate: &'s G,
     helpers: u8,
 )
-    requires { F.IsAlwaysCallable help.now }
+    requires { (L0.parts ≡ 1) × (L1.parts ≡ 1) × (L2.parts ≡ 1) × (L3.parts ≡ 1) × (L4.parts ≡ 1) }
 {
     if helpers == 0 {
         return;
     }
     let last = helpers - 1;
     let job = move || -> ()
-        requires { F.IsAlwaysCallable help.now }
+        requires { (L0.parts ≡ 1) × (L1.parts ≡ 1) × (L2.parts ≡ 1) × (L3.parts ≡ 1) × (L4.parts ≡ 1) }
     {
-        start_below(scope, help, left, last);
-        help(last);
+        start_below(scope, rt, bus, work_queue, gate, last);
+        bus.help(rt, work_queue, last, gate);
     };
     match scope.spawn(job) {
         Ok(child) => drop(child),
         Err(back) => {
             drop(back);
-            left.fetch_add(1, Ordering::SeqCst);
-            start_below(scope, help, left, last);
+            work_queue.leave();
+            start_below(scope, rt, bus, work_queue, gate, last);
         }
     }
-}
-
-/// Calls `lead` once a thread has been asked for each helper below this number; answers what `lead` returned, after
-/// all threads have ended.
-fn lead_helpers<R: Threads + Wait, F: Fn(u8) + Sync, T: Drop, L: FnOnce() -> T>(
-    rt: &R,
-    help: &F,
-    left: &AtomicU64,
-    helpers: u8,
-    lead: L,
-) -> T
-    requires help { F.IsAlwaysCallable help.now }
-    requires lead { L.pre lead }
-    ensures { L.post lead result }
-{
-    thread::scope(
-        thread::scope_env(),
-        rt,
-        move |scope| -> T
-            requires { F.IsAlwaysCallable help.now × L.pre lead }
-            ensures { L.post lead result }
-        {
-            start_all(scope, help, left, helpers);
-            lead()
-        },
-    )
 }
 
 /// How many of so many workers help.
@@ -178,19 +192,18 @@ pub fn work<
     let shared_work_queue = &work_queue;
     lay_all(rt, shared_work_queue, helds, helpers);
     let all = replace(helds, Helds::none());
-    let help = move |worker: u8| -> ()
-        requires { (L0.parts ≡ 1) × (L1.parts ≡ 1) × (L2.parts ≡ 1) × (L3.parts ≡ 1) × (L4.parts ≡ 1) }
-    {
-        bus.help(rt, shared_work_queue, worker, gate);
-    };
-    let lead = move || -> Helds<C, N, L0, L1, L2, L3, L4>
-        requires { (L0.parts ≡ 1) × (L1.parts ≡ 1) × (L2.parts ≡ 1) × (L3.parts ≡ 1) × (L4.parts ≡ 1) × AllFree all }
-        ensures { AllFree result × ((i : ℕ) → i < C.rules.count → IsSome (place result i)) }
-    {
-        let mut rest = all;
-        bus.take_all_turns(rt, shared_work_queue, &mut rest, gate, helpers);
-        rest
-    };
-    *helds = lead_helpers(rt, &help, shared_work_queue.left(), helpers, lead);
+    *helds = thread::scope(
+        thread::scope_env(),
+        rt,
+        move |scope| -> Helds<C, N, L0, L1, L2, L3, L4>
+            requires { (L0.parts ≡ 1) × (L1.parts ≡ 1) × (L2.parts ≡ 1) × (L3.parts ≡ 1) × (L4.parts ≡ 1) × AllFree all }
+            ensures { AllFree result × ((i : ℕ) → i < C.rules.count → IsSome (place result i)) }
+        {
+            start_all(scope, rt, bus, shared_work_queue, gate, helpers);
+            let mut rest = all;
+            bus.take_all_turns(rt, shared_work_queue, &mut rest, gate, helpers);
+            rest
+        },
+    );
     bus.serve(rt, helds, gate);
 }
