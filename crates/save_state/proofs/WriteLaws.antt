@@ -1,7 +1,7 @@
 -- What is written is the bytes of the machine.
 use Rattle.std.proofs.Common.{◌≡◌, ℕ, ◌+◌, ◌-◌, ◌≤◌, Bool, true, false, List, [], ◌∷◌, ◌++◌, length, map, take, drop, Option, Some, None, is_some, not, IfSome, if◌then◌else◌, append_assoc, refl, sym, ap, ◌∙◌, arith}
 use Rattle.std.specs.Int.{w64, to_be_bytes}
-use Rattle.std.proofs.lemmas.List.{append-nil, take_at, drop_at, length-append}
+use Rattle.std.proofs.lemmas.List.{append-nil, take_at, drop_at, length-append, length-map}
 use mir.Val.{bool_byte}
 use Rattle.sha2.specs.Sha256.{sha256}
 use Rattle.md_word.specs.Coding.{flag_number}
