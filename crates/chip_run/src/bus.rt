@@ -9,35 +9,22 @@ use crate::work_queue::WorkQueue;
 use crate::{Helds, Locked, Named, Round};
 use chip_core::ChipSet;
 use md_outer::Gate;
-use std::sync::ledger::Ledger;
 use std::sync::{Condvar, Mutex, Wait};
 
 /// The bus lock of a run: what the chips share behind one lock, and where workers wait for it to
 /// change. With it the queue of the chips' speculative jobs, if any chip has some.
 #[derive(Drop)]
-pub struct Bus<C: ChipSet, N: Named, L0: Ledger, L1: Ledger, L2: Ledger, L3: Ledger, L4: Ledger> {
-    lock: Mutex<Locked<C, N, L0, L1, L2, L3, L4>>,
+pub struct Bus<C: ChipSet, N: Named> {
+    lock: Mutex<Locked<C, N>>,
     moved: Condvar,
     end: u64,
     jobs: Option<C::Jobs>,
     ghost ends: { end ≡ N.end },
 }
 
-impl<C: ChipSet, N: Named, L0: Ledger, L1: Ledger, L2: Ledger, L3: Ledger, L4: Ledger> Bus<
-    C,
-    N,
-    L0,
-    L1,
-    L2,
-    L3,
-    L4,
-> {
+impl<C: ChipSet, N: Named> Bus<C, N> {
     /// The bus with this value behind its lock.
-    pub(crate) fn over(
-        locked: Locked<C, N, L0, L1, L2, L3, L4>,
-        end: u64,
-        jobs: Option<C::Jobs>,
-    ) -> Self
+    pub(crate) fn over(locked: Locked<C, N>, end: u64, jobs: Option<C::Jobs>) -> Self
         requires { end ≡ N.end }
     {
         Bus {
@@ -58,9 +45,9 @@ impl<C: ChipSet, N: Named, L0: Ledger, L1: Ledger, L2: Ledger, L3: Ledger, L4: L
     ///
     /// The bounds are read and the wait begins under the same lock, and each change of a bound is
     /// signalled to all who wait: so no change is missed.
-    fn round<R: Wait>(&self, rt: &R, helds: &mut Helds<C, N, L0, L1, L2, L3, L4>) -> Swept
+    fn round<R: Wait>(&self, rt: &R, helds: &mut Helds<C, N>) -> Swept
         requires free { AllFree helds.old }
-        requires whole { (L0.parts ≡ 1) × (L1.parts ≡ 1) × (L2.parts ≡ 1) × (L3.parts ≡ 1) × (L4.parts ≡ 1) }
+        requires whole { (N.L0.parts ≡ 1) × (N.L1.parts ≡ 1) × (N.L2.parts ≡ 1) × (N.L3.parts ≡ 1) × (N.L4.parts ≡ 1) }
         ensures { IsSwept C.rules N.end helds.old result helds.new }
     {
         let mut guard = self.lock.lock(rt);
@@ -82,14 +69,9 @@ impl<C: ChipSet, N: Named, L0: Ledger, L1: Ledger, L2: Ledger, L3: Ledger, L4: L
     ///
     /// It goes by rounds, each with one look under the lock. Before each it passes the gate for
     /// each held chip that is not finished.
-    pub fn wait_turn<R: Wait, G: Gate>(
-        &self,
-        rt: &R,
-        helds: &mut Helds<C, N, L0, L1, L2, L3, L4>,
-        gate: &G,
-    ) -> Round
+    pub fn wait_turn<R: Wait, G: Gate>(&self, rt: &R, helds: &mut Helds<C, N>, gate: &G) -> Round
         requires free { AllFree helds.old }
-        requires whole { (L0.parts ≡ 1) × (L1.parts ≡ 1) × (L2.parts ≡ 1) × (L3.parts ≡ 1) × (L4.parts ≡ 1) }
+        requires whole { (N.L0.parts ≡ 1) × (N.L1.parts ≡ 1) × (N.L2.parts ≡ 1) × (N.L3.parts ≡ 1) × (N.L4.parts ≡ 1) }
         ensures round { IsRound C.rules N.end helds.old result helds.new }
         ensures finished { (result ≡ Round.Finished) ↔ IsEnded C.rules N.end helds.old }
         ensures free { AllFree helds.new }
@@ -115,14 +97,9 @@ impl<C: ChipSet, N: Named, L0: Ledger, L1: Ledger, L2: Ledger, L3: Ledger, L4: L
 
     /// Takes the turns of the held chips under one lock, as far as `lead` does. `reports`: whether it notifies
     /// workers that may wait for a bound to change.
-    fn turns<R: Wait>(
-        &self,
-        rt: &R,
-        helds: &mut Helds<C, N, L0, L1, L2, L3, L4>,
-        reports: bool,
-    ) -> Led
+    fn turns<R: Wait>(&self, rt: &R, helds: &mut Helds<C, N>, reports: bool) -> Led
         requires free { AllFree helds.old }
-        requires whole { (L0.parts ≡ 1) × (L1.parts ≡ 1) × (L2.parts ≡ 1) × (L3.parts ≡ 1) × (L4.parts ≡ 1) }
+        requires whole { (N.L0.parts ≡ 1) × (N.L1.parts ≡ 1) × (N.L2.parts ≡ 1) × (N.L3.parts ≡ 1) × (N.L4.parts ≡ 1) }
         ensures { IsLed result helds.new }
     {
         let mut guard = self.lock.lock(rt);
@@ -138,12 +115,12 @@ impl<C: ChipSet, N: Named, L0: Ledger, L1: Ledger, L2: Ledger, L3: Ledger, L4: L
     fn take_turns<R: Wait, G: Gate>(
         &self,
         rt: &R,
-        work_queue: &WorkQueue<C, N, L0, L1, L2, L3, L4>,
-        helds: &mut Helds<C, N, L0, L1, L2, L3, L4>,
+        work_queue: &WorkQueue<C, N>,
+        helds: &mut Helds<C, N>,
         gate: &G,
     )
         requires free { AllFree helds.old }
-        requires whole { (L0.parts ≡ 1) × (L1.parts ≡ 1) × (L2.parts ≡ 1) × (L3.parts ≡ 1) × (L4.parts ≡ 1) }
+        requires whole { (N.L0.parts ≡ 1) × (N.L1.parts ≡ 1) × (N.L2.parts ≡ 1) × (N.L3.parts ≡ 1) × (N.L4.parts ≡ 1) }
         ensures free { AllFree helds.new }
         ensures held { (i : ℕ) → i < C.rules.count → IsSome (place helds.new i) }
     {
@@ -171,13 +148,13 @@ impl<C: ChipSet, N: Named, L0: Ledger, L1: Ledger, L2: Ledger, L3: Ledger, L4: L
     pub(crate) fn take_all_turns<R: Wait, G: Gate>(
         &self,
         rt: &R,
-        work_queue: &WorkQueue<C, N, L0, L1, L2, L3, L4>,
-        helds: &mut Helds<C, N, L0, L1, L2, L3, L4>,
+        work_queue: &WorkQueue<C, N>,
+        helds: &mut Helds<C, N>,
         gate: &G,
         helpers: u8,
     )
         requires free { AllFree helds.old }
-        requires whole { (L0.parts ≡ 1) × (L1.parts ≡ 1) × (L2.parts ≡ 1) × (L3.parts ≡ 1) × (L4.parts ≡ 1) }
+        requires whole { (N.L0.parts ≡ 1) × (N.L1.parts ≡ 1) × (N.L2.parts ≡ 1) × (N.L3.parts ≡ 1) × (N.L4.parts ≡ 1) }
         ensures free { AllFree helds.new }
         ensures held { (i : ℕ) → i < C.rules.count → IsSome (place helds.new i) }
     {
@@ -191,11 +168,11 @@ impl<C: ChipSet, N: Named, L0: Ledger, L1: Ledger, L2: Ledger, L3: Ledger, L4: L
     pub(crate) fn help<R: Wait, G: Gate>(
         &self,
         rt: &R,
-        work_queue: &WorkQueue<C, N, L0, L1, L2, L3, L4>,
+        work_queue: &WorkQueue<C, N>,
         worker: u8,
         gate: &G,
     )
-        requires { (L0.parts ≡ 1) × (L1.parts ≡ 1) × (L2.parts ≡ 1) × (L3.parts ≡ 1) × (L4.parts ≡ 1) }
+        requires { (N.L0.parts ≡ 1) × (N.L1.parts ≡ 1) × (N.L2.parts ≡ 1) × (N.L3.parts ≡ 1) × (N.L4.parts ≡ 1) }
     {
         self.begin(rt, work_queue, worker, gate);
         work_queue.help(rt, self.jobs());
@@ -203,14 +180,8 @@ impl<C: ChipSet, N: Named, L0: Ledger, L1: Ledger, L2: Ledger, L3: Ledger, L4: L
     }
 
     /// Makes the next event of a worker's chip, with its private work, unless another has taken that chip.
-    fn begin<R: Wait, G: Gate>(
-        &self,
-        rt: &R,
-        work_queue: &WorkQueue<C, N, L0, L1, L2, L3, L4>,
-        worker: u8,
-        gate: &G,
-    )
-        requires whole { (L0.parts ≡ 1) × (L1.parts ≡ 1) × (L2.parts ≡ 1) × (L3.parts ≡ 1) × (L4.parts ≡ 1) }
+    fn begin<R: Wait, G: Gate>(&self, rt: &R, work_queue: &WorkQueue<C, N>, worker: u8, gate: &G)
+        requires whole { (N.L0.parts ≡ 1) × (N.L1.parts ≡ 1) × (N.L2.parts ≡ 1) × (N.L3.parts ≡ 1) × (N.L4.parts ≡ 1) }
     {
         let mut one = Helds::none();
         self.begin_with(rt, work_queue, &mut one, worker, gate);
@@ -220,13 +191,13 @@ impl<C: ChipSet, N: Named, L0: Ledger, L1: Ledger, L2: Ledger, L3: Ledger, L4: L
     fn begin_with<R: Wait, G: Gate>(
         &self,
         rt: &R,
-        work_queue: &WorkQueue<C, N, L0, L1, L2, L3, L4>,
-        one: &mut Helds<C, N, L0, L1, L2, L3, L4>,
+        work_queue: &WorkQueue<C, N>,
+        one: &mut Helds<C, N>,
         worker: u8,
         gate: &G,
     )
         requires free { AllFree one.old }
-        requires whole { (L0.parts ≡ 1) × (L1.parts ≡ 1) × (L2.parts ≡ 1) × (L3.parts ≡ 1) × (L4.parts ≡ 1) }
+        requires whole { (N.L0.parts ≡ 1) × (N.L1.parts ≡ 1) × (N.L2.parts ≡ 1) × (N.L3.parts ≡ 1) × (N.L4.parts ≡ 1) }
     {
         if work_queue.take_waiting(rt, one, worker) {
             self.wait_turn(rt, one, gate);
@@ -235,14 +206,9 @@ impl<C: ChipSet, N: Named, L0: Ledger, L1: Ledger, L2: Ledger, L3: Ledger, L4: L
     }
 
     /// Takes turns until all held chips are finished.
-    pub(crate) fn serve<R: Wait, G: Gate>(
-        &self,
-        rt: &R,
-        helds: &mut Helds<C, N, L0, L1, L2, L3, L4>,
-        gate: &G,
-    )
+    pub(crate) fn serve<R: Wait, G: Gate>(&self, rt: &R, helds: &mut Helds<C, N>, gate: &G)
         requires free { AllFree helds.old }
-        requires whole { (L0.parts ≡ 1) × (L1.parts ≡ 1) × (L2.parts ≡ 1) × (L3.parts ≡ 1) × (L4.parts ≡ 1) }
+        requires whole { (N.L0.parts ≡ 1) × (N.L1.parts ≡ 1) × (N.L2.parts ≡ 1) × (N.L3.parts ≡ 1) × (N.L4.parts ≡ 1) }
         ensures keeps { Keeps helds.old helds.new }
         ensures ended { IsEnded C.rules N.end helds.new }
     {
@@ -256,7 +222,7 @@ impl<C: ChipSet, N: Named, L0: Ledger, L1: Ledger, L2: Ledger, L3: Ledger, L4: L
     }
 
     /// What the lock held.
-    pub(crate) fn into_locked(self) -> Locked<C, N, L0, L1, L2, L3, L4> {
+    pub(crate) fn into_locked(self) -> Locked<C, N> {
         let Bus {
             lock,
             moved: _,

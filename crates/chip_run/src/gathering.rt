@@ -47,14 +47,10 @@ fn put_chip<C: ChipSet, N: Named, L: Ledger>(
 }
 
 /// Counts all moves of the held chip of this number, if it is held, which is finished: a section on it.
-fn book_one<C: ChipSet, N: Named, L0: Ledger, L1: Ledger, L2: Ledger, L3: Ledger, L4: Ledger>(
-    locked: &mut Locked<C, N, L0, L1, L2, L3, L4>,
-    helds: &mut Helds<C, N, L0, L1, L2, L3, L4>,
-    chip: u8,
-)
+fn book_one<C: ChipSet, N: Named>(locked: &mut Locked<C, N>, helds: &mut Helds<C, N>, chip: u8)
     requires free { AllFree helds.old }
     requires ended { IsEndedAt C.rules N.end helds.old chip }
-    requires whole { (L0.parts ≡ 1) × (L1.parts ≡ 1) × (L2.parts ≡ 1) × (L3.parts ≡ 1) × (L4.parts ≡ 1) }
+    requires whole { (N.L0.parts ≡ 1) × (N.L1.parts ≡ 1) × (N.L2.parts ≡ 1) × (N.L3.parts ≡ 1) × (N.L4.parts ≡ 1) }
     ensures same { helds.new ≡ helds.old }
     ensures counts { locked.new.counts ≡ booked_at (place helds.old chip) chip locked.old.counts }
     ensures five { (length locked.old.counts ≡ 5) × (length locked.new.counts ≡ 5) }
@@ -67,13 +63,10 @@ fn book_one<C: ChipSet, N: Named, L0: Ledger, L1: Ledger, L2: Ledger, L3: Ledger
 }
 
 /// Counts all moves of the held chips, which are finished.
-fn book_all<C: ChipSet, N: Named, L0: Ledger, L1: Ledger, L2: Ledger, L3: Ledger, L4: Ledger>(
-    locked: &mut Locked<C, N, L0, L1, L2, L3, L4>,
-    helds: &mut Helds<C, N, L0, L1, L2, L3, L4>,
-)
+fn book_all<C: ChipSet, N: Named>(locked: &mut Locked<C, N>, helds: &mut Helds<C, N>)
     requires free { AllFree helds.old }
     requires ended { IsEnded C.rules N.end helds.old }
-    requires whole { (L0.parts ≡ 1) × (L1.parts ≡ 1) × (L2.parts ≡ 1) × (L3.parts ≡ 1) × (L4.parts ≡ 1) }
+    requires whole { (N.L0.parts ≡ 1) × (N.L1.parts ≡ 1) × (N.L2.parts ≡ 1) × (N.L3.parts ≡ 1) × (N.L4.parts ≡ 1) }
     ensures same { helds.new ≡ helds.old }
     ensures booked { AreBooked locked.new.counts helds.old }
 {
@@ -84,14 +77,11 @@ fn book_all<C: ChipSet, N: Named, L0: Ledger, L1: Ledger, L2: Ledger, L3: Ledger
 
 /// The core after the run, from all its chips once they are finished: all events below the run's
 /// end and no other have been made, and the journal has their accesses and the room that it had.
-pub fn gather<C: ChipSet, N: Named, L0: Ledger, L1: Ledger, L2: Ledger, L3: Ledger, L4: Ledger>(
-    bus: Bus<C, N, L0, L1, L2, L3, L4>,
-    helds: Helds<C, N, L0, L1, L2, L3, L4>,
-) -> Core<C>
+pub fn gather<C: ChipSet, N: Named>(bus: Bus<C, N>, helds: Helds<C, N>) -> Core<C>
     requires held { (i : ℕ) → i < C.rules.count → IsSome (place helds i) }
     requires free { AllFree helds }
     requires ended { IsEnded C.rules N.end helds }
-    requires whole { (L0.parts ≡ 1) × (L1.parts ≡ 1) × (L2.parts ≡ 1) × (L3.parts ≡ 1) × (L4.parts ≡ 1) }
+    requires whole { (N.L0.parts ≡ 1) × (N.L1.parts ≡ 1) × (N.L2.parts ≡ 1) × (N.L3.parts ≡ 1) × (N.L4.parts ≡ 1) }
     ensures run { IsRunTo C.rules (machine_of C.rules (C.core_of N.base)) N.end (machine_of C.rules result) result.journal }
     ensures room { result.room ≡ N.room }
 {

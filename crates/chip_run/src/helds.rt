@@ -16,16 +16,15 @@ use std::sync::ledger::Ledger;
 /// A chip whose work is done is where as many moves of its own as its share counts lead in the
 /// base's run.
 #[derive(Drop)]
-pub struct Helds<C: ChipSet, N: Named, L0: Ledger, L1: Ledger, L2: Ledger, L3: Ledger, L4: Ledger> {
-    pub(crate) place0: Option<Held<C, N, L0>>,
-    pub(crate) place1: Option<Held<C, N, L1>>,
-    pub(crate) place2: Option<Held<C, N, L2>>,
-    pub(crate) place3: Option<Held<C, N, L3>>,
-    pub(crate) place4: Option<Held<C, N, L4>>,
+pub struct Helds<C: ChipSet, N: Named> {
+    pub(crate) place0: Option<Held<C, N, N::L0>>,
+    pub(crate) place1: Option<Held<C, N, N::L1>>,
+    pub(crate) place2: Option<Held<C, N, N::L2>>,
+    pub(crate) place3: Option<Held<C, N, N::L3>>,
+    pub(crate) place4: Option<Held<C, N, N::L4>>,
 }
 
-impl<C: ChipSet, N: Named, L0: Ledger, L1: Ledger, L2: Ledger, L3: Ledger, L4: Ledger> Model
-    for Helds<C, N, L0, L1, L2, L3, L4> {
+impl<C: ChipSet, N: Named> Model for Helds<C, N> {
     ghost Value = { List (Option (HeldValue C.Chip C.Pins)) };
 
     ghost view = { λ h. h.place0 ∷ h.place1 ∷ h.place2 ∷ h.place3 ∷ h.place4 ∷ [] };
@@ -33,15 +32,7 @@ impl<C: ChipSet, N: Named, L0: Ledger, L1: Ledger, L2: Ledger, L3: Ledger, L4: L
     ghost invariant = { λ h. HasNumber 0 h.place0 × HasNumber 1 h.place1 × HasNumber 2 h.place2 × HasNumber 3 h.place3 × HasNumber 4 h.place4 };
 }
 
-impl<C: ChipSet, N: Named, L0: Ledger, L1: Ledger, L2: Ledger, L3: Ledger, L4: Ledger> Helds<
-    C,
-    N,
-    L0,
-    L1,
-    L2,
-    L3,
-    L4,
-> {
+impl<C: ChipSet, N: Named> Helds<C, N> {
     /// No chip.
     pub(crate) fn none() -> Self
         ensures { result ≡ None ∷ None ∷ None ∷ None ∷ None ∷ [] }

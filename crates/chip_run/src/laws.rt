@@ -12,20 +12,19 @@ ghost use Rattle.chip_run.specs.Sections.{HasTurnAt, IsBlockedAt, IsFinishedAt, 
 use crate::sections::section_on;
 use crate::{Helds, Locked, Named, Turn};
 use chip_core::ChipSet;
-use std::sync::ledger::Ledger;
 
 /// What one section of a round does, on a held chip of which no work is due: the chip announces its
 /// next event, and makes it where it has its turn. After `Moved` its private work is due.
 ///
 /// With the due work done, that is the core's announcement of the chip where it is enabled, and then
 /// the chip's own event where that is enabled.
-pub fn section<C: ChipSet, N: Named, L0: Ledger, L1: Ledger, L2: Ledger, L3: Ledger, L4: Ledger>(
-    locked: &mut Locked<C, N, L0, L1, L2, L3, L4>,
-    helds: &mut Helds<C, N, L0, L1, L2, L3, L4>,
+pub fn section<C: ChipSet, N: Named>(
+    locked: &mut Locked<C, N>,
+    helds: &mut Helds<C, N>,
     chip: u8,
 ) -> Turn
     requires held { IsFree helds.old chip }
-    requires whole { (L0.parts ≡ 1) × (L1.parts ≡ 1) × (L2.parts ≡ 1) × (L3.parts ≡ 1) × (L4.parts ≡ 1) }
+    requires whole { (N.L0.parts ≡ 1) × (N.L1.parts ≡ 1) × (N.L2.parts ≡ 1) × (N.L3.parts ≡ 1) × (N.L4.parts ≡ 1) }
     ensures moved { (result ≡ Turn.Moved) ↔ HasTurnAt C.rules chip locked.old helds.old }
     ensures blocked { (other : ℕ) (bound : Key) → result ≡ Turn.Blocked other bound → IsBlockedAt C.rules chip locked.old helds.old other bound }
     ensures finished { (result ≡ Turn.Finished) ↔ IsFinishedAt C.rules chip locked.old helds.old }
@@ -37,9 +36,7 @@ pub fn section<C: ChipSet, N: Named, L0: Ledger, L1: Ledger, L2: Ledger, L3: Led
 
 /// Whenever the lock is free, what lies behind it is, with the chips that the event counts lead to,
 /// a core that stands for the run's base.
-pub fn standing<C: ChipSet, N: Named, L0: Ledger, L1: Ledger, L2: Ledger, L3: Ledger, L4: Ledger>(
-    locked: &Locked<C, N, L0, L1, L2, L3, L4>,
-)
+pub fn standing<C: ChipSet, N: Named>(locked: &Locked<C, N>)
     ensures { IsLocked C.rules C.chip_ok C.shared_ok (C.core_of N.base) N.end locked.now.parts locked.now.counts }
 {
     let _parts = &locked.parts;

@@ -66,14 +66,14 @@ fn turn_place<C: ChipSet, N: Named, L: Ledger>(
 }
 
 /// The turn of the chip of this number, which has the least bound.
-fn turn_on<C: ChipSet, N: Named, L0: Ledger, L1: Ledger, L2: Ledger, L3: Ledger, L4: Ledger>(
-    locked: &mut Locked<C, N, L0, L1, L2, L3, L4>,
-    helds: &mut Helds<C, N, L0, L1, L2, L3, L4>,
+fn turn_on<C: ChipSet, N: Named>(
+    locked: &mut Locked<C, N>,
+    helds: &mut Helds<C, N>,
     chip: u8,
 ) -> Turned
     requires free { AllFree helds.old }
     requires least { IsLeastBound locked.old.parts chip }
-    requires whole { (L0.parts ≡ 1) × (L1.parts ≡ 1) × (L2.parts ≡ 1) × (L3.parts ≡ 1) × (L4.parts ≡ 1) }
+    requires whole { (N.L0.parts ≡ 1) × (N.L1.parts ≡ 1) × (N.L2.parts ≡ 1) × (N.L3.parts ≡ 1) × (N.L4.parts ≡ 1) }
     ensures { IsTurned chip result helds.new }
 {
     match chip {
@@ -89,22 +89,13 @@ fn turn_on<C: ChipSet, N: Named, L0: Ledger, L1: Ledger, L2: Ledger, L3: Ledger,
 /// Takes the turns of the held chips, always that of least bound. It stops once one has made its event whose
 /// private work is worth offloading, where a chip that is not held has the least bound, or where no bound lies
 /// below the run's end.
-pub(crate) fn lead<
-    C: ChipSet,
-    N: Named,
-    L0: Ledger,
-    L1: Ledger,
-    L2: Ledger,
-    L3: Ledger,
-    L4: Ledger,
-    R: Wait,
->(
+pub(crate) fn lead<C: ChipSet, N: Named, R: Wait>(
     rt: &R,
-    locked: &mut Locked<C, N, L0, L1, L2, L3, L4>,
-    helds: &mut Helds<C, N, L0, L1, L2, L3, L4>,
+    locked: &mut Locked<C, N>,
+    helds: &mut Helds<C, N>,
 ) -> Led
     requires free { AllFree helds.old }
-    requires whole { (L0.parts ≡ 1) × (L1.parts ≡ 1) × (L2.parts ≡ 1) × (L3.parts ≡ 1) × (L4.parts ≡ 1) }
+    requires whole { (N.L0.parts ≡ 1) × (N.L1.parts ≡ 1) × (N.L2.parts ≡ 1) × (N.L3.parts ≡ 1) × (N.L4.parts ≡ 1) }
     ensures { IsLed result helds.new }
 {
     for _ in rt.forever() {

@@ -37,7 +37,7 @@ pub use gathering::gather;
 pub use held::{Due, Held};
 pub use helds::Helds;
 pub use locked::Locked;
-pub use named::Named;
+pub use named::{Ledgers, Named, Run, RunName};
 pub use parts::Parts;
 pub use round::Round;
 pub use running::run_core;

@@ -6,33 +6,24 @@ use crate::{Named, Parts};
 use chip_core::{ChipSet, least_of};
 use md_word::Key;
 use std::marker::{Model, PhantomData};
-use std::sync::ledger::{Book, Ledger};
+use std::sync::ledger::Book;
 
 /// The value behind the bus lock: what the chips share, and an event count for each chip of the moves that
 /// it made.
 #[derive(Drop)]
-pub struct Locked<
-    C: ChipSet,
-    N: Named,
-    L0: Ledger,
-    L1: Ledger,
-    L2: Ledger,
-    L3: Ledger,
-    L4: Ledger,
-> {
+pub struct Locked<C: ChipSet, N: Named> {
     pub(crate) parts: Parts<C>,
     // The list that the chips were taken from, with room for all of them.
     pub(crate) emptied: Vec<C::Chip>,
-    pub(crate) book0: Book<L0>,
-    pub(crate) book1: Book<L1>,
-    pub(crate) book2: Book<L2>,
-    pub(crate) book3: Book<L3>,
-    pub(crate) book4: Book<L4>,
+    pub(crate) book0: Book<N::L0>,
+    pub(crate) book1: Book<N::L1>,
+    pub(crate) book2: Book<N::L2>,
+    pub(crate) book3: Book<N::L3>,
+    pub(crate) book4: Book<N::L4>,
     pub(crate) run: PhantomData<N>,
 }
 
-impl<C: ChipSet, N: Named, L0: Ledger, L1: Ledger, L2: Ledger, L3: Ledger, L4: Ledger> Model
-    for Locked<C, N, L0, L1, L2, L3, L4> {
+impl<C: ChipSet, N: Named> Model for Locked<C, N> {
     ghost Value = { LockedValue C.Shared };
 
     ghost view = { λ l. record {
@@ -45,15 +36,7 @@ impl<C: ChipSet, N: Named, L0: Ledger, L1: Ledger, L2: Ledger, L3: Ledger, L4: L
         × (l.emptied.items ≡ []) × (C.rules.count ≤ vec_capacity l.emptied) × (l.parts.room ≡ N.room) };
 }
 
-impl<C: ChipSet, N: Named, L0: Ledger, L1: Ledger, L2: Ledger, L3: Ledger, L4: Ledger> Locked<
-    C,
-    N,
-    L0,
-    L1,
-    L2,
-    L3,
-    L4,
-> {
+impl<C: ChipSet, N: Named> Locked<C, N> {
     /// The cycle that the run goes to.
     pub(crate) fn end(&self) -> u64
         ensures value { result ≡ self.now.parts.end }

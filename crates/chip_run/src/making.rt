@@ -42,33 +42,21 @@ fn hold<C: ChipSet, N: Named, L: Ledger>(
     })
 }
 
-impl<C: ChipSet, N: Named, L0: Ledger, L1: Ledger, L2: Ledger, L3: Ledger, L4: Ledger> Locked<
-    C,
-    N,
-    L0,
-    L1,
-    L2,
-    L3,
-    L4,
-> {
+impl<C: ChipSet, N: Named> Locked<C, N> {
     /// What lies behind the lock at the start of a run of this core to cycle `t`, and all its chips,
     /// of which no work is due.
     ///
     /// The base is the core's list of numbers, and no copy of the core is made.
-    pub fn make(
-        core: Core<C>,
-        t: u64,
-        blanks: Blanks<L0, L1, L2, L3, L4>,
-    ) -> (Self, Helds<C, N, L0, L1, L2, L3, L4>)
+    pub fn make(core: Core<C>, t: u64, blanks: Blanks) -> (Self, Helds<C, N>)
         requires base { C.core_of N.base ≡ record core { room = 0 } }
         requires end { N.end ≡ t }
         requires places { N.room ≡ core.room }
         requires time { t ≤ cycle_limit }
         requires empty { core.journal ≡ [] }
         requires room { all_moves_left C.rules t (machine_of C.rules core) ≤ core.room }
-        requires names { (blanks.l0.name ≡ L0.name) × (blanks.l1.name ≡ L1.name) × (blanks.l2.name ≡ L2.name) × (blanks.l3.name ≡ L3.name) × (blanks.l4.name ≡ L4.name) }
-        requires parts { (blanks.l0.parts ≡ L0.parts) × (blanks.l1.parts ≡ L1.parts) × (blanks.l2.parts ≡ L2.parts) × (blanks.l3.parts ≡ L3.parts) × (blanks.l4.parts ≡ L4.parts) }
-        requires whole { (L0.parts ≡ 1) × (L1.parts ≡ 1) × (L2.parts ≡ 1) × (L3.parts ≡ 1) × (L4.parts ≡ 1) }
+        requires names { (blanks.l0.name ≡ N.L0.name) × (blanks.l1.name ≡ N.L1.name) × (blanks.l2.name ≡ N.L2.name) × (blanks.l3.name ≡ N.L3.name) × (blanks.l4.name ≡ N.L4.name) }
+        requires parts { (blanks.l0.parts ≡ N.L0.parts) × (blanks.l1.parts ≡ N.L1.parts) × (blanks.l2.parts ≡ N.L2.parts) × (blanks.l3.parts ≡ N.L3.parts) × (blanks.l4.parts ≡ N.L4.parts) }
+        requires whole { (N.L0.parts ≡ 1) × (N.L1.parts ≡ 1) × (N.L2.parts ≡ 1) × (N.L3.parts ≡ 1) × (N.L4.parts ≡ 1) }
         ensures parts { result.0.parts ≡ record { end = t; shared = core.shared; bounds = core.bounds; journal = core.journal; room = core.room } }
         ensures counts { result.0.counts ≡ 0 ∷ 0 ∷ 0 ∷ 0 ∷ 0 ∷ [] }
         ensures held { AreFirst C.rules (C.core_of N.base) result.1 }
@@ -76,11 +64,11 @@ impl<C: ChipSet, N: Named, L0: Ledger, L1: Ledger, L2: Ledger, L3: Ledger, L4: L
     {
         let (shared, all, bounds, journal) = core.into_parts();
         let mut chips = all;
-        let (book0, share0) = blanks.l0.open::<L0>();
-        let (book1, share1) = blanks.l1.open::<L1>();
-        let (book2, share2) = blanks.l2.open::<L2>();
-        let (book3, share3) = blanks.l3.open::<L3>();
-        let (book4, share4) = blanks.l4.open::<L4>();
+        let (book0, share0) = blanks.l0.open::<N::L0>();
+        let (book1, share1) = blanks.l1.open::<N::L1>();
+        let (book2, share2) = blanks.l2.open::<N::L2>();
+        let (book3, share3) = blanks.l3.open::<N::L3>();
+        let (book4, share4) = blanks.l4.open::<N::L4>();
         let place4 = hold(&mut chips, share4, 4);
         let place3 = hold(&mut chips, share3, 3);
         let place2 = hold(&mut chips, share2, 2);
@@ -115,32 +103,20 @@ impl<C: ChipSet, N: Named, L0: Ledger, L1: Ledger, L2: Ledger, L3: Ledger, L4: L
     }
 }
 
-impl<C: ChipSet, N: Named, L0: Ledger, L1: Ledger, L2: Ledger, L3: Ledger, L4: Ledger> Bus<
-    C,
-    N,
-    L0,
-    L1,
-    L2,
-    L3,
-    L4,
-> {
+impl<C: ChipSet, N: Named> Bus<C, N> {
     /// The bus of a run of this core to cycle `t`, and all its chips, of which no work is due.
     ///
     /// The base is the core's list of numbers, and no copy of the core is made.
-    pub fn make(
-        core: Core<C>,
-        t: u64,
-        blanks: Blanks<L0, L1, L2, L3, L4>,
-    ) -> (Self, Helds<C, N, L0, L1, L2, L3, L4>)
+    pub fn make(core: Core<C>, t: u64, blanks: Blanks) -> (Self, Helds<C, N>)
         requires base { C.core_of N.base ≡ record core { room = 0 } }
         requires end { N.end ≡ t }
         requires places { N.room ≡ core.room }
         requires time { t ≤ cycle_limit }
         requires empty { core.journal ≡ [] }
         requires room { all_moves_left C.rules t (machine_of C.rules core) ≤ core.room }
-        requires names { (blanks.l0.name ≡ L0.name) × (blanks.l1.name ≡ L1.name) × (blanks.l2.name ≡ L2.name) × (blanks.l3.name ≡ L3.name) × (blanks.l4.name ≡ L4.name) }
-        requires parts { (blanks.l0.parts ≡ L0.parts) × (blanks.l1.parts ≡ L1.parts) × (blanks.l2.parts ≡ L2.parts) × (blanks.l3.parts ≡ L3.parts) × (blanks.l4.parts ≡ L4.parts) }
-        requires whole { (L0.parts ≡ 1) × (L1.parts ≡ 1) × (L2.parts ≡ 1) × (L3.parts ≡ 1) × (L4.parts ≡ 1) }
+        requires names { (blanks.l0.name ≡ N.L0.name) × (blanks.l1.name ≡ N.L1.name) × (blanks.l2.name ≡ N.L2.name) × (blanks.l3.name ≡ N.L3.name) × (blanks.l4.name ≡ N.L4.name) }
+        requires parts { (blanks.l0.parts ≡ N.L0.parts) × (blanks.l1.parts ≡ N.L1.parts) × (blanks.l2.parts ≡ N.L2.parts) × (blanks.l3.parts ≡ N.L3.parts) × (blanks.l4.parts ≡ N.L4.parts) }
+        requires whole { (N.L0.parts ≡ 1) × (N.L1.parts ≡ 1) × (N.L2.parts ≡ 1) × (N.L3.parts ≡ 1) × (N.L4.parts ≡ 1) }
         ensures held { AreFirst C.rules (C.core_of N.base) result.1 }
         ensures free { AllFree result.1 }
     {

@@ -1,10 +1,24 @@
 ghost use Rattle.std.specs.Prelude.{ℕ, List, []};
 
-use std::marker::Brand;
+use std::marker::{Brand, PhantomData};
+use std::sync::ledger::Ledger;
+
+/// The ledgers of a run, in each of which the moves of the chip of one number are counted.
+pub trait Ledgers {
+    type L0: Ledger + Send + Sync;
+
+    type L1: Ledger + Send + Sync;
+
+    type L2: Ledger + Send + Sync;
+
+    type L3: Ledger + Send + Sync;
+
+    type L4: Ledger + Send + Sync;
+}
 
 /// Names a run: the core that it began with, by its list of numbers, the cycle of the master clock
-/// that it goes to, and how many entries the core's journal has room for.
-pub trait Named: Send + Sync {
+/// that it goes to, how many entries the core's journal has room for, and its ledgers.
+pub trait Named: Ledgers + Send + Sync {
     ghost base: { List ℕ };
 
     ghost end: { ℕ };
@@ -12,10 +26,58 @@ pub trait Named: Send + Sync {
     ghost room: { ℕ };
 }
 
-impl Named for Brand {
+/// What names a run but for its ledgers, as [`Named`] has it. Whoever begins a run chooses it.
+pub trait RunName: Send + Sync {
+    ghost base: { List ℕ };
+
+    ghost end: { ℕ };
+
+    ghost room: { ℕ };
+}
+
+impl RunName for Brand {
     ghost base = { [] };
 
     ghost end = { 0 };
 
     ghost room = { 0 };
+}
+
+/// The run of this name with these ledgers.
+pub struct Run<N, L0, L1, L2, L3, L4> {
+    names: PhantomData<(N, L0, L1, L2, L3, L4)>,
+}
+
+impl<
+    N,
+    L0: Ledger + Send + Sync,
+    L1: Ledger + Send + Sync,
+    L2: Ledger + Send + Sync,
+    L3: Ledger + Send + Sync,
+    L4: Ledger + Send + Sync,
+> Ledgers for Run<N, L0, L1, L2, L3, L4> {
+    type L0 = L0;
+
+    type L1 = L1;
+
+    type L2 = L2;
+
+    type L3 = L3;
+
+    type L4 = L4;
+}
+
+impl<
+    N: RunName,
+    L0: Ledger + Send + Sync,
+    L1: Ledger + Send + Sync,
+    L2: Ledger + Send + Sync,
+    L3: Ledger + Send + Sync,
+    L4: Ledger + Send + Sync,
+> Named for Run<N, L0, L1, L2, L3, L4> {
+    ghost base = { N.base };
+
+    ghost end = { N.end };
+
+    ghost room = { N.room };
 }

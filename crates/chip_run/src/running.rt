@@ -4,18 +4,18 @@ ghost use Rattle.chip_core.specs.Cores.{IsCore, machine_of};
 ghost use Rattle.chip_core.specs.Limits.{all_moves_left};
 ghost use Rattle.chip_core.specs.Machines.{IsRunTo};
 
-use crate::{Blanks, Bus, Named, gather, work};
+use crate::{Blanks, Bus, Run, RunName, gather, work};
 use chip_core::{ChipSet, Core, Event};
 use md_outer::Gate;
-use std::marker::{Brand, PhantomData};
+use std::marker::Brand;
 use std::sync::Wait;
-use std::sync::ledger::{Blank, Ledger};
+use std::sync::ledger::Ledger;
 use std::thread::Threads;
 
 /// Runs a core under a name for the run and one for each ledger.
 fn run_named<
     C: ChipSet,
-    N: Named,
+    N: RunName,
     L0: Ledger + Send + Sync,
     L1: Ledger + Send + Sync,
     L2: Ledger + Send + Sync,
@@ -23,14 +23,7 @@ fn run_named<
     L4: Ledger + Send + Sync,
     R: Threads + Wait + Sync,
     G: Gate,
->(
-    rt: &R,
-    core: Core<C>,
-    t: u64,
-    workers: u32,
-    gate: &G,
-    blanks: Blanks<L0, L1, L2, L3, L4>,
-) -> Core<C>
+>(rt: &R, core: Core<C>, t: u64, workers: u32, gate: &G, blanks: Blanks) -> Core<C>
     requires base { C.core_of N.base ≡ record core { room = 0 } }
     requires end { N.end ≡ t }
     requires places { N.room ≡ core.room }
@@ -45,7 +38,7 @@ fn run_named<
     ensures run { IsRunTo C.rules (machine_of C.rules core) t (machine_of C.rules result) result.journal }
     ensures room { result.room ≡ core.room }
 {
-    let (bus, all) = Bus::<C, N, L0, L1, L2, L3, L4>::make(core, t, blanks);
+    let (bus, all) = Bus::<C, Run<N, L0, L1, L2, L3, L4>>::make(core, t, blanks);
     let mut helds = all;
     work(rt, &bus, &mut helds, workers, gate);
     gather(bus, helds)
@@ -72,14 +65,7 @@ pub fn run_core<C: ChipSet, R: Threads + Wait + Sync, G: Gate>(
     ensures core { IsCore C.rules C.chip_ok C.shared_ok result }
 {
     let _known = core.enabled(t, Event::Announce(0));
-    let blanks = Blanks {
-        l0: Blank::new(1),
-        l1: Blank::new(1),
-        l2: Blank::new(1),
-        l3: Blank::new(1),
-        l4: Blank::new(1),
-        names: PhantomData,
-    };
+    let blanks = Blanks::new();
     let after = run_named::<C, Brand, Brand, Brand, Brand, Brand, Brand, R, G>(
         rt, core, t, workers, gate, blanks,
     );

@@ -44,21 +44,13 @@ pub(crate) fn step_held<C: ChipSet, N: Named, L: Ledger>(
 }
 
 /// The work of one section under the lock, on a held chip of which no work is due.
-pub(crate) fn section_on<
-    C: ChipSet,
-    N: Named,
-    L0: Ledger,
-    L1: Ledger,
-    L2: Ledger,
-    L3: Ledger,
-    L4: Ledger,
->(
-    locked: &mut Locked<C, N, L0, L1, L2, L3, L4>,
-    helds: &mut Helds<C, N, L0, L1, L2, L3, L4>,
+pub(crate) fn section_on<C: ChipSet, N: Named>(
+    locked: &mut Locked<C, N>,
+    helds: &mut Helds<C, N>,
     chip: u8,
 ) -> Turn
     requires held { IsFree helds.old chip }
-    requires whole { (L0.parts ≡ 1) × (L1.parts ≡ 1) × (L2.parts ≡ 1) × (L3.parts ≡ 1) × (L4.parts ≡ 1) }
+    requires whole { (N.L0.parts ≡ 1) × (N.L1.parts ≡ 1) × (N.L2.parts ≡ 1) × (N.L3.parts ≡ 1) × (N.L4.parts ≡ 1) }
     ensures { IsSection C.rules chip locked.old helds.old result locked.new helds.new }
 {
     match chip {

@@ -7,7 +7,6 @@ use crate::sections::section_on;
 use crate::{Helds, Locked, Named, Turn};
 use chip_core::ChipSet;
 use md_word::Key;
-use std::sync::ledger::Ledger;
 
 /// The answer of a sweep.
 #[derive(Clone, Copy)]
@@ -54,21 +53,13 @@ fn note(changed: &mut bool, before: Option<Key>, after: Option<Key>)
 }
 
 /// A section, of which the held chips and the bounds alone are seen.
-pub(crate) fn turn_of<
-    C: ChipSet,
-    N: Named,
-    L0: Ledger,
-    L1: Ledger,
-    L2: Ledger,
-    L3: Ledger,
-    L4: Ledger,
->(
-    locked: &mut Locked<C, N, L0, L1, L2, L3, L4>,
-    helds: &mut Helds<C, N, L0, L1, L2, L3, L4>,
+pub(crate) fn turn_of<C: ChipSet, N: Named>(
+    locked: &mut Locked<C, N>,
+    helds: &mut Helds<C, N>,
     chip: u8,
 ) -> Turn
     requires held { IsFree helds.old chip }
-    requires whole { (L0.parts ≡ 1) × (L1.parts ≡ 1) × (L2.parts ≡ 1) × (L3.parts ≡ 1) × (L4.parts ≡ 1) }
+    requires whole { (N.L0.parts ≡ 1) × (N.L1.parts ≡ 1) × (N.L2.parts ≡ 1) × (N.L3.parts ≡ 1) × (N.L4.parts ≡ 1) }
     ensures turn { IsSeenTurn C.rules N.end chip helds.old result helds.new }
     ensures bounds { KeepsOthers chip locked.old.parts.bounds locked.new.parts.bounds }
 {
@@ -77,14 +68,14 @@ pub(crate) fn turn_of<
 }
 
 /// A section, and whether its chip's bound changed.
-fn visit<C: ChipSet, N: Named, L0: Ledger, L1: Ledger, L2: Ledger, L3: Ledger, L4: Ledger>(
-    locked: &mut Locked<C, N, L0, L1, L2, L3, L4>,
-    helds: &mut Helds<C, N, L0, L1, L2, L3, L4>,
+fn visit<C: ChipSet, N: Named>(
+    locked: &mut Locked<C, N>,
+    helds: &mut Helds<C, N>,
     changed: &mut bool,
     chip: u8,
 ) -> Turn
     requires held { IsFree helds.old chip }
-    requires whole { (L0.parts ≡ 1) × (L1.parts ≡ 1) × (L2.parts ≡ 1) × (L3.parts ≡ 1) × (L4.parts ≡ 1) }
+    requires whole { (N.L0.parts ≡ 1) × (N.L1.parts ≡ 1) × (N.L2.parts ≡ 1) × (N.L3.parts ≡ 1) × (N.L4.parts ≡ 1) }
     ensures turn { IsSeenTurn C.rules N.end chip helds.old result helds.new }
     ensures noted { IsNoted chip changed.old locked.old.parts.bounds changed.new locked.new.parts.bounds }
 {
@@ -97,13 +88,13 @@ fn visit<C: ChipSet, N: Named, L0: Ledger, L1: Ledger, L2: Ledger, L3: Ledger, L
 /// Takes sections on all held chips, in the order of their numbers, until one moves.
 ///
 /// `changed` becomes true exactly where a bound changed.
-fn sweep<C: ChipSet, N: Named, L0: Ledger, L1: Ledger, L2: Ledger, L3: Ledger, L4: Ledger>(
-    locked: &mut Locked<C, N, L0, L1, L2, L3, L4>,
-    helds: &mut Helds<C, N, L0, L1, L2, L3, L4>,
+fn sweep<C: ChipSet, N: Named>(
+    locked: &mut Locked<C, N>,
+    helds: &mut Helds<C, N>,
     changed: &mut bool,
 ) -> Swept
     requires free { AllFree helds.old }
-    requires whole { (L0.parts ≡ 1) × (L1.parts ≡ 1) × (L2.parts ≡ 1) × (L3.parts ≡ 1) × (L4.parts ≡ 1) }
+    requires whole { (N.L0.parts ≡ 1) × (N.L1.parts ≡ 1) × (N.L2.parts ≡ 1) × (N.L3.parts ≡ 1) × (N.L4.parts ≡ 1) }
     ensures swept { IsSwept C.rules N.end helds.old result helds.new }
     ensures unchanged { changed.new ≡ false → (changed.old ≡ false) × AreUnchanged locked.old.parts.bounds locked.new.parts.bounds }
     ensures changed { changed.new ≡ true → (changed.old ≡ true) ⊎ IsChanged locked.old.parts.bounds locked.new.parts.bounds }
@@ -131,21 +122,13 @@ fn sweep<C: ChipSet, N: Named, L0: Ledger, L1: Ledger, L2: Ledger, L3: Ledger, L
 }
 
 /// A sweep, and where no chip moved once more, since every chip has then announced its event.
-pub(crate) fn look<
-    C: ChipSet,
-    N: Named,
-    L0: Ledger,
-    L1: Ledger,
-    L2: Ledger,
-    L3: Ledger,
-    L4: Ledger,
->(
-    locked: &mut Locked<C, N, L0, L1, L2, L3, L4>,
-    helds: &mut Helds<C, N, L0, L1, L2, L3, L4>,
+pub(crate) fn look<C: ChipSet, N: Named>(
+    locked: &mut Locked<C, N>,
+    helds: &mut Helds<C, N>,
     changed: &mut bool,
 ) -> Swept
     requires free { AllFree helds.old }
-    requires whole { (L0.parts ≡ 1) × (L1.parts ≡ 1) × (L2.parts ≡ 1) × (L3.parts ≡ 1) × (L4.parts ≡ 1) }
+    requires whole { (N.L0.parts ≡ 1) × (N.L1.parts ≡ 1) × (N.L2.parts ≡ 1) × (N.L3.parts ≡ 1) × (N.L4.parts ≡ 1) }
     ensures swept { IsSwept C.rules N.end helds.old result helds.new }
     ensures unchanged { changed.new ≡ false → (changed.old ≡ false) × AreUnchanged locked.old.parts.bounds locked.new.parts.bounds }
 {

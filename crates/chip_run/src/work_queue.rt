@@ -6,7 +6,6 @@ use crate::work_queue::laid::{Found, Laid};
 use crate::{Helds, Named};
 use chip_core::ChipSet;
 use std::sync::atomic::{AtomicBool, AtomicU64, Ordering};
-use std::sync::ledger::Ledger;
 use std::sync::{Condvar, Mutex, Wait};
 
 mod fetching;
@@ -24,16 +23,8 @@ const STAYING: u64 = 2;
 /// stay, or as many as there are chips whose work is worth offloading. They look for work for a while, and then
 /// sleep. The others leave.
 #[derive(Drop)]
-pub(crate) struct WorkQueue<
-    C: ChipSet,
-    N: Named,
-    L0: Ledger,
-    L1: Ledger,
-    L2: Ledger,
-    L3: Ledger,
-    L4: Ledger,
-> {
-    lock: Mutex<Laid<C, N, L0, L1, L2, L3, L4>>,
+pub(crate) struct WorkQueue<C: ChipSet, N: Named> {
+    lock: Mutex<Laid<C, N>>,
     work: Condvar,
     /// How often something was queued here, wrapping.
     changes: AtomicU64,
@@ -47,15 +38,7 @@ pub(crate) struct WorkQueue<
     left: AtomicU64,
 }
 
-impl<C: ChipSet, N: Named, L0: Ledger, L1: Ledger, L2: Ledger, L3: Ledger, L4: Ledger> WorkQueue<
-    C,
-    N,
-    L0,
-    L1,
-    L2,
-    L3,
-    L4,
-> {
+impl<C: ChipSet, N: Named> WorkQueue<C, N> {
     /// An empty queue, for helpers of so many chips whose work is worth offloading.
     pub(crate) fn new(worth_offloading: u8) -> Self {
         WorkQueue {
@@ -70,12 +53,7 @@ impl<C: ChipSet, N: Named, L0: Ledger, L1: Ledger, L2: Ledger, L3: Ledger, L4: L
     }
 
     /// Queues a chip of which work is due, and wakes a helper where none looks for work.
-    pub(crate) fn lay_due<R: Wait>(
-        &self,
-        rt: &R,
-        helds: &mut Helds<C, N, L0, L1, L2, L3, L4>,
-        chip: u8,
-    )
+    pub(crate) fn lay_due<R: Wait>(&self, rt: &R, helds: &mut Helds<C, N>, chip: u8)
         requires { FreeBut chip helds.old }
         ensures { AllFree helds.new }
     {
@@ -88,7 +66,7 @@ impl<C: ChipSet, N: Named, L0: Ledger, L1: Ledger, L2: Ledger, L3: Ledger, L4: L
     }
 
     /// Queues a chip of which work is due, under the lock, and wakes nobody.
-    fn put_due<R: Wait>(&self, rt: &R, helds: &mut Helds<C, N, L0, L1, L2, L3, L4>, chip: u8)
+    fn put_due<R: Wait>(&self, rt: &R, helds: &mut Helds<C, N>, chip: u8)
         requires { FreeBut chip helds.old }
         ensures { AllFree helds.new }
     {
@@ -98,12 +76,7 @@ impl<C: ChipSet, N: Named, L0: Ledger, L1: Ledger, L2: Ledger, L3: Ledger, L4: L
     }
 
     /// Queues a chip of which none is due.
-    pub(crate) fn lay_done<R: Wait>(
-        &self,
-        rt: &R,
-        helds: &mut Helds<C, N, L0, L1, L2, L3, L4>,
-        chip: u8,
-    )
+    pub(crate) fn lay_done<R: Wait>(&self, rt: &R, helds: &mut Helds<C, N>, chip: u8)
         requires { AllFree helds.old }
         ensures { AllFree helds.new }
     {
@@ -112,7 +85,7 @@ impl<C: ChipSet, N: Named, L0: Ledger, L1: Ledger, L2: Ledger, L3: Ledger, L4: L
     }
 
     /// Queues a chip of which none is due, under the lock, and wakes nobody.
-    fn put_done<R: Wait>(&self, rt: &R, helds: &mut Helds<C, N, L0, L1, L2, L3, L4>, chip: u8)
+    fn put_done<R: Wait>(&self, rt: &R, helds: &mut Helds<C, N>, chip: u8)
         requires { AllFree helds.old }
         ensures { AllFree helds.new }
     {
@@ -122,7 +95,7 @@ impl<C: ChipSet, N: Named, L0: Ledger, L1: Ledger, L2: Ledger, L3: Ledger, L4: L
     }
 
     /// Takes all chips of which no work is due, under the lock; answers whether there were any.
-    fn take_all<R: Wait>(&self, rt: &R, helds: &mut Helds<C, N, L0, L1, L2, L3, L4>) -> bool
+    fn take_all<R: Wait>(&self, rt: &R, helds: &mut Helds<C, N>) -> bool
         requires { AllFree helds.old }
         ensures { AllFree helds.new }
     {
@@ -132,7 +105,7 @@ impl<C: ChipSet, N: Named, L0: Ledger, L1: Ledger, L2: Ledger, L3: Ledger, L4: L
     }
 
     /// Takes the first chip of which work is due, under the lock.
-    fn take_first<R: Wait>(&self, rt: &R, helds: &mut Helds<C, N, L0, L1, L2, L3, L4>) -> Found
+    fn take_first<R: Wait>(&self, rt: &R, helds: &mut Helds<C, N>) -> Found
         requires { AllFree helds.old }
         ensures { IsFoundDue result helds.new }
     {
@@ -142,12 +115,7 @@ impl<C: ChipSet, N: Named, L0: Ledger, L1: Ledger, L2: Ledger, L3: Ledger, L4: L
     }
 
     /// Lays down the chip of a worker that has not begun.
-    pub(crate) fn lay_waiting<R: Wait>(
-        &self,
-        rt: &R,
-        helds: &mut Helds<C, N, L0, L1, L2, L3, L4>,
-        chip: u8,
-    )
+    pub(crate) fn lay_waiting<R: Wait>(&self, rt: &R, helds: &mut Helds<C, N>, chip: u8)
         requires { AllFree helds.old }
         ensures { AllFree helds.new }
     {
@@ -157,12 +125,7 @@ impl<C: ChipSet, N: Named, L0: Ledger, L1: Ledger, L2: Ledger, L3: Ledger, L4: L
     }
 
     /// Takes the chip of this number, if its worker has not begun.
-    pub(crate) fn take_waiting<R: Wait>(
-        &self,
-        rt: &R,
-        helds: &mut Helds<C, N, L0, L1, L2, L3, L4>,
-        chip: u8,
-    ) -> bool
+    pub(crate) fn take_waiting<R: Wait>(&self, rt: &R, helds: &mut Helds<C, N>, chip: u8) -> bool
         requires { AllFree helds.old }
         ensures { AllFree helds.new }
     {
@@ -172,12 +135,7 @@ impl<C: ChipSet, N: Named, L0: Ledger, L1: Ledger, L2: Ledger, L3: Ledger, L4: L
     }
 
     /// Takes the chip of this number, under the lock, if it lies here and work of it is due; answers whether it did.
-    fn take_due<R: Wait>(
-        &self,
-        rt: &R,
-        helds: &mut Helds<C, N, L0, L1, L2, L3, L4>,
-        chip: u8,
-    ) -> bool
+    fn take_due<R: Wait>(&self, rt: &R, helds: &mut Helds<C, N>, chip: u8) -> bool
         requires { AllFree helds.old }
         ensures found { result ≡ true → FreeBut chip helds.new }
         ensures none { result ≡ false → AllFree helds.new }
@@ -188,7 +146,7 @@ impl<C: ChipSet, N: Named, L0: Ledger, L1: Ledger, L2: Ledger, L3: Ledger, L4: L
     }
 
     /// Signals all helpers that no more work comes, where the work of no held chip is worth offloading.
-    pub(crate) fn close_without<R: Wait>(&self, rt: &R, helds: &Helds<C, N, L0, L1, L2, L3, L4>) {
+    pub(crate) fn close_without<R: Wait>(&self, rt: &R, helds: &Helds<C, N>) {
         if helds.worth_offloading() == 0 {
             self.close(rt);
         }

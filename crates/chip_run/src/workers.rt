@@ -8,35 +8,22 @@ use chip_core::ChipSet;
 use md_outer::Gate;
 use std::mem::replace;
 use std::sync::Wait;
-use std::sync::ledger::Ledger;
 use std::thread;
 use std::thread::{Scope, Threads};
 
 /// Starts a thread for the helper of this number.
-fn start<
-    's,
-    E,
-    C: ChipSet,
-    N: Named,
-    L0: Ledger + Send + Sync,
-    L1: Ledger + Send + Sync,
-    L2: Ledger + Send + Sync,
-    L3: Ledger + Send + Sync,
-    L4: Ledger + Send + Sync,
-    R: Threads + Wait + Sync,
-    G: Gate,
->(
+fn start<'s, E, C: ChipSet, N: Named, R: Threads + Wait + Sync, G: Gate>(
     scope: &'s Scope<'s, E>,
     rt: &'s R,
-    bus: &'s Bus<C, N, L0, L1, L2, L3, L4>,
-    work_queue: &'s WorkQueue<C, N, L0, L1, L2, L3, L4>,
+    bus: &'s Bus<C, N>,
+    work_queue: &'s WorkQueue<C, N>,
     gate: &'s G,
     worker: u8,
 )
-    requires { (L0.parts ≡ 1) × (L1.parts ≡ 1) × (L2.parts ≡ 1) × (L3.parts ≡ 1) × (L4.parts ≡ 1) }
+    requires { (N.L0.parts ≡ 1) × (N.L1.parts ≡ 1) × (N.L2.parts ≡ 1) × (N.L3.parts ≡ 1) × (N.L4.parts ≡ 1) }
 {
     let job = move || -> ()
-        requires { (L0.parts ≡ 1) × (L1.parts ≡ 1) × (L2.parts ≡ 1) × (L3.parts ≡ 1) × (L4.parts ≡ 1) }
+        requires { (N.L0.parts ≡ 1) × (N.L1.parts ≡ 1) × (N.L2.parts ≡ 1) × (N.L3.parts ≡ 1) × (N.L4.parts ≡ 1) }
     {
         bus.help(rt, work_queue, worker, gate);
     };
@@ -50,27 +37,15 @@ fn start<
 }
 
 /// Starts a thread for each helper below this number.
-fn start_below<
-    's,
-    E,
-    C: ChipSet,
-    N: Named,
-    L0: Ledger + Send + Sync,
-    L1: Ledger + Send + Sync,
-    L2: Ledger + Send + Sync,
-    L3: Ledger + Send + Sync,
-    L4: Ledger + Send + Sync,
-    R: Threads + Wait + Sync,
-    G: Gate,
->(
+fn start_below<'s, E, C: ChipSet, N: Named, R: Threads + Wait + Sync, G: Gate>(
     scope: &'s Scope<'s, E>,
     rt: &'s R,
-    bus: &'s Bus<C, N, L0, L1, L2, L3, L4>,
-    work_queue: &'s WorkQueue<C, N, L0, L1, L2, L3, L4>,
+    bus: &'s Bus<C, N>,
+    work_queue: &'s WorkQueue<C, N>,
     gate: &'s G,
     last: u8,
 )
-    requires { (L0.parts ≡ 1) × (L1.parts ≡ 1) × (L2.parts ≡ 1) × (L3.parts ≡ 1) × (L4.parts ≡ 1) }
+    requires { (N.L0.parts ≡ 1) × (N.L1.parts ≡ 1) × (N.L2.parts ≡ 1) × (N.L3.parts ≡ 1) × (N.L4.parts ≡ 1) }
 {
     for worker in 0..last {
         start(scope, rt, bus, work_queue, gate, worker);
@@ -79,34 +54,22 @@ fn start_below<
 
 /// Starts a thread for each helper: that of the greatest number, which starts the others before its own work, so
 /// that whoever calls pays for one start. Where the system refuses that thread, the caller starts the others.
-fn start_all<
-    's,
-    E,
-    C: ChipSet,
-    N: Named,
-    L0: Ledger + Send + Sync,
-    L1: Ledger + Send + Sync,
-    L2: Ledger + Send + Sync,
-    L3: Ledger + Send + Sync,
-    L4: Ledger + Send + Sync,
-    R: Threads + Wait + Sync,
-    G: Gate,
->(
+fn start_all<'s, E, C: ChipSet, N: Named, R: Threads + Wait + Sync, G: Gate>(
     scope: &'s Scope<'s, E>,
     rt: &'s R,
-    bus: &'s Bus<C, N, L0, L1, L2, L3, L4>,
-    work_queue: &'s WorkQueue<C, N, L0, L1, L2, L3, L4>,
+    bus: &'s Bus<C, N>,
+    work_queue: &'s WorkQueue<C, N>,
     gate: &'s G,
     helpers: u8,
 )
-    requires { (L0.parts ≡ 1) × (L1.parts ≡ 1) × (L2.parts ≡ 1) × (L3.parts ≡ 1) × (L4.parts ≡ 1) }
+    requires { (N.L0.parts ≡ 1) × (N.L1.parts ≡ 1) × (N.L2.parts ≡ 1) × (N.L3.parts ≡ 1) × (N.L4.parts ≡ 1) }
 {
     if helpers == 0 {
         return;
     }
     let last = helpers - 1;
     let job = move || -> ()
-        requires { (L0.parts ≡ 1) × (L1.parts ≡ 1) × (L2.parts ≡ 1) × (L3.parts ≡ 1) × (L4.parts ≡ 1) }
+        requires { (N.L0.parts ≡ 1) × (N.L1.parts ≡ 1) × (N.L2.parts ≡ 1) × (N.L3.parts ≡ 1) × (N.L4.parts ≡ 1) }
     {
         start_below(scope, rt, bus, work_queue, gate, last);
         bus.help(rt, work_queue, last, gate);
@@ -131,19 +94,10 @@ fn others(workers: u32) -> u8
 }
 
 /// Lays the chips of the helpers below this number in the work queue.
-fn lay_all<
-    C: ChipSet,
-    N: Named,
-    L0: Ledger,
-    L1: Ledger,
-    L2: Ledger,
-    L3: Ledger,
-    L4: Ledger,
-    R: Wait,
->(
+fn lay_all<C: ChipSet, N: Named, R: Wait>(
     rt: &R,
-    work_queue: &WorkQueue<C, N, L0, L1, L2, L3, L4>,
-    helds: &mut Helds<C, N, L0, L1, L2, L3, L4>,
+    work_queue: &WorkQueue<C, N>,
+    helds: &mut Helds<C, N>,
     helpers: u8,
 )
     requires { AllFree helds.old }
@@ -161,20 +115,10 @@ fn lay_all<
 /// taken from the work queue, so that nobody waits for a thread to start. So is that of a thread that the system
 /// refuses. Once a thread has made its chip's next event, the leader takes that chip's turns too. The thread then
 /// helps it with private work that is worth offloading, and runs the speculative jobs that chips queue.
-pub fn work<
-    C: ChipSet,
-    N: Named,
-    L0: Ledger + Send + Sync,
-    L1: Ledger + Send + Sync,
-    L2: Ledger + Send + Sync,
-    L3: Ledger + Send + Sync,
-    L4: Ledger + Send + Sync,
-    R: Threads + Wait + Sync,
-    G: Gate,
->(
+pub fn work<C: ChipSet, N: Named, R: Threads + Wait + Sync, G: Gate>(
     rt: &R,
-    bus: &Bus<C, N, L0, L1, L2, L3, L4>,
-    helds: &mut Helds<C, N, L0, L1, L2, L3, L4>,
+    bus: &Bus<C, N>,
+    helds: &mut Helds<C, N>,
     workers: u32,
     gate: &G,
 )
@@ -182,7 +126,7 @@ pub fn work<
     requires few { workers ≤ C.rules.count }
     requires held { (i : ℕ) → i < C.rules.count → IsSome (place helds.old i) }
     requires free { AllFree helds.old }
-    requires whole { (L0.parts ≡ 1) × (L1.parts ≡ 1) × (L2.parts ≡ 1) × (L3.parts ≡ 1) × (L4.parts ≡ 1) }
+    requires whole { (N.L0.parts ≡ 1) × (N.L1.parts ≡ 1) × (N.L2.parts ≡ 1) × (N.L3.parts ≡ 1) × (N.L4.parts ≡ 1) }
     ensures held { (i : ℕ) → i < C.rules.count → IsSome (place helds.new i) }
     ensures free { AllFree helds.new }
     ensures ended { IsEnded C.rules N.end helds.new }
@@ -195,8 +139,8 @@ pub fn work<
     *helds = thread::scope(
         thread::scope_env(),
         rt,
-        move |scope| -> Helds<C, N, L0, L1, L2, L3, L4>
-            requires { (L0.parts ≡ 1) × (L1.parts ≡ 1) × (L2.parts ≡ 1) × (L3.parts ≡ 1) × (L4.parts ≡ 1) × AllFree all }
+        move |scope| -> Helds<C, N>
+            requires { (N.L0.parts ≡ 1) × (N.L1.parts ≡ 1) × (N.L2.parts ≡ 1) × (N.L3.parts ≡ 1) × (N.L4.parts ≡ 1) × AllFree all }
             ensures { AllFree result × ((i : ℕ) → i < C.rules.count → IsSome (place result i)) }
         {
             start_all(scope, rt, bus, shared_work_queue, gate, helpers);

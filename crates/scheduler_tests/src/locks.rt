@@ -5,21 +5,25 @@ ghost use Rattle.chip_core.specs.Limits.{all_moves_left};
 ghost use Rattle.chip_run.specs.Places.{AllFree};
 
 use chip_core::{ChipSet, Core, Event};
-use chip_run::{Blanks, Bus, Helds, Locked, Named, Round, Turn, laws};
+use chip_run::{Blanks, Bus, Helds, Locked, Named, Round, Run, RunName, Turn, laws};
 use core_rows::five::{at_access, key, power_on};
 use md_outer::FreeGate;
 use md_word::Key;
-use std::marker::{Brand, PhantomData};
+use std::marker::Brand;
 use std::sync::Wait;
-use std::sync::ledger::{Blank, Ledger};
+use std::sync::ledger::Ledger;
 use std::test::Fail;
 
 // What the first section of a run on chip 0 answers, and the bound that it leaves.
-fn first_section<C: ChipSet, N: Named, L0: Ledger, L1: Ledger, L2: Ledger, L3: Ledger, L4: Ledger>(
-    core: Core<C>,
-    t: u64,
-    blanks: Blanks<L0, L1, L2, L3, L4>,
-) -> Option<(Turn, Option<Key>)>
+fn first_section<
+    C: ChipSet,
+    N: RunName,
+    L0: Ledger + Send + Sync,
+    L1: Ledger + Send + Sync,
+    L2: Ledger + Send + Sync,
+    L3: Ledger + Send + Sync,
+    L4: Ledger + Send + Sync,
+>(core: Core<C>, t: u64, blanks: Blanks) -> Option<(Turn, Option<Key>)>
     requires base { C.core_of N.base ≡ record core { room = 0 } }
     requires end { N.end ≡ t }
     requires places { N.room ≡ core.room }
@@ -30,19 +34,19 @@ fn first_section<C: ChipSet, N: Named, L0: Ledger, L1: Ledger, L2: Ledger, L3: L
     requires parts { (blanks.l0.parts ≡ L0.parts) × (blanks.l1.parts ≡ L1.parts) × (blanks.l2.parts ≡ L2.parts) × (blanks.l3.parts ≡ L3.parts) × (blanks.l4.parts ≡ L4.parts) }
     requires whole { (L0.parts ≡ 1) × (L1.parts ≡ 1) × (L2.parts ≡ 1) × (L3.parts ≡ 1) × (L4.parts ≡ 1) }
 {
-    let (locked, all) = Locked::<C, N, L0, L1, L2, L3, L4>::make(core, t, blanks);
+    let (locked, all) = Locked::<C, Run<N, L0, L1, L2, L3, L4>>::make(core, t, blanks);
     let mut locked = locked;
     let mut helds = all;
     answer_of(&mut locked, &mut helds)
 }
 
 // What a section on chip 0 answers, and the bound that it leaves.
-fn answer_of<C: ChipSet, N: Named, L0: Ledger, L1: Ledger, L2: Ledger, L3: Ledger, L4: Ledger>(
-    locked: &mut Locked<C, N, L0, L1, L2, L3, L4>,
-    helds: &mut Helds<C, N, L0, L1, L2, L3, L4>,
+fn answer_of<C: ChipSet, N: Named>(
+    locked: &mut Locked<C, N>,
+    helds: &mut Helds<C, N>,
 ) -> Option<(Turn, Option<Key>)>
     requires free { AllFree helds.old }
-    requires whole { (L0.parts ≡ 1) × (L1.parts ≡ 1) × (L2.parts ≡ 1) × (L3.parts ≡ 1) × (L4.parts ≡ 1) }
+    requires whole { (N.L0.parts ≡ 1) × (N.L1.parts ≡ 1) × (N.L2.parts ≡ 1) × (N.L3.parts ≡ 1) × (N.L4.parts ≡ 1) }
 {
     if helds.has(0) {
         let turn = laws::section(locked, helds, 0);
@@ -55,14 +59,14 @@ fn answer_of<C: ChipSet, N: Named, L0: Ledger, L1: Ledger, L2: Ledger, L3: Ledge
 // How many moves each chip makes in a run on one thread, if it ends within 1,000 answers.
 fn moves_alone<
     C: ChipSet,
-    N: Named,
-    L0: Ledger,
-    L1: Ledger,
-    L2: Ledger,
-    L3: Ledger,
-    L4: Ledger,
+    N: RunName,
+    L0: Ledger + Send + Sync,
+    L1: Ledger + Send + Sync,
+    L2: Ledger + Send + Sync,
+    L3: Ledger + Send + Sync,
+    L4: Ledger + Send + Sync,
     R: Wait,
->(rt: &R, core: Core<C>, t: u64, blanks: Blanks<L0, L1, L2, L3, L4>) -> Option<[u32; 5]>
+>(rt: &R, core: Core<C>, t: u64, blanks: Blanks) -> Option<[u32; 5]>
     requires base { C.core_of N.base ≡ record core { room = 0 } }
     requires end { N.end ≡ t }
     requires places { N.room ≡ core.room }
@@ -73,28 +77,19 @@ fn moves_alone<
     requires parts { (blanks.l0.parts ≡ L0.parts) × (blanks.l1.parts ≡ L1.parts) × (blanks.l2.parts ≡ L2.parts) × (blanks.l3.parts ≡ L3.parts) × (blanks.l4.parts ≡ L4.parts) }
     requires whole { (L0.parts ≡ 1) × (L1.parts ≡ 1) × (L2.parts ≡ 1) × (L3.parts ≡ 1) × (L4.parts ≡ 1) }
 {
-    let (bus, all) = Bus::<C, N, L0, L1, L2, L3, L4>::make(core, t, blanks);
+    let (bus, all) = Bus::<C, Run<N, L0, L1, L2, L3, L4>>::make(core, t, blanks);
     let mut helds = all;
     count_moves(rt, &bus, &mut helds)
 }
 
 // How many moves each chip makes, if all are finished within 1,000 answers.
-fn count_moves<
-    C: ChipSet,
-    N: Named,
-    L0: Ledger,
-    L1: Ledger,
-    L2: Ledger,
-    L3: Ledger,
-    L4: Ledger,
-    R: Wait,
->(
+fn count_moves<C: ChipSet, N: Named, R: Wait>(
     rt: &R,
-    bus: &Bus<C, N, L0, L1, L2, L3, L4>,
-    helds: &mut Helds<C, N, L0, L1, L2, L3, L4>,
+    bus: &Bus<C, N>,
+    helds: &mut Helds<C, N>,
 ) -> Option<[u32; 5]>
     requires free { AllFree helds.old }
-    requires whole { (L0.parts ≡ 1) × (L1.parts ≡ 1) × (L2.parts ≡ 1) × (L3.parts ≡ 1) × (L4.parts ≡ 1) }
+    requires whole { (N.L0.parts ≡ 1) × (N.L1.parts ≡ 1) × (N.L2.parts ≡ 1) × (N.L3.parts ≡ 1) × (N.L4.parts ≡ 1) }
 {
     let mut moves = [0u32; 5];
     for _answer in 0..1000 {
@@ -110,26 +105,13 @@ fn count_moves<
     None
 }
 
-fn blanks() -> Blanks<Brand, Brand, Brand, Brand, Brand>
-    ensures { (result.l0.parts ≡ 1) × (result.l1.parts ≡ 1) × (result.l2.parts ≡ 1) × (result.l3.parts ≡ 1) × (result.l4.parts ≡ 1) }
-{
-    Blanks {
-        l0: Blank::new(1),
-        l1: Blank::new(1),
-        l2: Blank::new(1),
-        l3: Blank::new(1),
-        l4: Blank::new(1),
-        names: PhantomData,
-    }
-}
-
 fn first_turn<C: ChipSet>(core: Core<C>, t: u64) -> Option<(Turn, Option<Key>)>
     requires time { t ≤ cycle_limit }
     requires empty { core.journal ≡ [] }
     requires room { all_moves_left C.rules t (machine_of C.rules core) ≤ core.room }
 {
     let _known = core.enabled(t, Event::Announce(0));
-    let blanks = blanks();
+    let blanks = Blanks::new();
     first_section::<C, Brand, Brand, Brand, Brand, Brand, Brand>(core, t, blanks)
 }
 
@@ -139,7 +121,7 @@ fn moves_to<C: ChipSet, R: Wait>(rt: &R, core: Core<C>, t: u64) -> Option<[u32; 
     requires room { all_moves_left C.rules t (machine_of C.rules core) ≤ core.room }
 {
     let _known = core.enabled(t, Event::Announce(0));
-    let blanks = blanks();
+    let blanks = Blanks::new();
     moves_alone::<C, Brand, Brand, Brand, Brand, Brand, Brand, R>(rt, core, t, blanks)
 }
 

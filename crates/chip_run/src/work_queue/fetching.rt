@@ -7,7 +7,6 @@ use chip_core::ChipSet;
 use std::hint::spin_loop;
 use std::sync::Wait;
 use std::sync::atomic::Ordering;
-use std::sync::ledger::Ledger;
 use std::thread::yield_now;
 
 /// How often the leader looks for a chip before it lets other threads run, and for its helpers to leave before it
@@ -17,24 +16,11 @@ const GLANCES: u32 = 1_000;
 /// How often it lets them run before it does work of another chip.
 const YIELDS: u32 = 100;
 
-impl<C: ChipSet, N: Named, L0: Ledger, L1: Ledger, L2: Ledger, L3: Ledger, L4: Ledger> WorkQueue<
-    C,
-    N,
-    L0,
-    L1,
-    L2,
-    L3,
-    L4,
-> {
+impl<C: ChipSet, N: Named> WorkQueue<C, N> {
     /// Takes all chips of which no work is due, or else the chip of this number, whose work is then done, or
     /// which waits for its worker. Where it does not lie here, it waits for a while, and then does work of
     /// another chip.
-    pub(crate) fn fetch<R: Wait>(
-        &self,
-        rt: &R,
-        helds: &mut Helds<C, N, L0, L1, L2, L3, L4>,
-        chip: u8,
-    )
+    pub(crate) fn fetch<R: Wait>(&self, rt: &R, helds: &mut Helds<C, N>, chip: u8)
         requires { AllFree helds.old }
         ensures { AllFree helds.new }
     {

@@ -7,7 +7,6 @@ use chip_core::ChipSet;
 use std::hint::spin_loop;
 use std::sync::Wait;
 use std::sync::atomic::Ordering;
-use std::sync::ledger::Ledger;
 
 /// How often a helper looks for work before it sleeps.
 const LOOKS: u32 = 20_000;
@@ -35,15 +34,7 @@ fn run_job<C: ChipSet, R: Wait>(rt: &R, jobs: &Option<C::Jobs>) -> bool {
     true
 }
 
-impl<C: ChipSet, N: Named, L0: Ledger, L1: Ledger, L2: Ledger, L3: Ledger, L4: Ledger> WorkQueue<
-    C,
-    N,
-    L0,
-    L1,
-    L2,
-    L3,
-    L4,
-> {
+impl<C: ChipSet, N: Named> WorkQueue<C, N> {
     /// Does private work that is due, if there is any; answers what was found.
     fn do_first<R: Wait>(&self, rt: &R) -> Found {
         let mut one = Helds::none();
@@ -51,7 +42,7 @@ impl<C: ChipSet, N: Named, L0: Ledger, L1: Ledger, L2: Ledger, L3: Ledger, L4: L
     }
 
     /// The same with a holder in which no work is due.
-    fn do_with<R: Wait>(&self, rt: &R, one: &mut Helds<C, N, L0, L1, L2, L3, L4>) -> Found
+    fn do_with<R: Wait>(&self, rt: &R, one: &mut Helds<C, N>) -> Found
         requires { AllFree one.old }
         ensures { AllFree one.new }
     {

@@ -4,7 +4,6 @@ ghost use Rattle.chip_run.specs.Places.{AllFree, FreeBut};
 
 use crate::{Helds, Named};
 use chip_core::ChipSet;
-use std::sync::ledger::Ledger;
 
 /// What a worker finds in the work queue.
 #[derive(Clone, Copy)]
@@ -18,36 +17,20 @@ pub(crate) enum Found {
 
 /// The chips that lie in the work queue.
 #[derive(Drop)]
-pub(crate) struct Laid<
-    C: ChipSet,
-    N: Named,
-    L0: Ledger,
-    L1: Ledger,
-    L2: Ledger,
-    L3: Ledger,
-    L4: Ledger,
-> {
+pub(crate) struct Laid<C: ChipSet, N: Named> {
     /// Chips of which private work is due.
-    due: Helds<C, N, L0, L1, L2, L3, L4>,
+    due: Helds<C, N>,
     /// Chips of which none is.
-    done: Helds<C, N, L0, L1, L2, L3, L4>,
+    done: Helds<C, N>,
     /// Chips of workers that have not begun.
-    waiting: Helds<C, N, L0, L1, L2, L3, L4>,
+    waiting: Helds<C, N>,
     /// No more work comes.
     over: bool,
     ghost free: { AllFree done },
     ghost ready: { AllFree waiting },
 }
 
-impl<C: ChipSet, N: Named, L0: Ledger, L1: Ledger, L2: Ledger, L3: Ledger, L4: Ledger> Laid<
-    C,
-    N,
-    L0,
-    L1,
-    L2,
-    L3,
-    L4,
-> {
+impl<C: ChipSet, N: Named> Laid<C, N> {
     /// No chip lies here, and more work may come.
     pub(crate) fn new() -> Self {
         Laid {
@@ -59,7 +42,7 @@ impl<C: ChipSet, N: Named, L0: Ledger, L1: Ledger, L2: Ledger, L3: Ledger, L4: L
     }
 
     /// Queues a chip of which work is due.
-    pub(crate) fn lay_due(&mut self, helds: &mut Helds<C, N, L0, L1, L2, L3, L4>, chip: u8)
+    pub(crate) fn lay_due(&mut self, helds: &mut Helds<C, N>, chip: u8)
         requires { FreeBut chip helds.old }
         ensures { AllFree helds.new }
     {
@@ -67,7 +50,7 @@ impl<C: ChipSet, N: Named, L0: Ledger, L1: Ledger, L2: Ledger, L3: Ledger, L4: L
     }
 
     /// Queues a chip of which none is due.
-    pub(crate) fn lay_done(&mut self, helds: &mut Helds<C, N, L0, L1, L2, L3, L4>, chip: u8)
+    pub(crate) fn lay_done(&mut self, helds: &mut Helds<C, N>, chip: u8)
         requires { AllFree helds.old }
         ensures { AllFree helds.new }
     {
@@ -75,11 +58,7 @@ impl<C: ChipSet, N: Named, L0: Ledger, L1: Ledger, L2: Ledger, L3: Ledger, L4: L
     }
 
     /// Takes the chip of this number, if it lies here and no work of it is due.
-    pub(crate) fn take_done(
-        &mut self,
-        helds: &mut Helds<C, N, L0, L1, L2, L3, L4>,
-        chip: u8,
-    ) -> bool
+    pub(crate) fn take_done(&mut self, helds: &mut Helds<C, N>, chip: u8) -> bool
         requires { AllFree helds.old }
         ensures { AllFree helds.new }
     {
@@ -91,7 +70,7 @@ impl<C: ChipSet, N: Named, L0: Ledger, L1: Ledger, L2: Ledger, L3: Ledger, L4: L
     }
 
     /// Takes the chip of this number, if it lies here and work of it is due.
-    pub(crate) fn take_due(&mut self, helds: &mut Helds<C, N, L0, L1, L2, L3, L4>, chip: u8) -> bool
+    pub(crate) fn take_due(&mut self, helds: &mut Helds<C, N>, chip: u8) -> bool
         requires { AllFree helds.old }
         ensures found { result ≡ true → FreeBut chip helds.new }
         ensures none { result ≡ false → AllFree helds.new }
@@ -104,7 +83,7 @@ impl<C: ChipSet, N: Named, L0: Ledger, L1: Ledger, L2: Ledger, L3: Ledger, L4: L
     }
 
     /// Lays down the chip of a worker that has not begun.
-    pub(crate) fn lay_waiting(&mut self, helds: &mut Helds<C, N, L0, L1, L2, L3, L4>, chip: u8)
+    pub(crate) fn lay_waiting(&mut self, helds: &mut Helds<C, N>, chip: u8)
         requires { AllFree helds.old }
         ensures { AllFree helds.new }
     {
@@ -112,11 +91,7 @@ impl<C: ChipSet, N: Named, L0: Ledger, L1: Ledger, L2: Ledger, L3: Ledger, L4: L
     }
 
     /// Takes the chip of this number, if its worker has not begun.
-    pub(crate) fn take_waiting(
-        &mut self,
-        helds: &mut Helds<C, N, L0, L1, L2, L3, L4>,
-        chip: u8,
-    ) -> bool
+    pub(crate) fn take_waiting(&mut self, helds: &mut Helds<C, N>, chip: u8) -> bool
         requires { AllFree helds.old }
         ensures { AllFree helds.new }
     {
@@ -128,7 +103,7 @@ impl<C: ChipSet, N: Named, L0: Ledger, L1: Ledger, L2: Ledger, L3: Ledger, L4: L
     }
 
     /// Takes all chips of which no work is due; answers whether there were any.
-    pub(crate) fn take_all(&mut self, helds: &mut Helds<C, N, L0, L1, L2, L3, L4>) -> bool
+    pub(crate) fn take_all(&mut self, helds: &mut Helds<C, N>) -> bool
         requires { AllFree helds.old }
         ensures { AllFree helds.new }
     {
@@ -142,7 +117,7 @@ impl<C: ChipSet, N: Named, L0: Ledger, L1: Ledger, L2: Ledger, L3: Ledger, L4: L
     }
 
     /// Takes the first chip of which work is due.
-    pub(crate) fn take_first(&mut self, helds: &mut Helds<C, N, L0, L1, L2, L3, L4>) -> Found
+    pub(crate) fn take_first(&mut self, helds: &mut Helds<C, N>) -> Found
         requires { AllFree helds.old }
         ensures { IsFoundDue result helds.new }
     {

@@ -1,7 +1,7 @@
 use Rattle.chip_run.proofs.running.run_core.Given as goal
 
-abbrev pub ghosts-run_named-N-Named : goal.ghosts-run_named-N-Named
-ghosts-run_named-N-Named g a = record { base = g.C.ChipSet.code_of a.core; end = a.t; room = a.core.room }
+abbrev pub ghosts-run_named-N-RunName : goal.ghosts-run_named-N-RunName
+ghosts-run_named-N-RunName g a = record { base = g.C.ChipSet.code_of a.core; end = a.t; room = a.core.room }
 
 abbrev pub ghosts-run_named-L0-Ledger : goal.ghosts-run_named-L0-Ledger
 ghosts-run_named-L0-Ledger g a = record { name = a.blanks.l0.name; parts = a.blanks.l0.parts }

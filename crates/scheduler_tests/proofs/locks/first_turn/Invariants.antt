@@ -1,7 +1,7 @@
 use Rattle.scheduler_tests.proofs.locks.first_turn.Given as goal
 
-abbrev pub ghosts-first_section-N-Named : goal.ghosts-first_section-N-Named
-ghosts-first_section-N-Named g a = record { base = g.C.ChipSet.code_of a.core; end = a.t; room = a.core.room }
+abbrev pub ghosts-first_section-N-RunName : goal.ghosts-first_section-N-RunName
+ghosts-first_section-N-RunName g a = record { base = g.C.ChipSet.code_of a.core; end = a.t; room = a.core.room }
 
 abbrev pub ghosts-first_section-L0-Ledger : goal.ghosts-first_section-L0-Ledger
 ghosts-first_section-L0-Ledger g a = record { name = a.blanks.l0.name; parts = a.blanks.l0.parts }

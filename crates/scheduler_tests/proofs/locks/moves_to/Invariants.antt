@@ -1,7 +1,7 @@
 use Rattle.scheduler_tests.proofs.locks.moves_to.Given as goal
 
-abbrev pub ghosts-moves_alone-N-Named : goal.ghosts-moves_alone-N-Named
-ghosts-moves_alone-N-Named g a = record { base = g.C.ChipSet.code_of a.core; end = a.t; room = a.core.room }
+abbrev pub ghosts-moves_alone-N-RunName : goal.ghosts-moves_alone-N-RunName
+ghosts-moves_alone-N-RunName g a = record { base = g.C.ChipSet.code_of a.core; end = a.t; room = a.core.room }
 
 abbrev pub ghosts-moves_alone-L0-Ledger : goal.ghosts-moves_alone-L0-Ledger
 ghosts-moves_alone-L0-Ledger g a = record { name = a.blanks.l0.name; parts = a.blanks.l0.parts }
