@@ -7,14 +7,14 @@ use Rattle.md_fields.specs.Items.{IsRight, Keeps}
 use Rattle.md_fields.specs.Places.{Stand}
 use Rattle.md_fields.proofs.Items.{rules_hold, not_both, one_place, same}
 use Rattle.bus_shared.specs.Saved.{AreFalls, is_fall, lines_fields}
-use Rattle.bus_shared.specs.Spelling.{LinesInvalidAt}
+use Rattle.bus_shared.specs.Spelling.{LinesInvalidAt, lines_size}
 use Rattle.bus_shared.specs.declared.saved_lines.SavedLines.{SavedLines}
 
-pub lines_size : (at : ℕ) (n : SavedLines) → sizes (lines_fields at n) ≡ 36
+pub fields_size : (at : ℕ) (n : SavedLines) → sizes (lines_fields at n) ≡ lines_size
 unfolding sizes
-lines_size at n = refl
+fields_size at n = refl
 
-pub lines_length : (at : ℕ) (n : SavedLines) → length (spelling (lines_fields at n)) ≡ 36
+pub lines_length : (at : ℕ) (n : SavedLines) → length (spelling (lines_fields at n)) ≡ lines_size
 unfolding spelling
 lines_length at n = refl
 
@@ -91,10 +91,10 @@ pub one_lines : (at : ℕ) (bytes : List ℕ) (s t : SavedLines) → Keeps (line
 one_lines at bytes s t p q = same (lines_fields at) bytes (only_one at bytes) s t p q
 
 pub lines_right : (at : ℕ) (bytes : List ℕ) (n : SavedLines) (place : ℕ) → Keeps (lines_fields at) bytes n → IsRight (lines_fields at) n → LinesInvalidAt at bytes place → ⊥
-lines_right at bytes n place keeps right invalid = not_both (lines_fields at) bytes (only_one at bytes) 36 n place keeps right (lines_size at n) invalid
+lines_right at bytes n place keeps right invalid = not_both (lines_fields at) bytes (only_one at bytes) lines_size n place keeps right (fields_size at n) invalid
 
 pub lines_once : (at : ℕ) (bytes : List ℕ) (p q : ℕ) → LinesInvalidAt at bytes p → LinesInvalidAt at bytes q → p ≡ q
-lines_once at bytes p q a b = one_place (lines_fields at) bytes (only_one at bytes) 36 (lines_size at) p q a b
+lines_once at bytes p q a b = one_place (lines_fields at) bytes (only_one at bytes) lines_size (fields_size at) p q a b
 
 -- what is appended four times, and five times
 four : (a h x y t i j k l : List ℕ) → i ≡ a ++ h → j ≡ i ++ x → k ≡ j ++ y → l ≡ k ++ t → l ≡ a ++ (h ++ (x ++ (y ++ t)))

@@ -32,9 +32,11 @@ use Rattle.z80_parcel.specs.Parcels.{IsStore, Store}
 use Rattle.z80_parcel.specs.Spelling.{store_fields}
 use Rattle.bus_shared.specs.Board.{Board}
 use Rattle.bus_shared.specs.Saved.{board_from, lines_fields, lines_of}
-use Rattle.bus_shared.specs.Spelling.{InvalidAt, InvalidFrom, IsLength, LinesInvalidAt, Parts, PartsInvalidAt, PortsInvalidAt, Spells, StoreInvalidAt, following, board_size, cut, lines_bytes, store_bytes, store_length, store_size}
+use Rattle.bus_shared.specs.Spelling.{InvalidAt, InvalidFrom, IsLength, LinesInvalidAt, Parts, PartsInvalidAt, PortsInvalidAt, Spells, StoreInvalidAt, board_size, cut, following, lines_bytes, lines_offset, lines_size, ports_size, store_bytes, store_length, store_size}
 use Rattle.bus_shared.specs.declared.saved_lines.SavedLines.{SavedLines}
 use Rattle.bus_shared.proofs.SavedLaws as lines_laws
+use Rattle.fm_port.specs.PortSpelling.{port_size as fm_size}
+use Rattle.psg_sound.specs.PortSpelling.{port_size as psg_size}
 
 -- ---- the bytes of each part
 
@@ -66,20 +68,20 @@ board_long false = refl
 vdp_long : (at : ℕ) (pal : Bool) (bytes : List ℕ) (s : Vdp) → vdp_spelling.Spells at pal bytes s → length bytes ≡ vdp_size
 vdp_long at pal bytes s p = ap length p.keeps.all ∙ long_as (vdp_fields at pal (numbers_of s)) p.keeps.within ∙ vdp_laws.fields_size at pal (numbers_of s)
 
-fm_long : (at : ℕ) (bytes : List ℕ) (p : fm_ports.Port) → fm_spelling.SpellsPort at bytes p → length bytes ≡ 12316
+fm_long : (at : ℕ) (bytes : List ℕ) (p : fm_ports.Port) → fm_spelling.SpellsPort at bytes p → length bytes ≡ fm_size
 fm_long at bytes p spells =
     ap length spells.keeps.all ∙ long_as (fm_spelling.port_fields at (fm_spelling.saved_port_of p)) spells.keeps.within ∙ (fm_table at).sized (fm_spelling.saved_port_of p)
 
-psg_long : (at : ℕ) (bytes : List ℕ) (ws : List PsgWrite) → psg_spelling.SpellsPort at bytes ws → length bytes ≡ 10242
+psg_long : (at : ℕ) (bytes : List ℕ) (ws : List PsgWrite) → psg_spelling.SpellsPort at bytes ws → length bytes ≡ psg_size
 psg_long at bytes ws spells =
     ap length spells.keeps.all ∙ long_as (psg_spelling.port_fields at (psg_spelling.saved_port_of ws)) spells.keeps.within ∙ (psg_table at).sized (psg_spelling.saved_port_of ws)
 
-lines_long : (at : ℕ) (bytes : List ℕ) (n : SavedLines) → Keeps (lines_fields at) bytes n → length bytes ≡ 36
-lines_long at bytes n keeps = ap length keeps.all ∙ long_as (lines_fields at n) keeps.within ∙ lines_laws.lines_size at n
+lines_long : (at : ℕ) (bytes : List ℕ) (n : SavedLines) → Keeps (lines_fields at) bytes n → length bytes ≡ lines_size
+lines_long at bytes n keeps = ap length keeps.all ∙ long_as (lines_fields at n) keeps.within ∙ lines_laws.fields_size at n
 
 -- ---- bytes are cut into the parts that they are made of
 
-cut_of : (a b c d e : List ℕ) → length b ≡ vdp_size → length c ≡ 12316 → length d ≡ 10242 → length e ≡ 36
+cut_of : (a b c d e : List ℕ) → length b ≡ vdp_size → length c ≡ fm_size → length d ≡ psg_size → length e ≡ lines_size
     → cut (a ++ (b ++ (c ++ (d ++ e)))) ≡ record { store = a; vdp = b; fm = c; psg = d; lines = e }
 cut_of a b c d e lb lc ld le =
     let rest = b ++ (c ++ (d ++ e)) in
@@ -88,13 +90,13 @@ cut_of a b c d e lb lc ld le =
     omega (arith, length-append a rest, length-append b (c ++ (d ++ e)), length-append c (d ++ e), length-append d e, lb, lc, ld, le) in
     let following : drop (store_length bytes) bytes ≡ rest = drop_at a rest (store_length bytes) n in
     let past_vdp : drop vdp_size (drop (store_length bytes) bytes) ≡ c ++ (d ++ e) = ap (drop vdp_size) following ∙ drop_at b (c ++ (d ++ e)) vdp_size lb in
-    let past_fm : drop 12316 (drop vdp_size (drop (store_length bytes) bytes)) ≡ d ++ e = ap (drop 12316) past_vdp ∙ drop_at c (d ++ e) 12316 lc in
+    let past_fm : drop fm_size (drop vdp_size (drop (store_length bytes) bytes)) ≡ d ++ e = ap (drop fm_size) past_vdp ∙ drop_at c (d ++ e) fm_size lc in
     λ i. record {
       store = take_at a rest (store_length bytes) n i;
       vdp = (ap (take vdp_size) following ∙ take_at b (c ++ (d ++ e)) vdp_size lb) i;
-      fm = (ap (take 12316) past_vdp ∙ take_at c (d ++ e) 12316 lc) i;
-      psg = (ap (take 10242) past_fm ∙ take_at d e 10242 ld) i;
-      lines = (ap (drop 10242) past_fm ∙ drop_at d e 10242 ld) i;
+      fm = (ap (take fm_size) past_vdp ∙ take_at c (d ++ e) fm_size lc) i;
+      psg = (ap (take psg_size) past_fm ∙ take_at d e psg_size ld) i;
+      lines = (ap (drop psg_size) past_fm ∙ drop_at d e psg_size ld) i;
     }
 
 abbrev own : Board → Parts
@@ -118,9 +120,9 @@ joined_again bytes =
     let n = store_length bytes in
     let following = drop n bytes in
     let past_vdp = drop vdp_size following in
-    let past_fm = drop 12316 past_vdp in
-    ap (λ (l : List ℕ). take n bytes ++ (take vdp_size following ++ (take 12316 past_vdp ++ l))) (take-append-drop 10242 past_fm)
-    ∙ ap (λ (l : List ℕ). take n bytes ++ (take vdp_size following ++ l)) (take-append-drop 12316 past_vdp)
+    let past_fm = drop fm_size past_vdp in
+    ap (λ (l : List ℕ). take n bytes ++ (take vdp_size following ++ (take fm_size past_vdp ++ l))) (take-append-drop psg_size past_fm)
+    ∙ ap (λ (l : List ℕ). take n bytes ++ (take vdp_size following ++ l)) (take-append-drop fm_size past_vdp)
     ∙ ap (λ (l : List ℕ). take n bytes ++ l) (take-append-drop vdp_size following)
     ∙ take-append-drop n bytes
 
@@ -193,8 +195,8 @@ parts_once at pal start parts =
     from_once 0 _ _ (store_once parts.store)
     (from_once start _ _ (vdp_laws.only_place at pal parts.vdp)
     (from_once (start + vdp_size) _ _ (refused_once (fm_table at) parts.fm)
-    (from_once (start + vdp_size + 12316) _ _ (refused_once (psg_table at) parts.psg)
-    (from_once (start + vdp_size + 22558) _ _ (lines_laws.lines_once at parts.lines) (λ p q a b. absurd a)))))
+    (from_once (start + vdp_size + fm_size) _ _ (refused_once (psg_table at) parts.psg)
+    (from_once (start + vdp_size + lines_offset) _ _ (lines_laws.lines_once at parts.lines) (λ p q a b. absurd a)))))
 
 pub invalid_once : (at : ℕ) (pal : Bool) (bytes : List ℕ) (p q : ℕ) → InvalidAt at pal bytes p → InvalidAt at pal bytes q → p ≡ q
 invalid_once at pal bytes p q (inl a) (inl b) = a.1 ∙ sym b.1
@@ -263,8 +265,8 @@ spelled_once at pal bytes s t p q recording =
 pub vdp_near : (at : ℕ) (pal : Bool) (bytes : List ℕ) (place : ℕ) → vdp_spelling.InvalidAt at pal bytes place → place ≤ vdp_size
 vdp_near at pal bytes place invalid = refused_within (vdp_fields at pal) bytes vdp_size (vdp_laws.fields_size at pal) place invalid
 
-pub psg_near : (at : ℕ) (bytes : List ℕ) (place : ℕ) → psg_spelling.PortInvalidAt at bytes place → place ≤ 10242
-psg_near at bytes place invalid = refused_within (psg_spelling.port_fields at) bytes 10242 (psg_table at).sized place invalid
+pub psg_near : (at : ℕ) (bytes : List ℕ) (place : ℕ) → psg_spelling.PortInvalidAt at bytes place → place ≤ psg_size
+psg_near at bytes place invalid = refused_within (psg_spelling.port_fields at) bytes psg_size (psg_table at).sized place invalid
 
 -- ---- what the bytes hold
 
@@ -333,7 +335,7 @@ after_rule start NoMemory place e = absurd (no_memory_not place e)
 
 -- the ports in the bytes after the VDP's
 abbrev pub PortsIn : ℕ → List ℕ → ℕ → Type 0
-PortsIn at bytes = PortsInvalidAt at 0 (take 12316 bytes) (take 10242 (drop 12316 bytes)) (drop 10242 (drop 12316 bytes))
+PortsIn at bytes = PortsInvalidAt at 0 (take fm_size bytes) (take psg_size (drop fm_size bytes)) (drop psg_size (drop fm_size bytes))
 
 moved_from : (start far begin : ℕ) → begin ≡ far + start → (Invalid Following Later : ℕ → Type 0) → ((place : ℕ) → Following place → Later (far + place)) → (place : ℕ)
     → InvalidFrom start Invalid Following place → InvalidFrom begin Invalid Later (far + place)
@@ -341,19 +343,19 @@ moved_from start far begin e Invalid Following Later later place (inl x) = inl (
 moved_from start far begin e Invalid Following Later later place (inr x) = inr (x.0, later place x.1)
 
 abbrev LinesFrom : ℕ → ℕ → List ℕ → ℕ → Type 0
-LinesFrom at start lines = InvalidFrom (start + 22558) (LinesInvalidAt at lines) (λ place. ⊥)
+LinesFrom at start lines = InvalidFrom (start + lines_offset) (LinesInvalidAt at lines) (λ place. ⊥)
 
 abbrev PsgFrom : ℕ → ℕ → List ℕ → List ℕ → ℕ → Type 0
-PsgFrom at start psg lines = InvalidFrom (start + 12316) (psg_spelling.PortInvalidAt at psg) (LinesFrom at start lines)
+PsgFrom at start psg lines = InvalidFrom (start + fm_size) (psg_spelling.PortInvalidAt at psg) (LinesFrom at start lines)
 
 pub ports_after : (at far : ℕ) (fm psg lines : List ℕ) (place : ℕ) → PortsInvalidAt at 0 fm psg lines place → PortsInvalidAt at far fm psg lines (far + place)
 ports_after at far fm psg lines =
     moved_from 0 far far (omega arith) (fm_spelling.PortInvalidAt at fm) (PsgFrom at 0 psg lines) (PsgFrom at far psg lines)
-    (moved_from (0 + 12316) far (far + 12316) (omega arith) (psg_spelling.PortInvalidAt at psg) (LinesFrom at 0 lines) (LinesFrom at far lines)
-    (moved_from (0 + 22558) far (far + 22558) (omega arith) (LinesInvalidAt at lines) (λ n. ⊥) (λ n. ⊥) (λ place no. no)))
+    (moved_from (0 + fm_size) far (far + fm_size) (omega arith) (psg_spelling.PortInvalidAt at psg) (LinesFrom at 0 lines) (LinesFrom at far lines)
+    (moved_from (0 + lines_offset) far (far + lines_offset) (omega arith) (LinesInvalidAt at lines) (λ n. ⊥) (λ n. ⊥) (λ place no. no)))
 
 -- RAM and bank register
-pub held_found : (bytes ram : List ℕ) (bank : ℕ) (store : Store) → IsBytes bytes → length bytes ≡ 8194 → ram ≡ take 8192 bytes → bank ≡ number_at w16 8192 bytes → bank < 512
+pub held_found : (bytes ram : List ℕ) (bank : ℕ) (store : Store) → IsBytes bytes → length bytes ≡ store_size true → ram ≡ take 8192 bytes → bank ≡ number_at w16 8192 bytes → bank < 512
     → store ≡ record { ram = ram; bank = bank } → (bytes ≡ store_bytes (Some store)) × IsStore store
 unfolding Stand
 held_found bytes ram bank store fits long front back nine is =
@@ -367,7 +369,7 @@ held_found bytes ram bank store fits long front back nine is =
 pub held_right : (bytes : List ℕ) (bank : ℕ) → bank ≡ number_at w16 8192 bytes → bank < 512 → (place : ℕ) → StoreInvalidAt bytes place → ⊥
 held_right bytes bank back nine place invalid = absurd (omega (arith, back, nine, invalid.1))
 
-pub held_invalid : (bytes : List ℕ) (bank place : ℕ) → length bytes ≡ 8194 → bank ≡ number_at w16 8192 bytes → 512 ≤ bank → place ≡ 8192 → StoreInvalidAt bytes place
+pub held_invalid : (bytes : List ℕ) (bank place : ℕ) → length bytes ≡ store_size true → bank ≡ number_at w16 8192 bytes → 512 ≤ bank → place ≡ 8192 → StoreInvalidAt bytes place
 held_invalid bytes bank place long back more e = (omega (arith, long), omega (arith, back, more), e)
 
 -- no bytes keep no RAM
@@ -389,10 +391,10 @@ ports_exit at pal bytes p place long none no_vdp invalid e =
     subst (InvalidAt at pal bytes) (sym e)
     (inr (long, inr (none, inr (no_vdp, ports_after at (store_length bytes + vdp_size) (cut bytes).fm (cut bytes).psg (cut bytes).lines p invalid))))
 
-pub ports_near : (at : ℕ) (fm psg lines : List ℕ) (place : ℕ) → PortsInvalidAt at 0 fm psg lines place → place ≤ 22594
-ports_near at fm psg lines place (inl w) = omega (arith, w.2, refused_within (fm_spelling.port_fields at) fm 12316 (fm_table at).sized w.0 w.1)
+pub ports_near : (at : ℕ) (fm psg lines : List ℕ) (place : ℕ) → PortsInvalidAt at 0 fm psg lines place → place ≤ ports_size
+ports_near at fm psg lines place (inl w) = omega (arith, w.2, refused_within (fm_spelling.port_fields at) fm fm_size (fm_table at).sized w.0 w.1)
 ports_near at fm psg lines place (inr (no_fm, inl w)) = omega (arith, w.2, psg_near at psg w.0 w.1)
-ports_near at fm psg lines place (inr (no_fm, inr (no_psg, inl w))) = omega (arith, w.2, refused_within (lines_fields at) lines 36 (lines_laws.lines_size at) w.0 w.1)
+ports_near at fm psg lines place (inr (no_fm, inr (no_psg, inl w))) = omega (arith, w.2, refused_within (lines_fields at) lines lines_size (lines_laws.fields_size at) w.0 w.1)
 ports_near at fm psg lines place (inr (no_fm, inr (no_psg, inr w))) = absurd w.1
 
 -- ---- a refusal that is not out of memory

@@ -23,6 +23,8 @@ use Rattle.z80_parcel.specs.Spelling.{store_fields}
 use Rattle.bus_shared.specs.Board.{Board}
 use Rattle.bus_shared.specs.Saved.{lines_fields, lines_of}
 use Rattle.bus_shared.specs.declared.saved_lines.SavedLines.{SavedLines}
+use Rattle.fm_port.specs.PortSpelling.{port_size as fm_size}
+use Rattle.psg_sound.specs.PortSpelling.{port_size as psg_size}
 
 -- the board with the bytes of fill and copy, and the overflows of the timers, made that are below a
 -- cycle, as it is kept
@@ -34,10 +36,22 @@ abbrev pub store_size : Bool → ℕ
 store_size false = 0
 store_size true = 8194
 
+-- how many bytes keep the lines and the pads
+abbrev pub lines_size : ℕ
+lines_size = 36
+
+-- the offset of the lines in what follows the VDP: the two ports are before them
+abbrev pub lines_offset : ℕ
+lines_offset = fm_size + psg_size
+
+-- how many bytes follow the VDP
+abbrev pub ports_size : ℕ
+ports_size = lines_offset + lines_size
+
 -- how many bytes keep a board, by whether it has RAM and bank register
 abbrev pub board_size : Bool → ℕ
-board_size false = 88407
-board_size true = 96601
+board_size false = vdp_size + ports_size
+board_size true = store_size true + (vdp_size + ports_size)
 
 -- the bytes that keep RAM and bank register, where the bus has them
 abbrev pub store_bytes : Option Store → List ℕ
@@ -103,9 +117,9 @@ cut bytes =
     record {
       store = take (store_length bytes) bytes;
       vdp = take vdp_size following;
-      fm = take 12316 (drop vdp_size following);
-      psg = take 10242 (drop 12316 (drop vdp_size following));
-      lines = drop 10242 (drop 12316 (drop vdp_size following));
+      fm = take fm_size (drop vdp_size following);
+      psg = take psg_size (drop fm_size (drop vdp_size following));
+      lines = drop psg_size (drop fm_size (drop vdp_size following));
     }
 
 -- the offset of a refusal in what follows a start
@@ -119,7 +133,7 @@ StoreInvalidAt bytes place = (0 < length bytes) × (512 ≤ number_at w16 8192 b
 
 -- bytes that keep no lines and pads are invalid at this offset
 abbrev pub LinesInvalidAt : ℕ → List ℕ → ℕ → Type 0
-LinesInvalidAt at bytes place = IsRefused 36 (lines_fields at) bytes place
+LinesInvalidAt at bytes place = IsRefused lines_size (lines_fields at) bytes place
 
 -- a part that begins at a place is invalid, or it is invalid nowhere and what follows it is
 abbrev pub InvalidFrom : ℕ → (ℕ → Type 0) → (ℕ → Type 0) → ℕ → Type 0
@@ -130,8 +144,8 @@ InvalidFrom start Invalid Following place =
 abbrev pub PortsInvalidAt : ℕ → ℕ → List ℕ → List ℕ → List ℕ → ℕ → Type 0
 PortsInvalidAt at start fm psg lines =
     InvalidFrom start (fm_spelling.PortInvalidAt at fm)
-    (InvalidFrom (start + 12316) (psg_spelling.PortInvalidAt at psg)
-    (InvalidFrom (start + 22558) (LinesInvalidAt at lines) (λ place. ⊥)))
+    (InvalidFrom (start + fm_size) (psg_spelling.PortInvalidAt at psg)
+    (InvalidFrom (start + lines_offset) (LinesInvalidAt at lines) (λ place. ⊥)))
 
 -- the same of all parts, where RAM and bank register have so many bytes
 abbrev pub PartsInvalidAt : ℕ → Bool → ℕ → Parts → ℕ → Type 0

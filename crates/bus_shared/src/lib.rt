@@ -28,4 +28,6 @@ pub use pins::{pins68, pins80};
 pub use port::VideoPort;
 pub use register::Register;
 pub use request::{Answer, Request};
+pub use saved_lines::LINES_SIZE;
 pub use shared::Shared;
+pub use spelling::{FULL_SIZE, STORE_SIZE};

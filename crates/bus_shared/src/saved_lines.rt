@@ -3,12 +3,12 @@ ghost use Rattle.md_fields.specs.Fields.{AreSized, seen};
 ghost use Rattle.md_fields.specs.Items.{IsRight, Keeps};
 ghost use Rattle.md_fields.specs.Places.{Stand};
 ghost use Rattle.bus_shared.specs.Saved.{is_fall, lines_fields};
-ghost use Rattle.bus_shared.specs.Spelling.{LinesInvalidAt};
+ghost use Rattle.bus_shared.specs.Spelling.{LinesInvalidAt, lines_size};
 
 use md_fields::{Field, first_invalid, u8_at, u16_at, u64_at};
 
 /// How many bytes of a saved state keep the lines and the pads.
-pub const LINES: usize = 36;
+pub const LINES_SIZE: usize = 36;
 
 /// One more than the greatest word of a pad, which has at most twelve buttons.
 const WORDS: u16 = 0x1000;
@@ -42,7 +42,7 @@ impl SavedLines {
     /// The numbers in the bytes.
     #[tactic(auto, unfolding(md_fields::specs::Places::Stand))]
     fn read(bytes: &[u8]) -> SavedLines
-        requires { length bytes.now ≡ 36 }
+        requires { length bytes.now ≡ lines_size }
         ensures { (at : ℕ) → Stand 0 (lines_fields at result) bytes.now }
     {
         SavedLines {
@@ -86,13 +86,13 @@ impl SavedLines {
     }
 
     /// The numbers that the bytes keep, where the rules hold of them. The error is the offset of the first
-    /// field whose rule fails, or the lesser of the number of bytes and 36 where it is not 36.
+    /// field whose rule fails, or the lesser of the number of bytes and 36 where there are not 36.
     pub fn checked(bytes: &[u8], at: u64) -> Result<SavedLines, usize>
         ensures found { IfOk result (λ lines. Keeps (lines_fields at) bytes.now lines × IsRight (lines_fields at) lines) }
         ensures refused { IfErr result (λ place. LinesInvalidAt at bytes.now place) }
     {
-        if bytes.len() != LINES {
-            return Err(bytes.len().min(LINES));
+        if bytes.len() != LINES_SIZE {
+            return Err(bytes.len().min(LINES_SIZE));
         }
         let lines = SavedLines::read(bytes);
         match first_invalid(&lines.fields(at)) {

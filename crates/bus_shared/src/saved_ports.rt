@@ -7,18 +7,15 @@ ghost use Rattle.psg_sound.specs.PortSpelling as psg_spelling;
 ghost use Rattle.psg_sound.specs.Port.{IsPort};
 ghost use Rattle.bus_shared.specs.Board.{IsFewFm};
 ghost use Rattle.bus_shared.specs.Saved.{lines_fields};
-ghost use Rattle.bus_shared.specs.Spelling.{PortsInvalidAt, following as place_after};
+ghost use Rattle.bus_shared.specs.Spelling.{PortsInvalidAt, following as place_after, ports_size};
+ghost use Rattle.fm_port.specs.PortSpelling.{port_size as fm_size};
+ghost use Rattle.psg_sound.specs.PortSpelling.{port_size as psg_size};
 
 use crate::saved_lines::SavedLines;
-use fm_port::FmPort;
+use fm_port::{FmPort, PORT_SIZE as FM_SIZE};
 use md_word::Unspell;
-use psg_sound::PsgPort;
+use psg_sound::{PORT_SIZE as PSG_SIZE, PsgPort};
 use std::alloc::Global;
-
-/// How many bytes keep the FM chip's port and the PSG's.
-const FM: usize = 12_316;
-
-const PSG: usize = 10_242;
 
 /// The ports of the sound chips, and the lines and the pads.
 #[derive(Drop)]
@@ -100,33 +97,33 @@ fn restored(port: Box<PsgPort>, bytes: &[u8], at: u64) -> Result<Box<PsgPort>, U
     }
 }
 
-/// The ports, and the lines and the pads, that 22,594 bytes keep. `Rule` has the offset of the first invalid
-/// field; the only other error is out of memory.
+/// The ports, and the lines and the pads, that the bytes after the VDP keep. `Rule` has the offset of the
+/// first invalid field; the only other error is out of memory.
 pub(crate) fn ports_in(alloc: Global, bytes: &[u8], at: u64) -> Result<Ports, Unspell>
     requires cycle { at ≤ cycle_limit }
-    requires length { length bytes.now ≡ 22594 }
-    ensures fm { IfOk result (λ ports. fm_spelling.SpellsPort at (take 12316 bytes.now) ports.fm.value) }
-    ensures psg { IfOk result (λ ports. psg_spelling.SpellsPort at (take 10242 (drop 12316 bytes.now)) ports.psg.value) }
+    requires length { length bytes.now ≡ ports_size }
+    ensures fm { IfOk result (λ ports. fm_spelling.SpellsPort at (take fm_size bytes.now) ports.fm.value) }
+    ensures psg { IfOk result (λ ports. psg_spelling.SpellsPort at (take psg_size (drop fm_size bytes.now)) ports.psg.value) }
     ensures few { IfOk result (λ ports. IsFewFm ports.fm.value.writes) }
     ensures port { IfOk result (λ ports. IsPort ports.psg.value) }
-    ensures lines { IfOk result (λ ports. Keeps (lines_fields at) (drop 10242 (drop 12316 bytes.now)) ports.lines × IsRight (lines_fields at) ports.lines) }
+    ensures lines { IfOk result (λ ports. Keeps (lines_fields at) (drop psg_size (drop fm_size bytes.now)) ports.lines × IsRight (lines_fields at) ports.lines) }
     ensures rule { (place : ℕ) → IsErrOf result (Unspell.Rule place)
-        → PortsInvalidAt at 0 (take 12316 bytes.now) (take 10242 (drop 12316 bytes.now)) (drop 10242 (drop 12316 bytes.now)) place }
+        → PortsInvalidAt at 0 (take fm_size bytes.now) (take psg_size (drop fm_size bytes.now)) (drop psg_size (drop fm_size bytes.now)) place }
 {
-    let (fm, rest) = bytes.split_at(FM);
+    let (fm, rest) = bytes.split_at(FM_SIZE);
     let fm = match fm_in(alloc, fm, at) {
         Ok(fm) => fm,
         Err(fault) => return Err(fault),
     };
-    let (psg, rest) = rest.split_at(PSG);
+    let (psg, rest) = rest.split_at(PSG_SIZE);
     let psg = match psg_in(alloc, psg, at) {
         Ok(psg) => psg,
-        Err(fault) => return Err(following(FM as u64, fault)),
+        Err(fault) => return Err(following(FM_SIZE as u64, fault)),
     };
     match SavedLines::checked(rest, at) {
         Ok(lines) => Ok(Ports { fm, psg, lines }),
         Err(place) => Err(Unspell::Rule {
-            place: (FM + PSG + place) as u64,
+            place: (FM_SIZE + PSG_SIZE + place) as u64,
         }),
     }
 }

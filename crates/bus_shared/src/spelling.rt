@@ -6,32 +6,33 @@ ghost use Rattle.bus_shared.specs.Board.{AreBytes, Board, IsFewFm};
 ghost use Rattle.bus_shared.specs.Saved.{AreFalls, board_from, lines_of};
 ghost use Rattle.std.specs.Arc.{arc_value};
 ghost use Rattle.md_word.specs.Clock.{cycle_limit};
-ghost use Rattle.bus_shared.specs.Spelling.{InvalidAt, IsReady, Spells, StoreInvalidAt, board_bytes, board_size, settled_board, store_bytes};
+ghost use Rattle.bus_shared.specs.Spelling.{InvalidAt, IsReady, Spells, StoreInvalidAt, board_bytes, board_size, settled_board, store_bytes, store_size};
 
-use crate::saved_lines::SavedLines;
+use crate::saved_lines::{LINES_SIZE, SavedLines};
 use crate::saved_ports::{Ports, following, ports_in};
 use crate::shared::Shared;
-use fm_port::FmPort;
+use fm_port::{FmPort, PORT_SIZE as FM_SIZE};
 use md_fields::{put, u16_at};
 use md_pads::{PadPort, Recording};
 use md_word::{NoMemory, Parcel, Unspell};
-use psg_sound::PsgPort;
+use psg_sound::{PORT_SIZE as PSG_SIZE, PsgPort};
 use std::alloc::Global;
 use std::sync::Arc;
 use vdp_dma::{is_read_again, spell};
-use vdp_ports::VdpState;
+use vdp_ports::{VDP_SIZE, VdpState};
 use z80_parcel::{BANKS, parcel_of, put_store};
-
-/// How many bytes of a saved state keep a board without the Z80's RAM, and with it.
-const SHORT: usize = 88_407;
-
-const LONG: usize = 96_601;
 
 /// Where the bank register is, after the RAM.
 const BANK: usize = 8_192;
 
-/// How many bytes keep the VDP.
-const VDP: usize = 65_813;
+/// How many bytes of a saved state keep the Z80's RAM and its bank register.
+pub const STORE_SIZE: usize = BANK + 2;
+
+/// How many bytes of a saved state keep a board without the Z80's RAM.
+const BOARD_SIZE: usize = VDP_SIZE + FM_SIZE + PSG_SIZE + LINES_SIZE;
+
+/// How many bytes keep one with it.
+pub const FULL_SIZE: usize = STORE_SIZE + BOARD_SIZE;
 
 impl Shared {
     /// Whether the board has the Z80's RAM.
@@ -140,24 +141,24 @@ fn read(
     ensures found { IfOk result (λ shared. Spells at pal bytes.now shared × (shared.recording ≡ arc_value recording)) }
     ensures rule { (place : ℕ) → IsErrOf result (Unspell.Rule place) → InvalidAt at pal bytes.now place }
 {
-    if bytes.len() != SHORT && bytes.len() != LONG {
+    if bytes.len() != BOARD_SIZE && bytes.len() != FULL_SIZE {
         return Err(Unspell::Rule {
-            place: bytes.len().min(LONG) as u64,
+            place: bytes.len().min(FULL_SIZE) as u64,
         });
     }
-    let (store, rest) = bytes.split_at(bytes.len() - SHORT);
+    let (store, rest) = bytes.split_at(bytes.len() - BOARD_SIZE);
     let parcel = match parcel_in(alloc, store) {
         Ok(parcel) => parcel,
         Err(fault) => return Err(fault),
     };
-    let (video, rest) = rest.split_at(VDP);
+    let (video, rest) = rest.split_at(VDP_SIZE);
     let vdp = match VdpState::unspell(alloc, video, at, pal) {
         Ok(vdp) => vdp,
         Err(fault) => return Err(following(store.len() as u64, fault)),
     };
     let ports = match ports_in(alloc, rest, at) {
         Ok(ports) => ports,
-        Err(fault) => return Err(following((store.len() + VDP) as u64, fault)),
+        Err(fault) => return Err(following((store.len() + VDP_SIZE) as u64, fault)),
     };
     let Ports { fm, psg, lines } = ports;
     Ok(board_of(alloc, recording, parcel, vdp, fm, psg, lines)?)
@@ -206,7 +207,7 @@ fn are_bytes(bytes: &[u8])
 
 /// RAM and bank register, `None` where there are no bytes of them. The errors are those of `held_in`.
 fn parcel_in(alloc: Global, store: &[u8]) -> Result<Option<Parcel>, Unspell>
-    requires { (length store.now ≡ 0) ⊎ (length store.now ≡ 8194) }
+    requires { (length store.now ≡ 0) ⊎ (length store.now ≡ store_size true) }
     ensures found { IfOk result (λ parcel. (store.now ≡ store_bytes (option_map store_of parcel)) × IfSome (option_map store_of parcel) IsStore) }
     ensures right { IfOk result (λ parcel. (place : ℕ) → StoreInvalidAt store.now place → ⊥) }
     ensures rule { (place : ℕ) → IsErrOf result (Unspell.Rule place) → StoreInvalidAt store.now place }
@@ -223,7 +224,7 @@ fn parcel_in(alloc: Global, store: &[u8]) -> Result<Option<Parcel>, Unspell>
 /// RAM and bank register that 8,194 bytes keep. `Rule`: the bank register has more than 9 bits. The only
 /// other error is out of memory.
 fn held_in(alloc: Global, store: &[u8]) -> Result<Parcel, Unspell>
-    requires { length store.now ≡ 8194 }
+    requires { length store.now ≡ store_size true }
     ensures found { IfOk result (λ parcel. (store.now ≡ store_bytes (Some (store_of parcel))) × IsStore (store_of parcel)) }
     ensures right { IfOk result (λ parcel. (place : ℕ) → StoreInvalidAt store.now place → ⊥) }
     ensures rule { (place : ℕ) → IsErrOf result (Unspell.Rule place) → StoreInvalidAt store.now place }

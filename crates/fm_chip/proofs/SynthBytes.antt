@@ -15,7 +15,7 @@ use Rattle.fm_voice.specs.Channel.{IsLevel}
 use Rattle.fm_chip.specs.Channels.{IsChannel, channel_at}
 use Rattle.fm_chip.specs.Operators.{IsOperator}
 use Rattle.fm_chip.specs.Synth.{IsSynth, Synth}
-use Rattle.fm_chip.specs.SynthSpelling.{SpellsSynth, channel_from, fields1, fields2, fields3, fields4, fields5, fields6, four_fields, head_fields, is_output, last_fields, last_from, operator_from, output_of, saved_four_of, saved_last_of, saved_synth_of, state_again, state_number, state_of, synth_at, synth_fields, synth_from, word_of}
+use Rattle.fm_chip.specs.SynthSpelling.{SpellsSynth, channel_from, fields1, fields2, fields3, fields4, fields5, fields6, four_fields, head_fields, is_output, last_fields, last_from, operator_from, output_of, saved_four_of, saved_last_of, saved_synth_of, state_again, state_number, state_of, synth_at, synth_fields, synth_from, synth_size, word_of}
 use Rattle.fm_chip.specs.declared.channels.Channel.{Channel}
 use Rattle.fm_chip.specs.declared.saved_operator.SavedFour.{SavedFour}
 use Rattle.fm_chip.specs.declared.saved_operator.SavedOperator.{SavedOperator}
@@ -35,7 +35,7 @@ abbrev last_in : List Value → ℕ → SavedLast
 last_in values i = record { older = number_in values i; newer = number_in values (i + 1) }
 
 -- the fields, and the numbers of their values
-pub table : Table 741 synth_fields
+pub table : Table synth_size synth_fields
 unfolding sizes synth_fields values_at
 table = record {
   back = λ values. record {
@@ -63,7 +63,7 @@ table = record {
 }
 
 -- what is in the bytes has the values that they give
-pub synth_stands : (bytes : List ℕ) → length bytes ≡ 741 → Stand 0 (synth_fields (synth_at bytes)) bytes
+pub synth_stands : (bytes : List ℕ) → length bytes ≡ synth_size → Stand 0 (synth_fields (synth_at bytes)) bytes
 unfolding synth_fields values_at
 synth_stands bytes long = stand_by 0 (synth_fields (synth_at bytes)) bytes (omega (arith, long, table.sized (synth_at bytes))) refl
 
@@ -355,5 +355,5 @@ pub synth_again : (s : Synth) → IsSynth s → synth_from (saved_synth_of s) �
 synth_again s h = λ i. record s { channels = channels_again s.channels h.six h.channels i }
 
 -- what is read is in the bytes
-pub keeps_synth : (bytes : List ℕ) (s : SavedSynth) → IsBytes bytes → length bytes ≡ 741 → s ≡ synth_at bytes → Keeps synth_fields bytes s
+pub keeps_synth : (bytes : List ℕ) (s : SavedSynth) → IsBytes bytes → length bytes ≡ synth_size → s ≡ synth_at bytes → Keeps synth_fields bytes s
 keeps_synth bytes s fits long e = kept synth_fields bytes s fits (subst (λ (t : SavedSynth). Stand 0 (synth_fields t) bytes) (sym e) (synth_stands bytes long))

@@ -17,6 +17,10 @@ use Rattle.fm_chip.specs.declared.saved_operator.SavedOperator.{SavedOperator}
 use Rattle.fm_chip.specs.declared.saved_synth.SavedLast.{SavedLast}
 use Rattle.fm_chip.specs.declared.saved_synth.SavedSynth.{SavedSynth}
 
+-- how many bytes keep a chip
+abbrev pub synth_size : ℕ
+synth_size = 741
+
 -- ---- an operator, and the four of a channel
 
 -- the number of an envelope's state
@@ -243,4 +247,4 @@ pub record SpellsSynth (bytes : List ℕ) (s : Synth) : Type 0 where
 
 -- bytes that keep no chip are refused at this place
 abbrev pub SynthInvalidAt : List ℕ → ℕ → Type 0
-SynthInvalidAt bytes place = IsRefused 741 synth_fields bytes place
+SynthInvalidAt bytes place = IsRefused synth_size synth_fields bytes place

@@ -20,4 +20,5 @@ mod synth;
 
 pub use channels::Channel;
 pub use operator::Operator;
+pub use spelling::SYNTH_SIZE;
 pub use synth::FmSynth;

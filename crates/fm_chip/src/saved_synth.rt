@@ -110,7 +110,7 @@ fn is_output(word: u16) -> bool
 impl SavedSynth {
     /// The numbers in the bytes.
     pub fn read(bytes: &[u8]) -> SavedSynth
-        requires { length bytes.now ≡ 741 }
+        requires { length bytes.now ≡ meaning.synth_size }
         ensures { result ≡ meaning.synth_at bytes.now }
     {
         SavedSynth {
@@ -234,9 +234,9 @@ impl SavedSynth {
 
     /// Appends the bytes of all fields.
     pub fn put(&self, into: &mut Vec<u8>)
-        requires { vec_len into.old + 741 ≤ vec_capacity into.old }
+        requires { vec_len into.old + meaning.synth_size ≤ vec_capacity into.old }
         ensures bytes { into.new.items ≡ into.old.items ++ spelling (meaning.synth_fields self.now) }
-        ensures length { vec_len into.new ≡ vec_len into.old + 741 }
+        ensures length { vec_len into.new ≡ vec_len into.old + meaning.synth_size }
         ensures room { vec_capacity into.old ≤ vec_capacity into.new }
     {
         self.put_head(into);
@@ -252,7 +252,7 @@ impl SavedSynth {
 
 /// The registers at the start of the bytes.
 fn registers_at(bytes: &[u8]) -> [u8; 512]
-    requires { length bytes.now ≡ 741 }
+    requires { length bytes.now ≡ meaning.synth_size }
     ensures { result ≡ take 512 (drop 0 bytes.now) }
 {
     let mut registers = [0; 512];
@@ -262,7 +262,7 @@ fn registers_at(bytes: &[u8]) -> [u8; 512]
 
 /// The latches after them.
 fn latches_at(bytes: &[u8]) -> [u8; 9]
-    requires { length bytes.now ≡ 741 }
+    requires { length bytes.now ≡ meaning.synth_size }
     ensures { result ≡ take 9 (drop 512 bytes.now) }
 {
     let mut latches = [0; 9];

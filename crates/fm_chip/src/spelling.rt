@@ -1,7 +1,7 @@
 ghost use Rattle.std.specs.Prelude.{◌≡◌, ◌≢◌, ◌↔◌, ◌+◌, ◌≤◌, ◌++◌, ℕ, vec_len, vec_capacity, IfErr, IfOk, IsErrOf, Ok, Err};
 ghost use Rattle.md_fields.specs.Items.{IsRight, Keeps};
 ghost use Rattle.fm_chip.specs.Synth.{IsSynth, Synth};
-ghost use Rattle.fm_chip.specs.SynthSpelling.{SpellsSynth, SynthInvalidAt, saved_synth_of, synth_bytes, synth_fields, synth_from};
+ghost use Rattle.fm_chip.specs.SynthSpelling.{SpellsSynth, SynthInvalidAt, saved_synth_of, synth_bytes, synth_fields, synth_from, synth_size};
 
 use crate::kept::Kept;
 use crate::lfo::Lfo;
@@ -11,16 +11,16 @@ use crate::synth::FmSynth;
 use md_word::Unspell;
 use std::alloc::Global;
 
-/// How many bytes keep a synthesis.
-const LENGTH: usize = 741;
+/// How many bytes of a saved state keep a synthesis.
+pub const SYNTH_SIZE: usize = 741;
 
 impl FmSynth {
-    /// Appends the bytes of a saved state that keep this chip, 741. There is room for them. They are read
+    /// Appends the bytes of a saved state that keep this chip, `SYNTH_SIZE`. There is room for them. They are read
     /// again.
     pub fn spell(&self, _at: u64, into: &mut Vec<u8>)
-        requires { vec_len into.old + 741 ≤ vec_capacity into.old }
+        requires { vec_len into.old + synth_size ≤ vec_capacity into.old }
         ensures bytes { into.new.items ≡ into.old.items ++ synth_bytes self.now }
-        ensures length { vec_len into.new ≡ vec_len into.old + 741 }
+        ensures length { vec_len into.new ≡ vec_len into.old + synth_size }
         ensures room { vec_capacity into.old ≤ vec_capacity into.new }
         ensures kept { SpellsSynth (synth_bytes self.now) self.now }
     {
@@ -60,7 +60,7 @@ impl FmSynth {
     }
 
     /// The chip that the bytes of a saved state keep. It takes no memory, and fails with `Rule` alone.
-    /// Bytes that are not 741 are refused at the lesser of their number and 741, others at the offset of
+    /// Bytes that are not 741 are refused at the lesser of their number and that, others at the offset of
     /// the first field whose rule fails. The oscillator's place is to be below 128 and its count below
     /// 108, the counter of the envelopes below 4,096, a phase below 2^20, an attenuation at most 1,023, a
     /// state 0 to 3, a key 0 or 1. The last outputs of a channel are from −8,192 to 8,191, and are
@@ -103,8 +103,8 @@ fn saved_of(bytes: &[u8]) -> Result<SavedSynth, usize>
     ensures found { IfOk result (λ saved. Keeps synth_fields bytes.now saved × IsRight synth_fields saved) }
     ensures refused { IfErr result (λ place. SynthInvalidAt bytes.now place) }
 {
-    if bytes.len() != LENGTH {
-        return Err(bytes.len().min(LENGTH));
+    if bytes.len() != SYNTH_SIZE {
+        return Err(bytes.len().min(SYNTH_SIZE));
     }
     let saved = SavedSynth::read(bytes);
     match saved.invalid() {

@@ -28,7 +28,7 @@ use Rattle.sound_writes.proofs.Entries.{Layout, entries_count}
 use Rattle.sound_writes.proofs.Ports.{Room, all_right, chips_kept, entries_again, entries_back, entries_fit, few_writes, list_bytes, list_right, list_within, list_invalid, right_writes, zeros_after, zeros_kept}
 use Rattle.md_fields.proofs.Tables.{within_append, first_following, first_front, spelling_append}
 use Rattle.fm_port.specs.Port.{IsPort, Port}
-use Rattle.fm_port.specs.PortSpelling.{are_saved_timers, PortInvalidAt, SavedPort, SpellsPort, are_right, at_most_2, are_writes, is_next, is_write, key_of, list_fields, number_fields, port_bytes, port_fields, port_from, port_with, saved_numbers, saved_port_of, saved_write_of, write_at, write_fields, write_from, writes_at, writes_from}
+use Rattle.fm_port.specs.PortSpelling.{PortInvalidAt, SavedPort, SpellsPort, are_right, are_saved_timers, are_writes, at_most_2, count_offset, entries_offset, entries_size, is_next, is_write, key_of, list_fields, number_fields, port_bytes, port_fields, port_from, port_size, port_with, saved_numbers, saved_port_of, saved_write_of, write_at, write_fields, write_from, writes_at, writes_from}
 use Rattle.fm_port.specs.declared.saved_port.SavedPort.{SavedPort as Numbers}
 use Rattle.fm_port.specs.declared.saved_write.SavedWrite.{SavedWrite}
 use Rattle.fm_port.specs.declared.write.FmWrite.{FmWrite}
@@ -64,7 +64,7 @@ write_layout = record {
       (λ i. record { cycle = h.0 i; chip = h.1.0 i; port = port i; register = register i; value = value i });
 }
 
-pub room : Room 12 12288
+pub room : Room 12 entries_size
 room = record { few = λ count few. omega (arith, few); unused = λ count. omega arith }
 
 abbrev made : (key : Key) (port register value : ℕ) → port ≤ 2 → FmWrite
@@ -99,11 +99,11 @@ all_again (w ∷ ws) e = let p = and_parts _ _ e in λ i. saved_again w p.0 i �
 
 -- ---- a port
 
-pub number_size : (at : ℕ) (s : Numbers) → sizes (number_fields at s) ≡ 26
+pub number_size : (at : ℕ) (s : Numbers) → sizes (number_fields at s) ≡ count_offset
 unfolding sizes
 number_size at s = refl
 
-pub table : (at : ℕ) → Table 12316 (port_fields at)
+pub table : (at : ℕ) → Table port_size (port_fields at)
 unfolding sizes values_at
 table at = record {
   back = λ values. record {
@@ -131,28 +131,28 @@ table at = record {
 
 -- what is in the bytes beside latches and timers
 abbrev pub count_in : List ℕ → ℕ
-count_in bytes = number_at w16 26 bytes
+count_in bytes = number_at w16 count_offset bytes
 
 abbrev pub entries_in : List ℕ → List ℕ
-entries_in bytes = take 12288 (drop 28 bytes)
+entries_in bytes = take entries_size (drop entries_offset bytes)
 
 abbrev pub read_port : List ℕ → Numbers → SavedPort
 read_port bytes s = record { numbers = s; count = count_in bytes; entries = entries_in bytes }
 
 -- the numbers are at the start of the bytes
 abbrev pub IsHead : List ℕ → Numbers → Type 0
-IsHead bytes s = (at : ℕ) (rest : List Field) → Stand 26 rest bytes → Stand 0 (number_fields at s ++ rest) bytes
+IsHead bytes s = (at : ℕ) (rest : List Field) → Stand count_offset rest bytes → Stand 0 (number_fields at s ++ rest) bytes
 
-list_stands : (at : ℕ) (bytes : List ℕ) (s : Numbers) → length bytes ≡ 12316 → Stand 26 (list_fields at (read_port bytes s)) bytes
+list_stands : (at : ℕ) (bytes : List ℕ) (s : Numbers) → length bytes ≡ port_size → Stand count_offset (list_fields at (read_port bytes s)) bytes
 unfolding Stand
 list_stands at bytes s long = (refl, (refl, long))
 
-keeps_port : (at : ℕ) (bytes : List ℕ) (s : Numbers) → IsBytes bytes → length bytes ≡ 12316 → IsHead bytes s → Keeps (port_fields at) bytes (read_port bytes s)
+keeps_port : (at : ℕ) (bytes : List ℕ) (s : Numbers) → IsBytes bytes → length bytes ≡ port_size → IsHead bytes s → Keeps (port_fields at) bytes (read_port bytes s)
 keeps_port at bytes s fits long head =
     kept (port_fields at) bytes (read_port bytes s) fits (head at (list_fields at (read_port bytes s)) (list_stands at bytes s long))
 
 -- a rule of a number fails, and that of the writes
-pub breaks_number : (at : ℕ) (bytes : List ℕ) (s : Numbers) (place : ℕ) → IsBytes bytes → length bytes ≡ 12316 → IsHead bytes s
+pub breaks_number : (at : ℕ) (bytes : List ℕ) (s : Numbers) (place : ℕ) → IsBytes bytes → length bytes ≡ port_size → IsHead bytes s
     → first_invalid 0 (number_fields at s) ≡ Some place → PortInvalidAt at bytes place
 breaks_number at bytes s place fits long head e =
     inr (record {
@@ -161,17 +161,17 @@ breaks_number at bytes s place fits long head e =
       first = first_front 0 place (number_fields at s) (list_fields at (read_port bytes s)) e;
     })
 
-following : (at : ℕ) (s : SavedPort) → first_invalid 0 (number_fields at s.numbers) ≡ None → first_invalid 0 (port_fields at s) ≡ first_invalid 26 (list_fields at s)
+following : (at : ℕ) (s : SavedPort) → first_invalid 0 (number_fields at s.numbers) ≡ None → first_invalid 0 (port_fields at s) ≡ first_invalid count_offset (list_fields at s)
 following at s e =
     first_following 0 (number_fields at s.numbers) (list_fields at s) e ∙ ap (λ (n : ℕ). first_invalid n (list_fields at s)) (omega (arith, number_size at s.numbers))
 
-pub breaks_writes : (at : ℕ) (bytes : List ℕ) (s : Numbers) → IsBytes bytes → length bytes ≡ 12316 → IsHead bytes s
-    → first_invalid 0 (number_fields at s) ≡ None → are_writes at (count_in bytes) (entries_in bytes) ≡ false → PortInvalidAt at bytes 26
+pub breaks_writes : (at : ℕ) (bytes : List ℕ) (s : Numbers) → IsBytes bytes → length bytes ≡ port_size → IsHead bytes s
+    → first_invalid 0 (number_fields at s) ≡ None → are_writes at (count_in bytes) (entries_in bytes) ≡ false → PortInvalidAt at bytes count_offset
 breaks_writes at bytes s fits long head none e =
     inr (record {
       saved = read_port bytes s;
       keeps = keeps_port at bytes s fits long head;
-      first = following at (read_port bytes s) none ∙ list_invalid 26 12288 (are_writes at (count_in bytes) (entries_in bytes)) (count_in bytes) (entries_in bytes) e;
+      first = following at (read_port bytes s) none ∙ list_invalid count_offset entries_size (are_writes at (count_in bytes) (entries_in bytes)) (count_in bytes) (entries_in bytes) e;
     })
 
 -- ---- what the rules say
@@ -198,7 +198,7 @@ rule_of : (at : ℕ) (s : SavedPort) → IsRight (port_fields at) s → are_writ
 rule_of at s right = rule_at 0 (port_fields at s) right 12
 
 -- what is kept, whose rules hold, is that of its port
-port_back : (at : ℕ) (s : SavedPort) → length s.entries ≡ 12288 → IsBytes s.entries → IsRight (port_fields at) s → saved_port_of (port_from s) ≡ s
+port_back : (at : ℕ) (s : SavedPort) → length s.entries ≡ entries_size → IsBytes s.entries → IsRight (port_fields at) s → saved_port_of (port_from s) ≡ s
 port_back at s long fits right =
     let n : Numbers = s.numbers in
     let a = rules_a at s right in
@@ -207,8 +207,8 @@ port_back at s long fits right =
     let ws = writes_at s.count s.entries in
     let again : map saved_write_of (map write_from ws) ≡ ws = all_again ws (and_parts _ _ (right_writes 12 write_at (are_right at) s.count s.entries e)).0 in
     let count : length (map write_from ws) ≡ s.count = length-map ws write_from ∙ entries_count write_layout s.count 0 s.entries in
-    let back : padded 12288 (entries_bytes write_fields (map saved_write_of (map write_from ws))) ≡ s.entries =
-    ap (λ (l : List SavedWrite). padded 12288 (entries_bytes write_fields l)) again
+    let back : padded entries_size (entries_bytes write_fields (map saved_write_of (map write_from ws))) ≡ s.entries =
+    ap (λ (l : List SavedWrite). padded entries_size (entries_bytes write_fields l)) again
     ∙ entries_back write_layout room s.count s.entries long fits (few_writes 12 write_at (are_right at) s.count s.entries e) (zeros_after 12 write_at (are_right at) s.count s.entries e) in
     λ i. record {
       numbers = record n { run_a = flag_back n.run_a a.run i; run_b = flag_back n.run_b b.run i; flag_a = flag_back n.flag_a a.flag i; flag_b = flag_back n.flag_b b.flag i };
@@ -217,12 +217,12 @@ port_back at s long fits right =
     }
 
 -- the numbers of writes are those of what is kept of them, and so are the writes
-numbers_again : (ws : List FmWrite) → AreFit write_fields (map saved_write_of ws) → writes_at (length ws) (padded 12288 (entries_bytes write_fields (map saved_write_of ws))) ≡ map saved_write_of ws
+numbers_again : (ws : List FmWrite) → AreFit write_fields (map saved_write_of ws) → writes_at (length ws) (padded entries_size (entries_bytes write_fields (map saved_write_of ws))) ≡ map saved_write_of ws
 numbers_again ws fit =
-    ap (λ (n : ℕ). writes_at n (padded 12288 (entries_bytes write_fields (map saved_write_of ws)))) (sym (length-map ws saved_write_of))
+    ap (λ (n : ℕ). writes_at n (padded entries_size (entries_bytes write_fields (map saved_write_of ws)))) (sym (length-map ws saved_write_of))
     ∙ entries_again write_layout room (map saved_write_of ws) fit
 
-list_again : (ws : List FmWrite) → AreFit write_fields (map saved_write_of ws) → writes_from (length ws) (padded 12288 (entries_bytes write_fields (map saved_write_of ws))) ≡ ws
+list_again : (ws : List FmWrite) → AreFit write_fields (map saved_write_of ws) → writes_from (length ws) (padded entries_size (entries_bytes write_fields (map saved_write_of ws))) ≡ ws
 list_again ws fit = ap (map write_from) (numbers_again ws fit) ∙ writes_again ws
 
 -- a port is that of what is kept of it
@@ -237,14 +237,14 @@ port_again p fit = λ i. record p {
 
 -- ---- what is read
 
-pub port_read : (at : ℕ) (bytes : List ℕ) (s : Numbers) → IsBytes bytes → length bytes ≡ 12316 → IsHead bytes s
+pub port_read : (at : ℕ) (bytes : List ℕ) (s : Numbers) → IsBytes bytes → length bytes ≡ port_size → IsHead bytes s
     → first_invalid 0 (number_fields at s) ≡ None → are_writes at (count_in bytes) (entries_in bytes) ≡ true
     → SpellsPort at bytes (port_with s (writes_from (count_in bytes) (entries_in bytes)))
 port_read at bytes s fits long head none e =
     let k : SavedPort = read_port bytes s in
-    let size : length k.entries ≡ 12288 = omega (arith, length-take 12288 (drop 28 bytes), length-drop 28 bytes, long) in
-    let inner : IsBytes k.entries = IsBytes-take 12288 (drop 28 bytes) (IsBytes-drop 28 bytes fits) in
-    let right : IsRight (port_fields at) k = following at k none ∙ list_right 26 12288 (are_writes at k.count k.entries) k.count k.entries e in
+    let size : length k.entries ≡ entries_size = omega (arith, length-take entries_size (drop entries_offset bytes), length-drop entries_offset bytes, long) in
+    let inner : IsBytes k.entries = IsBytes-take entries_size (drop entries_offset bytes) (IsBytes-drop entries_offset bytes fits) in
+    let right : IsRight (port_fields at) k = following at k none ∙ list_right count_offset entries_size (are_writes at k.count k.entries) k.count k.entries e in
     let both = read_back (table at) saved_port_of port_from bytes k (port_back at k size inner right) (keeps_port at bytes s fits long head) right in
     let fit : AreFit write_fields (writes_at k.count k.entries) = entries_fit write_layout room k.count k.entries size inner (few_writes 12 write_at (are_right at) k.count k.entries e) in
     record {
@@ -306,7 +306,7 @@ parts_are at p =
     ap (λ (l : List ℕ). spelling (number_fields at (saved_numbers p)) ++ l)
     (ap (λ (n : ℕ). to_be_bytes w16 n ++ (entries_bytes write_fields es ++ replicate (12 * (1024 - n)) 0)) (sym count)
     ∙ list_bytes write_layout room (are_writes 0 (length p.writes) (saved_port_of p).entries) es
-    ∙ ap (λ (n : ℕ). spelling (ports.list_fields 12288 (are_writes 0 (length p.writes) (saved_port_of p).entries) n (saved_port_of p).entries)) count)
+    ∙ ap (λ (n : ℕ). spelling (ports.list_fields entries_size (are_writes 0 (length p.writes) (saved_port_of p).entries) n (saved_port_of p).entries)) count)
     ∙ sym (spelling_append (number_fields 0 (saved_numbers p)) (list_fields 0 (saved_port_of p)))
 
 -- ---- a port whose rules hold is kept by its bytes
@@ -349,10 +349,10 @@ port_kept at p few within fit timed right =
     let zeros : are_zeros (drop (12 * length p.writes) s.entries) ≡ true = ap (λ (n : ℕ). are_zeros (drop (12 * n) s.entries)) (sym count) ∙ zeros_kept write_layout room es in
     let holds : are_writes at s.count s.entries ≡ true = all_right 12 write_at (are_right at) s.count s.entries few (ap (are_right at) (numbers_again p.writes fit) ∙ right) zeros in
     let list : AreWithin (list_fields at s) =
-    subst (λ (n : ℕ). AreWithin (ports.list_fields 12288 (are_writes at s.count s.entries) n s.entries)) count
+    subst (λ (n : ℕ). AreWithin (ports.list_fields entries_size (are_writes at s.count s.entries) n s.entries)) count
     (list_within write_layout room (are_writes at s.count s.entries) es (omega (arith, count, few))) in
     record {
       keeps = record { within = within_append (number_fields at (saved_numbers p)) (list_fields at s) within list; all = same_bytes at p };
-      right = following at s (numbers_right at p timed) ∙ list_right 26 12288 (are_writes at s.count s.entries) s.count s.entries holds;
+      right = following at s (numbers_right at p timed) ∙ list_right count_offset entries_size (are_writes at s.count s.entries) s.count s.entries holds;
       fit = fit;
     }

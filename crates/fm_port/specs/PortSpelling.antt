@@ -21,6 +21,22 @@ use Rattle.fm_port.specs.declared.timer.Timer.{Timer}
 use Rattle.fm_port.specs.declared.timers.Timers.{Timers}
 use Rattle.fm_port.specs.declared.write.FmWrite.{FmWrite}
 
+-- how many bytes keep a port
+abbrev pub port_size : ℕ
+port_size = 12316
+
+-- the offset of the number of the writes, after latches and timers
+abbrev pub count_offset : ℕ
+count_offset = 26
+
+-- the offset of the writes
+abbrev pub entries_offset : ℕ
+entries_offset = 28
+
+-- how many bytes the writes and the unused places have
+abbrev pub entries_size : ℕ
+entries_size = 12288
+
 -- ---- a write
 
 -- the numbers of a write as fields
@@ -112,7 +128,7 @@ number_fields at s =
 
 -- the fields of the writes: count and writes are one field, whose rule is at the first field
 abbrev pub list_fields : ℕ → SavedPort → List Field
-list_fields at s = ports.list_fields 12288 (are_writes at s.count s.entries) s.count s.entries
+list_fields at s = ports.list_fields entries_size (are_writes at s.count s.entries) s.count s.entries
 
 -- all fields in their order, and their rules, by the cycle of the state
 abbrev pub port_fields : ℕ → SavedPort → List Field
@@ -140,7 +156,7 @@ abbrev pub saved_port_of : Port → SavedPort
 saved_port_of p = record {
   numbers = saved_numbers p;
   count = length p.writes;
-  entries = padded 12288 (entries_bytes write_fields (map saved_write_of p.writes));
+  entries = padded entries_size (entries_bytes write_fields (map saved_write_of p.writes));
 }
 
 -- the timer of which these numbers are kept
@@ -186,4 +202,4 @@ pub record SpellsPort (at : ℕ) (bytes : List ℕ) (p : Port) : Type 0 where
 
 -- bytes that keep no port are refused at this place
 abbrev pub PortInvalidAt : ℕ → List ℕ → ℕ → Type 0
-PortInvalidAt at bytes place = IsRefused 12316 (port_fields at) bytes place
+PortInvalidAt at bytes place = IsRefused port_size (port_fields at) bytes place

@@ -10,4 +10,5 @@ mod timers;
 mod write;
 
 pub use port::FmPort;
+pub use spelling::{COUNT_OFFSET, PORT_SIZE};
 pub use write::{FmList, FmWrite, RESET};

@@ -33,8 +33,8 @@ impl SavedPort {
     /// The numbers in the bytes.
     #[tactic(auto, unfolding(md_fields::specs::Places::Stand))]
     pub fn read(bytes: &[u8]) -> SavedPort
-        requires { 26 ≤ length bytes.now }
-        ensures { (at : ℕ) (rest : List Entry) → Stand 26 rest bytes.now → Stand 0 (meaning.number_fields at result ++ rest) bytes.now }
+        requires { meaning.count_offset ≤ length bytes.now }
+        ensures { (at : ℕ) (rest : List Entry) → Stand meaning.count_offset rest bytes.now → Stand 0 (meaning.number_fields at result ++ rest) bytes.now }
     {
         SavedPort {
             first: u8_at(bytes, 0),

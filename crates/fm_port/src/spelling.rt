@@ -3,7 +3,7 @@ ghost use Rattle.md_word.specs.Clock.{cycle_limit};
 ghost use Rattle.fm_port.specs.Port.{IsPort, Port};
 ghost use Rattle.fm_port.specs.Timed.{AreTimed};
 ghost use Rattle.fm_port.specs.PortSpelling as meaning;
-ghost use Rattle.fm_port.specs.PortSpelling.{PortInvalidAt, SpellsPort, port_bytes, settled_port};
+ghost use Rattle.fm_port.specs.PortSpelling.{PortInvalidAt, SpellsPort, port_bytes, port_size, settled_port};
 ghost use Rattle.fm_port.specs.declared.write.FmWrite.{FmWrite as Write};
 
 use crate::port::FmPort;
@@ -16,22 +16,24 @@ use md_word::Unspell;
 use sound_writes::{MOST, are_saved, known_writes, put_count, put_writes, put_zeros, read_writes};
 use std::alloc::Global;
 
-/// The offsets of the number of the writes and of the writes, and how many bytes keep a port.
-const COUNT: usize = 26;
+/// How many bytes of a saved state keep a port.
+pub const PORT_SIZE: usize = 12_316;
 
-const ENTRIES: usize = 28;
+/// The offset of the number of the writes, after latches and timers.
+pub const COUNT_OFFSET: usize = 26;
 
-const LENGTH: usize = 12_316;
+/// The offset of the writes.
+const ENTRIES_OFFSET: usize = 28;
 
 impl FmPort {
-    /// Appends the bytes of a saved state at a cycle, of at most 2^50, that keep this port, 12,316: the
+    /// Appends the bytes of a saved state at a cycle, of at most 2^50, that keep this port, `PORT_SIZE`: the
     /// overflows of its timers below the cycle are made there. There is room for them. Where its rules
     /// hold at the cycle, the bytes keep the port that is settled there.
     pub fn spell(&self, at: u64, into: &mut Vec<u8>)
         requires cycle { at ≤ cycle_limit }
-        requires room { vec_len into.old + 12316 ≤ vec_capacity into.old }
+        requires room { vec_len into.old + port_size ≤ vec_capacity into.old }
         ensures bytes { into.new.items ≡ into.old.items ++ port_bytes (settled_port at self.now) }
-        ensures length { vec_len into.new ≡ vec_len into.old + 12316 }
+        ensures length { vec_len into.new ≡ vec_len into.old + port_size }
         ensures room { vec_capacity into.old ≤ vec_capacity into.new }
         ensures kept { AreTimed at self.now.timers → meaning.are_right at (map meaning.saved_write_of self.now.writes) ≡ true
             → SpellsPort at (port_bytes (settled_port at self.now)) (settled_port at self.now) }
@@ -63,11 +65,11 @@ impl FmPort {
 
     /// The port that the bytes of a saved state at a cycle, at most 2^50, keep. It takes no memory, and
     /// fails with `Rule` alone. Bytes that are not 12,316 are refused at the lesser of their number and
-    /// 12,316, others at the offset of the first field whose rule fails. A timer's run is its bit of
+    /// that, others at the offset of the first field whose rule fails. A timer's run is its bit of
     /// register 27; its next overflow is less than the longest period after the cycle, or is 0 where it
     /// is stopped; flags are 0 or 1.
     ///
-    /// Count and writes are refused at 26. There may be at most 1,024, each for a port or a reset, which
+    /// Count and writes are refused at `COUNT_OFFSET`. There may be at most 1,024, each for a port or a reset, which
     /// is the 68000's and has no register and no value; an unused place is 0. Their keys are the two
     /// processors', rise, are from the last batch before the cycle on and below the cycle, and are at
     /// least 28 cycles apart for the 68000 and 45 for the Z80.
@@ -119,17 +121,17 @@ fn parts_of(bytes: &[u8], at: u64, into: &mut FmList) -> Result<SavedPort, usize
     ensures found { IfOk result (λ saved. SpellsPort at bytes.now (meaning.port_with saved into.new.items)) }
     ensures refused { IfErr result (λ place. PortInvalidAt at bytes.now place) }
 {
-    if bytes.len() != LENGTH {
-        return Err(bytes.len().min(LENGTH));
+    if bytes.len() != PORT_SIZE {
+        return Err(bytes.len().min(PORT_SIZE));
     }
     let numbers = SavedPort::read(bytes);
     if let Some(place) = first_invalid(&numbers.fields(at)) {
         return Err(place);
     }
-    let count = usize::from(u16_at(bytes, COUNT));
-    let entries = &bytes[ENTRIES..LENGTH];
+    let count = usize::from(u16_at(bytes, COUNT_OFFSET));
+    let entries = &bytes[ENTRIES_OFFSET..PORT_SIZE];
     if !are_saved::<SavedWrite>(entries, count, at) {
-        return Err(COUNT);
+        return Err(COUNT_OFFSET);
     }
     read_writes::<SavedWrite>(entries, count, into);
     Ok(numbers)

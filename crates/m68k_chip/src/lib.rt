@@ -21,3 +21,4 @@ mod stage;
 mod watched;
 
 pub use chip::Chip68;
+pub use saved::CHIP_SIZE;

@@ -16,7 +16,7 @@ use rom_header::Cart;
 use std::marker::Model;
 
 /// How many bytes of a saved state keep a 68000.
-pub const LENGTH: usize = 65_714;
+pub const CHIP_SIZE: usize = 65_714;
 
 /// Where work RAM is among them.
 pub const RAM: usize = 178;
@@ -202,8 +202,8 @@ impl<'a> Saved68<'a> {
         ensures found { IfOk result (λ s. IsKept cart.now at bytes.now (state_of s (ram_in bytes.now)) s.request s.predicted) }
         ensures refused { IfErr result (λ place. InvalidAt cart.now at bytes.now place) }
     {
-        if bytes.len() != LENGTH {
-            return Err(bytes.len().min(LENGTH));
+        if bytes.len() != CHIP_SIZE {
+            return Err(bytes.len().min(CHIP_SIZE));
         }
         let saved = Saved68::read(bytes);
         if let Some(place) = first_invalid(&saved.fields(at, true)) {
@@ -224,7 +224,7 @@ fn ram_at(bytes: &[u8]) -> &[u8; 65536]
     ensures value { result.now ≡ ram_in bytes.now }
     ensures size { length result.now ≡ 0x1_0000 }
 {
-    match bytes[RAM..LENGTH].as_array() {
+    match bytes[RAM..CHIP_SIZE].as_array() {
         Some(ram) => ram,
         None => unreachable!(),
     }

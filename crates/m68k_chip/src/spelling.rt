@@ -6,7 +6,7 @@ ghost use Rattle.m68k_chip.specs.States.{State68};
 use crate::chip::Chip68;
 use crate::iteration::Iteration;
 use crate::known::{known_next, known_regs};
-use crate::saved::{LENGTH, RAM, Saved68};
+use crate::saved::{CHIP_SIZE, RAM, Saved68};
 use m68k_exec::{DecodeCache, Progress};
 use md_fields::put;
 use md_word::{NoMemory, Unspell};
@@ -84,6 +84,6 @@ fn copied(alloc: Global, bytes: &[u8]) -> Result<Box<[u8; 65536]>, NoMemory>
     ensures { IfOk result (λ ram. ram.value ≡ ram_in bytes.now) }
 {
     let mut ram = Box::new(alloc, [0; 65536])?;
-    ram.copy_from_slice(&bytes[RAM..LENGTH]);
+    ram.copy_from_slice(&bytes[RAM..CHIP_SIZE]);
     Ok(ram)
 }

@@ -19,7 +19,7 @@ use Rattle.sound_writes.specs.Ports as ports
 use Rattle.sound_writes.proofs.Entries.{Layout, entries_count}
 use Rattle.sound_writes.proofs.Ports.{Room, all_right, chips_kept, entries_again, entries_back, entries_fit, few_writes, list_bytes, list_right, list_within, list_invalid, right_writes, zeros_after, zeros_kept}
 use Rattle.psg_sound.specs.Port.{IsPort}
-use Rattle.psg_sound.specs.PortSpelling.{PortInvalidAt, SavedPort, SpellsPort, are_right, are_writes, key_of, port_bytes, port_fields, saved_port_of, write_at, write_fields, writes_at}
+use Rattle.psg_sound.specs.PortSpelling.{PortInvalidAt, SavedPort, SpellsPort, are_right, are_writes, entries_offset, entries_size, key_of, port_bytes, port_fields, port_size, saved_port_of, write_at, write_fields, writes_at}
 use Rattle.psg_sound.specs.declared.write.PsgWrite.{PsgWrite}
 
 -- ---- a write
@@ -44,12 +44,12 @@ all_right_there : (ws : List PsgWrite) → list_all (λ w. true) ws ≡ true
 all_right_there [] = refl
 all_right_there (w ∷ ws) = all_right_there ws
 
-pub room : Room 10 10240
+pub room : Room 10 entries_size
 room = record { few = λ count few. omega (arith, few); unused = λ count. omega arith }
 
 -- ---- a port
 
-pub table : (at : ℕ) → Table 10242 (port_fields at)
+pub table : (at : ℕ) → Table port_size (port_fields at)
 unfolding sizes values_at
 table at = record {
   back = λ values. record { count = number_in values 0; entries = list_in values 1 };
@@ -60,43 +60,43 @@ table at = record {
 
 -- what is in the bytes
 abbrev pub read_port : List ℕ → SavedPort
-read_port bytes = record { count = number_at w16 0 bytes; entries = take 10240 (drop 2 bytes) }
+read_port bytes = record { count = number_at w16 0 bytes; entries = take entries_size (drop entries_offset bytes) }
 
-stands_port : (at : ℕ) (bytes : List ℕ) → length bytes ≡ 10242 → Stand 0 (port_fields at (read_port bytes)) bytes
+stands_port : (at : ℕ) (bytes : List ℕ) → length bytes ≡ port_size → Stand 0 (port_fields at (read_port bytes)) bytes
 unfolding Stand
 stands_port at bytes long = (refl, (refl, long))
 
-keeps_port : (at : ℕ) (bytes : List ℕ) → IsBytes bytes → length bytes ≡ 10242 → Keeps (port_fields at) bytes (read_port bytes)
+keeps_port : (at : ℕ) (bytes : List ℕ) → IsBytes bytes → length bytes ≡ port_size → Keeps (port_fields at) bytes (read_port bytes)
 keeps_port at bytes fits long = kept (port_fields at) bytes (read_port bytes) fits (stands_port at bytes long)
 
-entries_long : (bytes : List ℕ) → length bytes ≡ 10242 → length (take 10240 (drop 2 bytes)) ≡ 10240
-entries_long bytes long = omega (arith, length-take 10240 (drop 2 bytes), length-drop 2 bytes, long)
+entries_long : (bytes : List ℕ) → length bytes ≡ port_size → length (take entries_size (drop entries_offset bytes)) ≡ entries_size
+entries_long bytes long = omega (arith, length-take entries_size (drop entries_offset bytes), length-drop entries_offset bytes, long)
 
 -- the rule fails
-pub breaks_port : (at : ℕ) (bytes : List ℕ) → IsBytes bytes → length bytes ≡ 10242 → are_writes at (read_port bytes) ≡ false → PortInvalidAt at bytes 0
+pub breaks_port : (at : ℕ) (bytes : List ℕ) → IsBytes bytes → length bytes ≡ port_size → are_writes at (read_port bytes) ≡ false → PortInvalidAt at bytes 0
 breaks_port at bytes fits long e =
     let s : SavedPort = read_port bytes in
-    inr (record { saved = s; keeps = keeps_port at bytes fits long; first = list_invalid 0 10240 (are_writes at s) s.count s.entries e })
+    inr (record { saved = s; keeps = keeps_port at bytes fits long; first = list_invalid 0 entries_size (are_writes at s) s.count s.entries e })
 
 -- the writes of what is kept, whose rule holds, are kept so
-port_back : (at : ℕ) (s : SavedPort) → length s.entries ≡ 10240 → IsBytes s.entries → are_writes at s ≡ true → saved_port_of (writes_at s.count s.entries) ≡ s
+port_back : (at : ℕ) (s : SavedPort) → length s.entries ≡ entries_size → IsBytes s.entries → are_writes at s ≡ true → saved_port_of (writes_at s.count s.entries) ≡ s
 port_back at s long fits e =
     let count = entries_count write_layout s.count 0 s.entries in
     let back = entries_back write_layout room s.count s.entries long fits (few_writes 10 write_at (are_right at) s.count s.entries e) (zeros_after 10 write_at (are_right at) s.count s.entries e) in
     λ i. record { count = count i; entries = back i }
 
 -- writes are those of what is kept of them
-pub writes_again : (ws : List PsgWrite) → AreFit write_fields ws → writes_at (length ws) (padded 10240 (entries_bytes write_fields ws)) ≡ ws
+pub writes_again : (ws : List PsgWrite) → AreFit write_fields ws → writes_at (length ws) (padded entries_size (entries_bytes write_fields ws)) ≡ ws
 writes_again ws fit = entries_again write_layout room ws fit
 
 -- the writes in the bytes, where the rule holds
-pub port_read : (at : ℕ) (bytes : List ℕ) → IsBytes bytes → length bytes ≡ 10242 → are_writes at (read_port bytes) ≡ true
-    → SpellsPort at bytes (writes_at (number_at w16 0 bytes) (take 10240 (drop 2 bytes)))
+pub port_read : (at : ℕ) (bytes : List ℕ) → IsBytes bytes → length bytes ≡ port_size → are_writes at (read_port bytes) ≡ true
+    → SpellsPort at bytes (writes_at (number_at w16 0 bytes) (take entries_size (drop entries_offset bytes)))
 port_read at bytes fits long e =
     let s : SavedPort = read_port bytes in
     let size = entries_long bytes long in
-    let inner : IsBytes s.entries = IsBytes-take 10240 (drop 2 bytes) (IsBytes-drop 2 bytes fits) in
-    let both = read_back (table at) saved_port_of (λ (t : SavedPort). writes_at t.count t.entries) bytes s (port_back at s size inner e) (keeps_port at bytes fits long) (list_right 0 10240 (are_writes at s) s.count s.entries e) in
+    let inner : IsBytes s.entries = IsBytes-take entries_size (drop entries_offset bytes) (IsBytes-drop entries_offset bytes fits) in
+    let both = read_back (table at) saved_port_of (λ (t : SavedPort). writes_at t.count t.entries) bytes s (port_back at s size inner e) (keeps_port at bytes fits long) (list_right 0 entries_size (are_writes at s) s.count s.entries e) in
     record {
       keeps = both.0;
       right = both.1;
@@ -155,6 +155,6 @@ port_kept at ws port fit right =
     all_right 10 write_at (are_right at) s.count s.entries port.most (ap (are_right at) (writes_again ws fit) ∙ right) (zeros_kept write_layout room ws) in
     record {
       keeps = record { within = list_within write_layout room (are_writes at s) ws port.most; all = same_bytes at ws };
-      right = list_right 0 10240 (are_writes at s) s.count s.entries holds;
+      right = list_right 0 entries_size (are_writes at s) s.count s.entries holds;
       fit = fit;
     }

@@ -6,11 +6,11 @@ use Rattle.md_fields.specs.Items.{IsRight, Keeps}
 use Rattle.md_fields.proofs.Flags.{flag_again, flag_back}
 use Rattle.md_fields.proofs.Values.{Table, fit_at, number_in, read_back, rule_at, values_at}
 use Rattle.psg_sound.specs.Synth.{IsSynth, Synth}
-use Rattle.psg_sound.specs.SynthSpelling.{SpellsSynth, is_counter, saved_synth_of, synth_fields, synth_from}
+use Rattle.psg_sound.specs.SynthSpelling.{SpellsSynth, is_counter, saved_synth_of, synth_fields, synth_from, synth_size}
 use Rattle.psg_sound.specs.declared.saved_synth.SavedSynth.{SavedSynth}
 
 -- the fields, and the numbers of their values
-pub table : Table 26 synth_fields
+pub table : Table synth_size synth_fields
 unfolding sizes values_at
 table = record {
   back = λ values. record {

@@ -13,6 +13,18 @@ use Rattle.sound_writes.specs.Ports as ports
 use Rattle.sound_writes.specs.Ports.{list_fields}
 use Rattle.psg_sound.specs.declared.write.PsgWrite.{PsgWrite}
 
+-- how many bytes keep a port
+abbrev pub port_size : ℕ
+port_size = 10242
+
+-- the offset of the writes, after their number
+abbrev pub entries_offset : ℕ
+entries_offset = 2
+
+-- how many bytes the writes and the unused places have
+abbrev pub entries_size : ℕ
+entries_size = 10240
+
 -- what is kept, whatever it is: the number of the writes, and the bytes of 1,024 of ten bytes each
 pub record SavedPort : Type 0 where
   pub count : ℕ
@@ -47,11 +59,11 @@ are_writes at s = ports.are_writes 10 write_at (are_right at) s.count s.entries
 
 -- the fields in their order, and their rules; count and writes are one, whose rule is at the first field
 abbrev pub port_fields : ℕ → SavedPort → List Field
-port_fields at s = list_fields 10240 (are_writes at s) s.count s.entries
+port_fields at s = list_fields entries_size (are_writes at s) s.count s.entries
 
 -- what is kept of a port
 abbrev pub saved_port_of : List PsgWrite → SavedPort
-saved_port_of writes = record { count = length writes; entries = padded 10240 (entries_bytes write_fields writes) }
+saved_port_of writes = record { count = length writes; entries = padded entries_size (entries_bytes write_fields writes) }
 
 -- the bytes that keep a port; the rules, and so the cycle, have no part in them
 abbrev pub port_bytes : List PsgWrite → List ℕ
@@ -65,4 +77,4 @@ pub record SpellsPort (at : ℕ) (bytes : List ℕ) (writes : List PsgWrite) : T
 
 -- bytes that keep no port are refused at this place
 abbrev pub PortInvalidAt : ℕ → List ℕ → ℕ → Type 0
-PortInvalidAt at bytes place = IsRefused 10242 (port_fields at) bytes place
+PortInvalidAt at bytes place = IsRefused port_size (port_fields at) bytes place

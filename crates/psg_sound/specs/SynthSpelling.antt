@@ -76,6 +76,10 @@ synth_fields s =
     ∷ word s.register true
     ∷ []
 
+-- how many bytes keep a chip
+abbrev pub synth_size : ℕ
+synth_size = 26
+
 -- the bytes that keep a chip
 abbrev pub synth_bytes : Synth → List ℕ
 synth_bytes s = spelling (synth_fields (saved_synth_of s))
@@ -87,4 +91,4 @@ pub record SpellsSynth (bytes : List ℕ) (s : Synth) : Type 0 where
 
 -- bytes that keep no chip are refused at this place
 abbrev pub SynthInvalidAt : List ℕ → ℕ → Type 0
-SynthInvalidAt bytes place = IsRefused 26 synth_fields bytes place
+SynthInvalidAt bytes place = IsRefused synth_size synth_fields bytes place

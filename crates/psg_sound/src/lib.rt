@@ -13,5 +13,6 @@ mod tone;
 mod write;
 
 pub use port::PsgPort;
+pub use spelling::{PORT_SIZE, SYNTH_SIZE};
 pub use synth::PsgSynth;
 pub use write::{PsgList, PsgWrite};

@@ -36,7 +36,7 @@ impl SavedSynth {
     /// The numbers in the bytes.
     #[tactic(auto, unfolding(md_fields::specs::Places::Stand))]
     pub fn read(bytes: &[u8]) -> SavedSynth
-        requires { length bytes.now ≡ 26 }
+        requires { length bytes.now ≡ meaning.synth_size }
         ensures { Stand 0 (meaning.synth_fields result) bytes.now }
     {
         SavedSynth {

@@ -2,8 +2,8 @@ ghost use Rattle.std.specs.Prelude.{◌≡◌, ◌≢◌, ◌↔◌, ◌+◌, �
 ghost use Rattle.md_fields.specs.Items.{IsRight, Keeps};
 ghost use Rattle.sound_writes.specs.Keys.{are_kept};
 ghost use Rattle.psg_sound.specs.Port.{IsPort};
-ghost use Rattle.psg_sound.specs.PortSpelling.{PortInvalidAt, SpellsPort, key_of, port_bytes};
-ghost use Rattle.psg_sound.specs.SynthSpelling.{SpellsSynth, SynthInvalidAt, saved_synth_of, synth_bytes, synth_fields};
+ghost use Rattle.psg_sound.specs.PortSpelling.{PortInvalidAt, SpellsPort, key_of, port_bytes, port_size};
+ghost use Rattle.psg_sound.specs.SynthSpelling.{SpellsSynth, SynthInvalidAt, saved_synth_of, synth_bytes, synth_fields, synth_size};
 ghost use Rattle.psg_sound.specs.Synth.{Synth};
 ghost use Rattle.psg_sound.specs.declared.write.PsgWrite.{PsgWrite as Write};
 
@@ -17,18 +17,22 @@ use md_word::Unspell;
 use sound_writes::{MOST, are_saved, known_writes, put_count, put_writes, put_zeros, read_writes};
 use std::alloc::Global;
 
-/// How many bytes keep a port, and how many a synthesis.
-const PORT: usize = 10_242;
+/// How many bytes of a saved state keep a port.
+pub const PORT_SIZE: usize = 10_242;
 
-const SYNTH: usize = 26;
+/// The offset of the writes, after their number.
+const ENTRIES_OFFSET: usize = 2;
+
+/// How many bytes of a saved state keep a synthesis.
+pub const SYNTH_SIZE: usize = 26;
 
 impl PsgPort {
-    /// Appends the bytes of a saved state that keep this port, 10,242. There is room for them. Where the
+    /// Appends the bytes of a saved state that keep this port, `PORT_SIZE`. There is room for them. Where the
     /// writes' keys are those of a state at a cycle, the bytes keep the port there.
     pub fn spell(&self, _at: u64, into: &mut Vec<u8>)
-        requires { vec_len into.old + 10242 ≤ vec_capacity into.old }
+        requires { vec_len into.old + port_size ≤ vec_capacity into.old }
         ensures bytes { into.new.items ≡ into.old.items ++ port_bytes self.now }
-        ensures length { vec_len into.new ≡ vec_len into.old + 10242 }
+        ensures length { vec_len into.new ≡ vec_len into.old + port_size }
         ensures room { vec_capacity into.old ≤ vec_capacity into.new }
         ensures kept { (at : ℕ) → are_kept at (map key_of self.now) ≡ true → SpellsPort at (port_bytes self.now) self.now }
     {
@@ -47,7 +51,7 @@ impl PsgPort {
     }
 
     /// The port that the bytes of a saved state at a cycle keep. It takes no memory, and fails with `Rule`
-    /// alone. Bytes that are not 10,242 are refused at the lesser of their number and 10,242. Others are
+    /// alone. Bytes that are not 10,242 are refused at the lesser of their number and that. Others are
     /// refused at 0 where the writes are more than 1,024, or an unused place is not 0. They are refused
     /// there, too, where the keys of the writes are none of the two processors', do not rise, are below
     /// the last batch before the cycle or not below the cycle, or are less than 28 cycles apart for the
@@ -92,11 +96,11 @@ fn port_of(bytes: &[u8], at: u64, into: &mut PsgList) -> Result<(), usize>
     ensures found { IfOk result (λ nothing. SpellsPort at bytes.now into.new.items) }
     ensures refused { IfErr result (λ place. PortInvalidAt at bytes.now place) }
 {
-    if bytes.len() != PORT {
-        return Err(bytes.len().min(PORT));
+    if bytes.len() != PORT_SIZE {
+        return Err(bytes.len().min(PORT_SIZE));
     }
     let count = usize::from(u16_at(bytes, 0));
-    let entries = &bytes[2..PORT];
+    let entries = &bytes[ENTRIES_OFFSET..PORT_SIZE];
     if !are_saved::<PsgWrite>(entries, count, at) {
         return Err(0);
     }
@@ -105,13 +109,13 @@ fn port_of(bytes: &[u8], at: u64, into: &mut PsgList) -> Result<(), usize>
 }
 
 impl PsgSynth {
-    /// Appends the bytes of a saved state that keep this chip, 26. There is room for them. They are read
+    /// Appends the bytes of a saved state that keep this chip, `SYNTH_SIZE`. There is room for them. They are read
     /// again.
     #[tactic(auto, using(crate::proofs::SynthKept::synth_spelled))]
     pub fn spell(&self, _at: u64, into: &mut Vec<u8>)
-        requires { vec_len into.old + 26 ≤ vec_capacity into.old }
+        requires { vec_len into.old + synth_size ≤ vec_capacity into.old }
         ensures bytes { into.new.items ≡ into.old.items ++ synth_bytes self.now }
-        ensures length { vec_len into.new ≡ vec_len into.old + 26 }
+        ensures length { vec_len into.new ≡ vec_len into.old + synth_size }
         ensures room { vec_capacity into.old ≤ vec_capacity into.new }
         ensures kept { SpellsSynth (synth_bytes self.now) self.now }
     {
@@ -153,7 +157,7 @@ impl PsgSynth {
     }
 
     /// The chip that the bytes of a saved state keep. It takes no memory, and fails with `Rule` alone.
-    /// Bytes that are not 26 are refused at the lesser of their number and 26. Others are refused at the
+    /// Bytes that are not 26 are refused at the lesser of their number and that. Others are refused at the
     /// offset of the first field whose rule fails: the latch is to be below 8, periods below 1,024,
     /// control and volumes below 16, counters 1 to 1,023, and the bits 0 or 1.
     pub fn unspell(_alloc: Global, bytes: &[u8], _at: u64) -> Result<PsgSynth, Unspell>
@@ -182,8 +186,8 @@ fn saved_of(bytes: &[u8]) -> Result<SavedSynth, usize>
     ensures found { IfOk result (λ saved. Keeps synth_fields bytes.now saved × IsRight synth_fields saved) }
     ensures refused { IfErr result (λ place. SynthInvalidAt bytes.now place) }
 {
-    if bytes.len() != SYNTH {
-        return Err(bytes.len().min(SYNTH));
+    if bytes.len() != SYNTH_SIZE {
+        return Err(bytes.len().min(SYNTH_SIZE));
     }
     let saved = SavedSynth::read(bytes);
     match first_invalid(&saved.fields()) {

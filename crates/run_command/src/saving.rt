@@ -15,15 +15,12 @@ use md_args::{Output, RunWords};
 use md_machine::Machine;
 use md_outer::Depot;
 use md_word::NoMemory;
-use save_state::{LENGTH, spell};
+use save_state::{APART, LENGTH, spell};
 use sha2::{Digest, Sha256};
 use std::alloc::Global;
 
 /// The bytes of a state that are appended together, but for the last.
 const PIECE: usize = 65_536;
-
-/// How many bytes of a state do not stand in their place at once while it is written.
-const APART: usize = 22_594;
 
 /// Takes the memory for the state of a run, if it is to be saved.
 pub fn make_buffers(alloc: Global, run: &RunWords<'_>) -> Result<Option<StateBuffers>, NoMemory>

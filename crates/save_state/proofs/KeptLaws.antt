@@ -24,7 +24,7 @@ use Rattle.md_chips.specs.Machines.{MachineValue}
 use Rattle.md_chips.specs.Starts.{first_batch}
 use Rattle.save_state.specs.Faults.{HasForm, IsMachineOf}
 use Rattle.save_state.specs.Items.{at_of, region_of, main_next, sub_next, stage_of, holder_in, main_bytes, sub_bytes, shared_bytes, renderer_state_bytes}
-use Rattle.save_state.specs.Layout.{part_of, digest_part, sub_part, store_part}
+use Rattle.save_state.specs.Layout.{digest_part, part_of, state_size, store_part, sub_part}
 use Rattle.save_state.specs.States.{store_of, number_bytes, is_holder, are_fm_early, are_psg_early, IsSaved, IsNewest}
 use Rattle.save_state.proofs.Gathered.{sub_gathered_long, one_size, one_store, cut_sub, cut_shared, AreAfter}
 use Rattle.save_state.proofs.Places.{yes}
@@ -61,14 +61,14 @@ record Owners (bytes : List ℕ) (m : Console) : Type 0 where
   numbers : part_of sub_part bytes ≡ number_bytes m.sub.state
   store : part_of store_part bytes ≡ shared.store_bytes (store_of m)
 
-shared_cut : (cart : List ℕ) (recording : Recorded) (bytes : List ℕ) (m : MachineValue) → length bytes ≡ 393620 → IsMachineOf cart recording bytes m → (length (shared.store_bytes m.console.shared.store) ≡ shared.store_size (holder_in bytes == 1)) × ((holder_in bytes == 1) ≡ true → part_of store_part bytes ≡ shared.store_bytes m.console.shared.store) × AreAfter bytes (vdp_bytes m.console.shared.vdp) (fm_port.port_bytes m.console.shared.fm) (psg_port.port_bytes m.console.shared.psg) (shared.lines_bytes (lines_of m.console.shared))
+shared_cut : (cart : List ℕ) (recording : Recorded) (bytes : List ℕ) (m : MachineValue) → length bytes ≡ state_size → IsMachineOf cart recording bytes m → (length (shared.store_bytes m.console.shared.store) ≡ shared.store_size (holder_in bytes == 1)) × ((holder_in bytes == 1) ≡ true → part_of store_part bytes ≡ shared.store_bytes m.console.shared.store) × AreAfter bytes (vdp_bytes m.console.shared.vdp) (fm_port.port_bytes m.console.shared.fm) (psg_port.port_bytes m.console.shared.psg) (shared.lines_bytes (lines_of m.console.shared))
 shared_cut cart recording bytes m long is =
     let b = m.console.shared in
     let s = is.shared.spells in
     cut_shared bytes (shared.store_bytes b.store) (vdp_bytes b.vdp) (fm_port.port_bytes b.fm) (psg_port.port_bytes b.psg) (shared.lines_bytes (lines_of b)) (holder_in bytes == 1) long
     (vdp_long (at_of bytes) (region_of bytes) (vdp_bytes b.vdp) b.vdp s.vdp) (fm_port_long (at_of bytes) (fm_port.port_bytes b.fm) b.fm s.fm) (psg_port_long (at_of bytes) (psg_port.port_bytes b.psg) b.psg s.psg) (lines_long (at_of bytes) (region_of bytes) (shared_bytes bytes) b s) s.all
 
-owned_by : (cart : List ℕ) (recording : Recorded) (bytes : List ℕ) (m : MachineValue) → length bytes ≡ 393620 → IsMachineOf cart recording bytes m → Owners bytes m.console
+owned_by : (cart : List ℕ) (recording : Recorded) (bytes : List ℕ) (m : MachineValue) → length bytes ≡ state_size → IsMachineOf cart recording bytes m → Owners bytes m.console
 owned_by cart recording bytes m long is =
     let h = holder_in bytes in
     let s = m.console.sub.state in

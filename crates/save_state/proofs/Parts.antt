@@ -65,29 +65,29 @@ number_front w place a b inside =
 
 -- ---- how long the bytes of each item are
 
-pub main_long : (cart : List ℕ) (at : ℕ) (bytes : List ℕ) (s : State68) → main.Spells cart at bytes s → length bytes ≡ 65714
+pub main_long : (cart : List ℕ) (at : ℕ) (bytes : List ℕ) (s : State68) → main.Spells cart at bytes s → length bytes ≡ main.chip_size
 main_long cart at bytes s p = main_laws.spelled_long cart at bytes s p
 
-pub vdp_long : (at : ℕ) (pal : Bool) (bytes : List ℕ) (s : Vdp) → video.Spells at pal bytes s → length bytes ≡ 65813
+pub vdp_long : (at : ℕ) (pal : Bool) (bytes : List ℕ) (s : Vdp) → video.Spells at pal bytes s → length bytes ≡ video.vdp_size
 vdp_long at pal bytes s p = ap length p.keeps.all ∙ long_as (vdp_fields at pal (numbers_vdp.numbers_of s)) p.keeps.within ∙ vdp_laws.fields_size at pal (numbers_vdp.numbers_of s)
 
-pub renderer_state_long : (at : ℕ) (pal : Bool) (bytes : List ℕ) (d : RendererState) → renderer_state.Spells at pal bytes d → length bytes ≡ 230410
+pub renderer_state_long : (at : ℕ) (pal : Bool) (bytes : List ℕ) (d : RendererState) → renderer_state.Spells at pal bytes d → length bytes ≡ renderer_state.renderer_state_size
 renderer_state_long at pal bytes d p = ap length p.keeps.all ∙ long_as (saved_renderer_state.renderer_state_fields at pal (saved_renderer_state.numbers_of d)) p.keeps.within ∙ renderer_state_laws.fields_size at pal (saved_renderer_state.numbers_of d)
 
-pub fm_port_long : (at : ℕ) (bytes : List ℕ) (p : Port) → fm_port.SpellsPort at bytes p → length bytes ≡ 12316
+pub fm_port_long : (at : ℕ) (bytes : List ℕ) (p : Port) → fm_port.SpellsPort at bytes p → length bytes ≡ fm_port.port_size
 fm_port_long at bytes p s = ap length s.keeps.all ∙ long_as (fm_port.port_fields at (fm_port.saved_port_of p)) s.keeps.within ∙ (fm_port_table at).sized (fm_port.saved_port_of p)
 
-pub psg_port_long : (at : ℕ) (bytes : List ℕ) (ws : List PsgWrite) → psg_port.SpellsPort at bytes ws → length bytes ≡ 10242
+pub psg_port_long : (at : ℕ) (bytes : List ℕ) (ws : List PsgWrite) → psg_port.SpellsPort at bytes ws → length bytes ≡ psg_port.port_size
 psg_port_long at bytes ws s = ap length s.keeps.all ∙ long_as (psg_port.port_fields at (psg_port.saved_port_of ws)) s.keeps.within ∙ (psg_port_table at).sized (psg_port.saved_port_of ws)
 
-pub fm_long : (bytes : List ℕ) (s : fm_synths.Synth) → fm.SpellsSynth bytes s → length bytes ≡ 741
+pub fm_long : (bytes : List ℕ) (s : fm_synths.Synth) → fm.SpellsSynth bytes s → length bytes ≡ fm.synth_size
 fm_long bytes s p = ap length p.keeps.all ∙ long_as (fm.synth_fields (fm.saved_synth_of s)) p.keeps.within ∙ fm_table.sized (fm.saved_synth_of s)
 
-pub psg_long : (bytes : List ℕ) (s : psg_synths.Synth) → psg.SpellsSynth bytes s → length bytes ≡ 26
+pub psg_long : (bytes : List ℕ) (s : psg_synths.Synth) → psg.SpellsSynth bytes s → length bytes ≡ psg.synth_size
 psg_long bytes s p = ap length p.keeps.all ∙ long_as (psg.synth_fields (psg.saved_synth_of s)) p.keeps.within ∙ psg_table.sized (psg.saved_synth_of s)
 
-pub lines_long : (at : ℕ) (pal : Bool) (bytes : List ℕ) (b : Board) → shared.Spells at pal bytes b → length (shared.lines_bytes (lines_of b)) ≡ 36
-lines_long at pal bytes b p = ap length p.lines.all ∙ long_as (lines_fields at (lines_of b)) p.lines.within ∙ lines_laws.lines_size at (lines_of b)
+pub lines_long : (at : ℕ) (pal : Bool) (bytes : List ℕ) (b : Board) → shared.Spells at pal bytes b → length (shared.lines_bytes (lines_of b)) ≡ shared.lines_size
+lines_long at pal bytes b p = ap length p.lines.all ∙ long_as (lines_fields at (lines_of b)) p.lines.within ∙ lines_laws.fields_size at (lines_of b)
 
 -- ---- their bytes do not depend on the rules
 
@@ -121,18 +121,18 @@ numbers_are s =
 pub sub_joined : (s : State80) → sub.chip_bytes s ≡ number_bytes s ++ shared.store_bytes s.store
 sub_joined s = sym (sub_laws.whole_bytes 0 true s) ∙ ap (λ (l : List ℕ). l ++ shared.store_bytes s.store) (numbers_are s)
 
-numbers_sized : (n : Saved80) → length n.answers ≡ 4 → length (spelling (saved80.number_fields 0 true n)) ≡ 62
+numbers_sized : (n : Saved80) → length n.answers ≡ 4 → length (spelling (saved80.number_fields 0 true n)) ≡ sub.ram_offset
 unfolding AreSized
 numbers_sized n e =
     long_as_sized (saved80.number_fields 0 true n) (tt, (tt, (tt, (tt, (tt, (tt, (tt, (tt, (tt, (tt, (tt, (tt, (tt, (tt, (tt, (tt, (tt, (tt, (tt, (tt, (tt, (tt, (tt, (tt, (tt, (e, (refl, tt)))))))))))))))))))))))))))
     ∙ sub_laws.number_size 0 true n
 
-pub numbers_long : (cart : List ℕ) (at : ℕ) (bytes : List ℕ) (s : State80) → sub.Spells cart at bytes s → length (number_bytes s) ≡ 62
+pub numbers_long : (cart : List ℕ) (at : ℕ) (bytes : List ℕ) (s : State80) → sub.Spells cart at bytes s → length (number_bytes s) ≡ sub.ram_offset
 numbers_long cart at bytes s p =
     sym (ap length (numbers_are s)) ∙ numbers_sized (saved80.numbers_of s) (sub_laws.answers_four cart at bytes (saved80.kept_of s) p.keeps)
 
 -- what is left after the Z80's numbers
-pub size_left : (has : Bool) → sub.spelled_size has ≡ 62 + shared.store_size has
+pub size_left : (has : Bool) → sub.spelled_size has ≡ sub.ram_offset + shared.store_size has
 size_left true = refl
 size_left false = refl
 

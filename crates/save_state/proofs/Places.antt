@@ -2,7 +2,7 @@
 use Rattle.std.proofs.Common.{◌≡◌, ℕ, ◌+◌, ◌-◌, ◌<◌, ◌≤◌, leb, cond, Bool, true, false, List, [], ◌∷◌, length, get_or, refl, ap, arith, inl, inr}
 use Rattle.std.proofs.lemmas.Bool.{cases_lt, leb-true, lt-ltb, le-ltb, and_parts}
 use Rattle.save_state.specs.declared.layout.Part.{Part}
-use Rattle.save_state.specs.Layout.{are_ordered, place_of}
+use Rattle.save_state.specs.Layout.{are_ordered, place_of, state_size}
 
 -- a test that is not false is true
 pub yes : (b : Bool) → ¬ (b ≡ false) → b ≡ true
@@ -10,13 +10,13 @@ yes true h = refl
 yes false h = absurd (h refl)
 
 -- where parts are after an offset, and how the first and the others do
-pub at_most : (from : ℕ) (ps : List Part) → are_ordered from ps ≡ true → from ≤ 393620
-at_most from [] e = leb-true from 393620 e
+pub at_most : (from : ℕ) (ps : List Part) → are_ordered from ps ≡ true → from ≤ state_size
+at_most from [] e = leb-true from state_size e
 at_most from (p ∷ ps) e =
     let h = and_parts (leb from p.place) (are_ordered (p.place + p.size) ps) e in
     omega (arith, leb-true from p.place h.0, at_most (p.place + p.size) ps h.1)
 
-pub first_inside : (from : ℕ) (ps : List Part) (d : Part) → 1 ≤ length ps → are_ordered from ps ≡ true → (get_or ps 0 d).place + (get_or ps 0 d).size ≤ 393620
+pub first_inside : (from : ℕ) (ps : List Part) (d : Part) → 1 ≤ length ps → are_ordered from ps ≡ true → (get_or ps 0 d).place + (get_or ps 0 d).size ≤ state_size
 first_inside from [] d some e = absurd (omega (arith, some))
 first_inside from (p ∷ ps) d some e = at_most (p.place + p.size) ps (and_parts _ (are_ordered (p.place + p.size) ps) e).1
 
@@ -54,7 +54,7 @@ in_order (p ∷ (q ∷ ps)) from m n e le =
     ]
 
 -- and it is within the state
-pub place_inside : (ps : List Part) (from n : ℕ) → are_ordered from ps ≡ true → place_of ps n ≤ 393620
+pub place_inside : (ps : List Part) (from n : ℕ) → are_ordered from ps ≡ true → place_of ps n ≤ state_size
 place_inside [] from n e = omega arith
 place_inside (p ∷ []) from n e = omega (arith, at_most (p.place + p.size) [] (and_parts _ _ e).1)
 place_inside (p ∷ (q ∷ ps)) from n e =

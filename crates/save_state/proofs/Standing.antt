@@ -26,13 +26,13 @@ use Rattle.bus_shared.specs.Spelling as shared
 use Rattle.md_chips.specs.Console.{Console, renderer_state_in}
 use Rattle.md_chips.specs.Starts.{first_batch}
 use Rattle.save_state.specs.Items.{at_of, main_next, sub_next, stage_of, seen_resets, holder_in, resets_of}
-use Rattle.save_state.specs.Layout.{part_of, magic_part, digest_part, region_part, main_part, sub_part, store_part, video_part, renderer_state_part, fm_port_part, fm_next_part, fm_part, psg_next_part, psg_port_part, psg_part, board_part}
+use Rattle.save_state.specs.Layout.{board_part, digest_part, fm_next_part, fm_part, fm_port_part, magic_part, main_part, part_of, psg_next_part, psg_part, psg_port_part, region_part, renderer_state_part, state_size, store_part, sub_part, video_part}
 use Rattle.save_state.specs.States.{mark, holder_of, store_of, number_bytes, state_fields}
 use Rattle.save_state.proofs.Parts.{number_front, sub_joined, numbers_long}
 
 -- each part of the bytes is the one of this machine
 pub record AreParts (digest : List ℕ) (at : ℕ) (m : Console) (bytes : List ℕ) : Type 0 where
-  pub long : length bytes ≡ 393620
+  pub long : length bytes ≡ state_size
   pub head : part_of magic_part bytes ≡ mark
   pub digest_is : part_of digest_part bytes ≡ digest
   pub at_is : at_of bytes ≡ at
@@ -107,7 +107,7 @@ first_68 cart at bytes s p = (spelled_stand (saved68.chip_fields cart at (number
 -- the next event of the 68000
 pub main_next_is : (cart digest bytes : List ℕ) (at : ℕ) (m : Console) → AreParts digest at m bytes → main.Spells cart at (main.chip_bytes m.main) m.main → m.main.next ≡ main_next bytes
 main_next_is cart digest bytes at m p s =
-    first_68 cart at (main.chip_bytes m.main) m.main s ∙ ap (number_at w64 0) (sym p.main) ∙ number_inside w64 0 49 65714 bytes (omega arith)
+    first_68 cart at (main.chip_bytes m.main) m.main s ∙ ap (number_at w64 0) (sym p.main) ∙ number_inside w64 0 main_part.place main.chip_size bytes (omega arith)
 
 pub record FirstNumbers (bytes : List ℕ) (s : State80) : Type 0 where
   pub next : s.next ≡ number_at w64 0 bytes
@@ -138,9 +138,9 @@ sub_numbers_are cart digest bytes at m p s =
     let rest = shared.store_bytes m.sub.state.store in
     let numbers = number_bytes m.sub.state in
     record {
-      next = first.next ∙ ap (number_at w64 0) joined ∙ number_front w64 0 numbers rest (omega (arith, long)) ∙ ap (number_at w64 0) (sym p.numbers) ∙ number_inside w64 0 65763 62 bytes (omega arith);
-      stage = first.stage ∙ ap (λ (l : List ℕ). get_or l 8 0) joined ∙ get_or_append_left numbers rest 0 8 (omega (arith, long)) ∙ ap (λ (l : List ℕ). get_or l 8 0) (sym p.numbers) ∙ byte_inside 8 65763 62 bytes (omega arith);
-      resets = first.resets ∙ ap (number_at w64 48) joined ∙ number_front w64 48 numbers rest (omega (arith, long)) ∙ ap (number_at w64 48) (sym p.numbers) ∙ number_inside w64 48 65763 62 bytes (omega arith);
+      next = first.next ∙ ap (number_at w64 0) joined ∙ number_front w64 0 numbers rest (omega (arith, long)) ∙ ap (number_at w64 0) (sym p.numbers) ∙ number_inside w64 0 sub_part.place sub.ram_offset bytes (omega arith);
+      stage = first.stage ∙ ap (λ (l : List ℕ). get_or l 8 0) joined ∙ get_or_append_left numbers rest 0 8 (omega (arith, long)) ∙ ap (λ (l : List ℕ). get_or l 8 0) (sym p.numbers) ∙ byte_inside 8 sub_part.place sub.ram_offset bytes (omega arith);
+      resets = first.resets ∙ ap (number_at w64 48) joined ∙ number_front w64 48 numbers rest (omega (arith, long)) ∙ ap (number_at w64 48) (sym p.numbers) ∙ number_inside w64 48 sub_part.place sub.ram_offset bytes (omega arith);
     }
 
 first_lines : (at : ℕ) (pal : Bool) (b : Board) (bytes : List ℕ) → shared.Spells at pal bytes b → b.resets ≡ number_at w64 2 (shared.lines_bytes (lines_of b))
@@ -150,4 +150,4 @@ first_lines at pal b bytes p = (spelled_stand (lines_fields at (lines_of b)) (sh
 -- the count of resets
 pub resets_are : (digest bytes : List ℕ) (at : ℕ) (pal : Bool) (m : Console) (whole : List ℕ) → AreParts digest at m bytes → shared.Spells at pal whole m.shared → m.shared.resets ≡ resets_of bytes
 resets_are digest bytes at pal m whole p s =
-    first_lines at pal m.shared whole s ∙ ap (number_at w64 2) (sym p.lines) ∙ number_inside w64 2 393584 36 bytes (omega arith)
+    first_lines at pal m.shared whole s ∙ ap (number_at w64 2) (sym p.lines) ∙ number_inside w64 2 board_part.place shared.lines_size bytes (omega arith)

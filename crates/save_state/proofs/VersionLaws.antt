@@ -6,7 +6,7 @@ use Rattle.sha2.specs.Sha256.{sha256}
 use Rattle.md_chips.specs.Starts.{Start}
 use Rattle.save_state.specs.Faults.{HasForm}
 use Rattle.save_state.specs.Refusals.{FieldFailsBack}
-use Rattle.save_state.specs.Layout.{digest_part, magic_part, part_of}
+use Rattle.save_state.specs.Layout.{digest_part, magic_part, part_of, state_size}
 use Rattle.save_state.specs.States.{IsNewest, mark}
 use Rattle.save_state.specs.OldPads.{HasPads}
 use Rattle.save_state.specs.Versions.{HasVersion, IsOtherCart, IsState, IsUnversioned, IsInvalidAt, from_first, from_second, magic_of, migrated, other_size, size_of, strange, unmarked}
@@ -90,7 +90,7 @@ rest-long bytes long =
     let all = length-append (take 139783 (drop 48 bytes)) ((0 ∷ []) ++ renderer_state) in
     omega (arith, long, all, old-renderer_state-long bytes long, length-take 139783 (drop 48 bytes), length-drop 48 bytes)
 
-migrated-long : (bytes : List ℕ) → length bytes ≡ 378240 → length (migrated First bytes) ≡ 393620
+migrated-long : (bytes : List ℕ) → length bytes ≡ 378240 → length (migrated First bytes) ≡ state_size
 migrated-long bytes long =
     let front = take 40 (drop 8 bytes) in
     omega (
@@ -108,7 +108,7 @@ migrated-second : (bytes : List ℕ) → migrated Second bytes ≡ mark ++ (drop
 unfolding migrated from_second
 migrated-second bytes = refl
 
-second-long : (bytes : List ℕ) → length bytes ≡ 393602 → length (migrated Second bytes) ≡ 393620
+second-long : (bytes : List ℕ) → length bytes ≡ 393602 → length (migrated Second bytes) ≡ state_size
 second-long bytes long =
     omega (
       arith,

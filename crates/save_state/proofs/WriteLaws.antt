@@ -34,63 +34,63 @@ use Rattle.bus_shared.proofs.SpellingLaws as shared_laws
 use Rattle.md_chips.specs.Console.{Console, renderer_state_in}
 use Rattle.md_chips.specs.Starts.{first_batch}
 use Rattle.md_chips.specs.Owners.{HasOneOwner}
-use Rattle.save_state.specs.Layout.{fm_port_there, lines_there, numbers_there, part_of, psg_port_there}
+use Rattle.save_state.specs.Layout.{apart_size, fm_port_there, lines_there, numbers_there, part_of, psg_port_there}
 use Rattle.save_state.specs.States.{after_video, mark, holder_of, own_bytes, store_of, number_bytes, state_bytes}
 use Rattle.save_state.proofs.Gathered.{nothing}
 use Rattle.save_state.proofs.Parts.{sub_joined, size_left}
 
 -- ---- how long what is written is
 
-fm_port_full : (at : ℕ) (p : Port) → length p.writes ≤ 1024 → length (fm_port.port_bytes (fm_port.settled_port at p)) ≡ 12316
+fm_port_full : (at : ℕ) (p : Port) → length p.writes ≤ 1024 → length (fm_port.port_bytes (fm_port.settled_port at p)) ≡ fm_port.port_size
 unfolding AreSized
 fm_port_full at p few =
     long_as_sized (fm_port.port_fields 0 (fm_port.saved_port_of (fm_port.settled_port at p)))
     (tt, (tt, (tt, (tt, (tt, (tt, (tt, (tt, (tt, (tt, (tt, (tt, (tt, (entries_whole fm_write_layout fm_port_room (map fm_port.saved_write_of p.writes) (omega (arith, few, length-map p.writes fm_port.saved_write_of)), tt))))))))))))))
     ∙ (fm_port_table 0).sized (fm_port.saved_port_of (fm_port.settled_port at p))
 
-psg_port_full : (ws : List PsgWrite) → length ws ≤ 1024 → length (psg_port.port_bytes ws) ≡ 10242
+psg_port_full : (ws : List PsgWrite) → length ws ≤ 1024 → length (psg_port.port_bytes ws) ≡ psg_port.port_size
 unfolding AreSized
 psg_port_full ws few =
     long_as_sized (psg_port.port_fields 0 (psg_port.saved_port_of ws)) (tt, (entries_whole psg_write_layout psg_port_room ws few, tt))
     ∙ (psg_port_table 0).sized (psg_port.saved_port_of ws)
 
-lines_full : (n : SavedLines) → length (shared.lines_bytes n) ≡ 36
+lines_full : (n : SavedLines) → length (shared.lines_bytes n) ≡ shared.lines_size
 unfolding AreSized
-lines_full n = long_as_sized (lines_fields 0 n) (tt, (tt, (tt, (tt, (tt, (tt, (tt, (tt, (tt, (tt, (tt, (tt, (tt, tt))))))))))))) ∙ lines_laws.lines_size 0 n
+lines_full n = long_as_sized (lines_fields 0 n) (tt, (tt, (tt, (tt, (tt, (tt, (tt, (tt, (tt, (tt, (tt, (tt, (tt, tt))))))))))))) ∙ lines_laws.fields_size 0 n
 
 -- ---- what is cut off
 
-numbers_long : (s : State80) → IfSome s.store IsStore → length (sub.chip_bytes s) ≡ sub.spelled_size (is_some s.store) → length (number_bytes s) ≡ 62
+numbers_long : (s : State80) → IfSome s.store IsStore → length (sub.chip_bytes s) ≡ sub.spelled_size (is_some s.store) → length (number_bytes s) ≡ sub.ram_offset
 numbers_long s ok long =
     omega (arith, long, ap length (sub_joined s), length-append (number_bytes s) (shared.store_bytes s.store), shared_laws.store_long s.store ok, size_left (is_some s.store))
 
-pub numbers_cut : (bytes : List ℕ) (s : State80) → IfSome s.store IsStore → bytes ≡ sub.chip_bytes s → length bytes ≡ sub.spelled_size (is_some s.store) → (take 62 bytes ≡ number_bytes s) × (drop 62 bytes ≡ shared.store_bytes s.store)
+pub numbers_cut : (bytes : List ℕ) (s : State80) → IfSome s.store IsStore → bytes ≡ sub.chip_bytes s → length bytes ≡ sub.spelled_size (is_some s.store) → (take sub.ram_offset bytes ≡ number_bytes s) × (drop sub.ram_offset bytes ≡ shared.store_bytes s.store)
 numbers_cut bytes s ok e long =
     let some = numbers_long s ok (sym (ap length e) ∙ long) in
-    (ap (take 62) (e ∙ sub_joined s) ∙ take_at (number_bytes s) (shared.store_bytes s.store) 62 some, ap (drop 62) (e ∙ sub_joined s) ∙ drop_at (number_bytes s) (shared.store_bytes s.store) 62 some)
+    (ap (take sub.ram_offset) (e ∙ sub_joined s) ∙ take_at (number_bytes s) (shared.store_bytes s.store) sub.ram_offset some, ap (drop sub.ram_offset) (e ∙ sub_joined s) ∙ drop_at (number_bytes s) (shared.store_bytes s.store) sub.ram_offset some)
 
 -- the parts of what follows the VDP
-ports_cut : (f p l : List ℕ) → length f ≡ 12316 → length p ≡ 10242 → length l ≡ 36 → (part_of fm_port_there (f ++ (p ++ l)) ≡ f) × (part_of psg_port_there (f ++ (p ++ l)) ≡ p) × (part_of lines_there (f ++ (p ++ l)) ≡ l)
+ports_cut : (f p l : List ℕ) → length f ≡ fm_port.port_size → length p ≡ psg_port.port_size → length l ≡ shared.lines_size → (part_of fm_port_there (f ++ (p ++ l)) ≡ f) × (part_of psg_port_there (f ++ (p ++ l)) ≡ p) × (part_of lines_there (f ++ (p ++ l)) ≡ l)
 ports_cut f p l b c d = (
-  take_at f (p ++ l) 12316 b,
-  ap (take 10242) (drop_at f (p ++ l) 12316 b) ∙ take_at p l 10242 c,
-  ap (take 36) (ap (drop 22558) (sym (append_assoc f p l)) ∙ drop_at (f ++ p) l 22558 (omega (arith, b, c, length-append f p))) ∙ ap (take 36) (sym (append-nil l)) ∙ take_at l [] 36 d,
+  take_at f (p ++ l) fm_port.port_size b,
+  ap (take psg_port.port_size) (drop_at f (p ++ l) fm_port.port_size b) ∙ take_at p l psg_port.port_size c,
+  ap (take shared.lines_size) (ap (drop shared.lines_offset) (sym (append_assoc f p l)) ∙ drop_at (f ++ p) l shared.lines_offset (omega (arith, b, c, length-append f p))) ∙ ap (take shared.lines_size) (sym (append-nil l)) ∙ take_at l [] shared.lines_size d,
 )
 
 -- how many bytes are after the VDP
-pub after_long : (at : ℕ) (b : Board) → IsBoard b → length (after_video at b) ≡ 22594
+pub after_long : (at : ℕ) (b : Board) → IsBoard b → length (after_video at b) ≡ apart_size
 after_long at b ok =
     let f = fm_port.port_bytes (shared.settled_board at b).fm in
     let p = psg_port.port_bytes b.psg in
     let l = shared.lines_bytes (lines_of b) in
     omega (arith, fm_port_full at b.fm ok.fm.most, psg_port_full b.psg ok.psg.most, lines_full (lines_of b), length-append f (p ++ l), length-append p l)
 
-pub board_least : (has : Bool) → 22594 ≤ shared.board_size has
+pub board_least : (has : Bool) → apart_size ≤ shared.board_size has
 board_least true = omega arith
 board_least false = omega arith
 
 -- a list that ends with what follows the VDP, cut there
-pub cut_there : (at : ℕ) (b : Board) (old all : List ℕ) (cut : ℕ) → IsBoard b → all ≡ old ++ shared.board_bytes (shared.settled_board at b) → cut + 22594 ≡ length all
+pub cut_there : (at : ℕ) (b : Board) (old all : List ℕ) (cut : ℕ) → IsBoard b → all ≡ old ++ shared.board_bytes (shared.settled_board at b) → cut + apart_size ≡ length all
     → (take cut all ≡ old ++ (shared.store_bytes b.store ++ vdp_bytes (shared.settled_board at b).vdp)) × (drop cut all ≡ after_video at b)
 cut_there at b old all cut ok e long =
     let s = shared.store_bytes b.store in
@@ -106,28 +106,28 @@ cut_there at b old all cut ok e long =
 
 -- those that the Z80 has, after its numbers
 pub own_cut : (m : Console) (has : Bool) (apart : List ℕ) → IsChip80 m.sub → has ≡ is_some m.shared.store → apart ≡ sub.chip_bytes m.sub.state → length apart ≡ sub.spelled_size (is_some m.sub.state.store)
-    → (part_of numbers_there apart ≡ number_bytes m.sub.state) × ((if has then [] else drop 62 apart) ≡ own_bytes m)
+    → (part_of numbers_there apart ≡ number_bytes m.sub.state) × ((if has then [] else drop sub.ram_offset apart) ≡ own_bytes m)
 own_cut m has apart ok h e long =
     let c = numbers_cut apart m.sub.state ok.store e long in
     (c.0, λ i. if h i then [] else c.1 i)
 
-pub own_few : (m : Console) → IsChip80 m.sub → length (own_bytes m) ≤ 8194
+pub own_few : (m : Console) → IsChip80 m.sub → length (own_bytes m) ≤ shared.store_size true
 own_few m ok = by m.shared.store m.sub.state.store (shared_laws.store_long m.sub.state.store ok.store) where
-  by : (theirs ours : Option Store) → length (shared.store_bytes ours) ≡ shared.store_size (is_some ours) → length (if is_some theirs then [] else shared.store_bytes ours) ≤ 8194
+  by : (theirs ours : Option Store) → length (shared.store_bytes ours) ≡ shared.store_size (is_some ours) → length (if is_some theirs then [] else shared.store_bytes ours) ≤ shared.store_size true
   by (Some t) ours e = omega arith
   by None (Some s) e = omega (arith, e)
   by None None e = omega (arith, e)
 
 -- with what the bus keeps they are so many at most, and so many where they have one owner
-pub own_room : (m : Console) → length (own_bytes m) ≤ 8194 → length (own_bytes m) + shared.board_size (is_some m.shared.store) ≤ 96601
+pub own_room : (m : Console) → length (own_bytes m) ≤ shared.store_size true → length (own_bytes m) + shared.board_size (is_some m.shared.store) ≤ shared.board_size true
 own_room m few = by m.shared.store few where
-  by : (theirs : Option Store) → length (if is_some theirs then [] else shared.store_bytes m.sub.state.store) ≤ 8194 → length (if is_some theirs then [] else shared.store_bytes m.sub.state.store) + shared.board_size (is_some theirs) ≤ 96601
+  by : (theirs : Option Store) → length (if is_some theirs then [] else shared.store_bytes m.sub.state.store) ≤ shared.store_size true → length (if is_some theirs then [] else shared.store_bytes m.sub.state.store) + shared.board_size (is_some theirs) ≤ shared.board_size true
   by (Some t) few = omega arith
   by None few = omega (arith, few)
 
-pub owner_room : (m : Console) → IsChip80 m.sub → HasOneOwner m → length (own_bytes m) + shared.board_size (is_some m.shared.store) ≡ 96601
+pub owner_room : (m : Console) → IsChip80 m.sub → HasOneOwner m → length (own_bytes m) + shared.board_size (is_some m.shared.store) ≡ shared.board_size true
 owner_room m ok owner = by m.shared.store m.sub.state.store owner (shared_laws.store_long m.sub.state.store ok.store) where
-  by : (theirs ours : Option Store) → is_some ours ≡ not (is_some theirs) → length (shared.store_bytes ours) ≡ shared.store_size (is_some ours) → length (if is_some theirs then [] else shared.store_bytes ours) + shared.board_size (is_some theirs) ≡ 96601
+  by : (theirs ours : Option Store) → is_some ours ≡ not (is_some theirs) → length (shared.store_bytes ours) ≡ shared.store_size (is_some ours) → length (if is_some theirs then [] else shared.store_bytes ours) + shared.board_size (is_some theirs) ≡ shared.board_size true
   by (Some t) ours o e = refl
   by None (Some s) o e = omega (arith, e)
   by None None o e = absurd cc

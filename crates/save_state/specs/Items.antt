@@ -65,7 +65,7 @@ resets_of bytes = number_at w64 resets_place bytes
 
 -- where the count of the FM port's writes is
 abbrev pub fm_writes_place : ℕ
-fm_writes_place = fm_port_part.place + 26
+fm_writes_place = fm_port_part.place + fm_port.count_offset
 
 -- ---- the 68000
 

@@ -1,5 +1,14 @@
 -- Where the parts of a saved state are. This project's profile.
-use Rattle.std.specs.Prelude.{ℕ, ◌+◌, ◌-◌, ◌&&◌, Bool, nat_le, nat_lt, min, if◌then◌else◌, List, [], ◌∷◌, ◌++◌, take, drop, sum, slice_index}
+use Rattle.std.specs.Prelude.{ℕ, ◌+◌, ◌-◌, ◌&&◌, Bool, true, nat_le, nat_lt, min, if◌then◌else◌, List, [], ◌∷◌, ◌++◌, take, drop, sum, slice_index}
+use Rattle.m68k_chip.specs.Spelling.{chip_size as main_size}
+use Rattle.z80_chip.specs.Spelling.{ram_offset as numbers_size}
+use Rattle.vdp_ports.specs.Spelling.{vdp_size}
+use Rattle.vdp_chip.specs.Spelling.{renderer_state_size}
+use Rattle.fm_port.specs.PortSpelling.{port_size as fm_port_size}
+use Rattle.fm_chip.specs.SynthSpelling.{synth_size as fm_size}
+use Rattle.psg_sound.specs.PortSpelling.{port_size as psg_port_size}
+use Rattle.psg_sound.specs.SynthSpelling.{synth_size as psg_size}
+use Rattle.bus_shared.specs.Spelling.{lines_offset, lines_size, ports_size, store_size}
 use Rattle.save_state.specs.declared.layout.Part.{Part}
 
 -- how many bytes each part has, in their order; nothing is between them
@@ -8,17 +17,17 @@ layout =
     -- the magic, the digest of the cartridge, the cycle, and the region
     8 ∷ 32 ∷ 8 ∷ 1 ∷
     -- the 68000
-    65714 ∷
+    main_size ∷
     -- the Z80's numbers, who has its RAM, and RAM with the bank register
-    62 ∷ 1 ∷ 8194 ∷
+    numbers_size ∷ 1 ∷ store_size true ∷
     -- the VDP, and its renderer
-    65813 ∷ 230410 ∷
+    vdp_size ∷ renderer_state_size ∷
     -- the FM chip: its port, its next batch, and its synthesis
-    12316 ∷ 8 ∷ 741 ∷
+    fm_port_size ∷ 8 ∷ fm_size ∷
     -- the PSG: its next batch, its port, and its synthesis
-    8 ∷ 10242 ∷ 26 ∷
+    8 ∷ psg_port_size ∷ psg_size ∷
     -- the board's lines and pads
-    36 ∷ []
+    lines_size ∷ []
 
 -- how many bytes a saved state has
 abbrev pub state_size : ℕ
@@ -107,21 +116,25 @@ shared_parts has =
 
 -- the Z80's numbers, in what the Z80 keeps
 abbrev pub numbers_there : Part
-numbers_there = record { place = 0; size = 62 }
+numbers_there = record { place = 0; size = numbers_size }
 
 -- the parts of what the bus keeps after the VDP
 abbrev pub fm_port_there : Part
-fm_port_there = record { place = 0; size = 12316 }
+fm_port_there = record { place = 0; size = fm_port_size }
 
 abbrev pub psg_port_there : Part
-psg_port_there = record { place = 12316; size = 10242 }
+psg_port_there = record { place = fm_port_size; size = psg_port_size }
 
 abbrev pub lines_there : Part
-lines_there = record { place = 22558; size = 36 }
+lines_there = record { place = lines_offset; size = lines_size }
 
 -- how many bytes are put apart while a state is written
 abbrev pub apart_size : ℕ
-apart_size = 22594
+apart_size = ports_size
+
+-- how many bytes follow the renderer: those, with the next batches and the syntheses of the sound chips
+abbrev pub sound_size : ℕ
+sound_size = apart_size + (8 + fm_size) + (8 + psg_size)
 
 -- the bytes of a part
 abbrev pub part_of : Part → List ℕ → List ℕ

@@ -11,7 +11,7 @@ use Rattle.z80_chip.specs.Saved.{stage_number}
 use Rattle.z80_chip.specs.Spelling as sub
 use Rattle.z80_chip.specs.States.{State80}
 use Rattle.z80_parcel.specs.Parcels.{Store}
-use Rattle.vdp_ports.specs.Spelling.{vdp_bytes}
+use Rattle.vdp_ports.specs.Spelling.{vdp_bytes, vdp_size}
 use Rattle.vdp_chip.specs.Spelling as renderer_state
 use Rattle.fm_port.specs.Port.{Port}
 use Rattle.fm_port.specs.PortSpelling as fm_port
@@ -58,19 +58,19 @@ state_fields digest at m =
     ∷ block 32 digest true
     ∷ quad at true
     ∷ byte (flag_number m.pal) true
-    ∷ block 65714 (main.chip_bytes m.main) true
-    ∷ block 62 (number_bytes m.sub.state) true
+    ∷ block main.chip_size (main.chip_bytes m.main) true
+    ∷ block sub.ram_offset (number_bytes m.sub.state) true
     ∷ byte (holder_of m) true
-    ∷ block 8194 (shared.store_bytes (store_of m)) true
-    ∷ block 65813 (vdp_bytes m.shared.vdp) true
-    ∷ block 230410 (renderer_state.renderer_state_bytes (renderer_state_in m)) true
-    ∷ block 12316 (fm_port.port_bytes m.shared.fm) true
+    ∷ block (shared.store_size true) (shared.store_bytes (store_of m)) true
+    ∷ block vdp_size (vdp_bytes m.shared.vdp) true
+    ∷ block renderer_state.renderer_state_size (renderer_state.renderer_state_bytes (renderer_state_in m)) true
+    ∷ block fm_port.port_size (fm_port.port_bytes m.shared.fm) true
     ∷ quad (first_batch at) true
-    ∷ block 741 (fm.synth_bytes m.fm) true
+    ∷ block fm.synth_size (fm.synth_bytes m.fm) true
     ∷ quad (first_batch at) true
-    ∷ block 10242 (psg_port.port_bytes m.shared.psg) true
-    ∷ block 26 (psg.synth_bytes m.psg) true
-    ∷ block 36 (shared.lines_bytes (lines_of m.shared)) true
+    ∷ block psg_port.port_size (psg_port.port_bytes m.shared.psg) true
+    ∷ block psg.synth_size (psg.synth_bytes m.psg) true
+    ∷ block shared.lines_size (shared.lines_bytes (lines_of m.shared)) true
     ∷ []
 
 -- the bytes that keep a machine as it is, with the SHA-256 of its cartridge's image

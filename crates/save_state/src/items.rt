@@ -14,7 +14,7 @@ use crate::layout::{
 };
 use bus_shared::Shared;
 use fm_chip::FmSynth;
-use fm_port::FmPort;
+use fm_port::{COUNT_OFFSET as FM_COUNT, FmPort};
 use m68k_chip::Chip68;
 use md_fields::{u8_at, u16_at, u64_at};
 use md_machine::first_batch;
@@ -37,9 +37,7 @@ const RESETS: usize = BOARD.place + 2;
 
 const FM_WRITES: usize = FM_PORT.place + FM_COUNT;
 
-/// Where the count of writes is in what keeps the FM chip's port, and where in what keeps the PSG's.
-const FM_COUNT: usize = 26;
-
+/// Where the count of writes is in what keeps the PSG's port.
 const PSG_COUNT: usize = 0;
 
 /// Whether who has the Z80's RAM fits its stage: at an access and a yield the Z80 has it, and the bus

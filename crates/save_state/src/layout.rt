@@ -2,8 +2,16 @@ ghost use Rattle.std.specs.Prelude.{◌≡◌, ◌≤◌, ◌+◌, true, length,
 ghost use Rattle.save_state.specs.Layout as layout;
 ghost use Rattle.save_state.specs.Layout.{are_ordered, state_size};
 
+use bus_shared::{LINES_SIZE as BOARD_SIZE, STORE_SIZE};
+use fm_chip::SYNTH_SIZE as FM_SIZE;
+use fm_port::PORT_SIZE as FM_PORT_SIZE;
+use m68k_chip::CHIP_SIZE as MAIN_SIZE;
 use md_word::NoMemory;
+use psg_sound::{PORT_SIZE as PSG_PORT_SIZE, SYNTH_SIZE as PSG_SIZE};
 use std::alloc::Global;
+use vdp_chip::RENDERER_STATE_SIZE as RENDERER_SIZE;
+use vdp_ports::VDP_SIZE as VIDEO_SIZE;
+use z80_chip::RAM_OFFSET as SUB_SIZE;
 
 /// So many bytes of a saved state from an offset on.
 #[derive(Clone, Copy)]
@@ -12,7 +20,7 @@ pub struct Part {
     pub size: usize,
 }
 
-/// How many bytes each part has, in their order; nothing is between them.
+/// How many bytes each part has that is no chip's own, in their order; nothing is between the parts.
 const MAGIC_SIZE: usize = 8;
 
 const DIGEST_SIZE: usize = 32;
@@ -21,31 +29,11 @@ const AT_SIZE: usize = 8;
 
 const REGION_SIZE: usize = 1;
 
-const MAIN_SIZE: usize = 65_714;
-
-const SUB_SIZE: usize = 62;
-
 const HOLDER_SIZE: usize = 1;
-
-const STORE_SIZE: usize = 8_194;
-
-const VIDEO_SIZE: usize = 65_813;
-
-const RENDERER_SIZE: usize = 230_410;
-
-const FM_PORT_SIZE: usize = 12_316;
 
 const FM_NEXT_SIZE: usize = 8;
 
-const FM_SIZE: usize = 741;
-
 const PSG_NEXT_SIZE: usize = 8;
-
-const PSG_PORT_SIZE: usize = 10_242;
-
-const PSG_SIZE: usize = 26;
-
-const BOARD_SIZE: usize = 36;
 
 /// The magic, with which a state begins.
 pub const TEXT: [u8; 8] = *b"MDSTATE3";

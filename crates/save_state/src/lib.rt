@@ -11,6 +11,6 @@ mod version;
 mod writing;
 
 pub use fault::StateFault;
-pub use layout::LENGTH;
+pub use layout::{APART, LENGTH};
 pub use reading::{read, read_with};
 pub use writing::{spell, write, write_with};

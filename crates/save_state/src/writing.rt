@@ -10,7 +10,7 @@ ghost use Rattle.z80_chip.specs.Spelling as sub;
 ghost use Rattle.vdp_ports.specs.Spelling.{vdp_bytes};
 ghost use Rattle.md_chips.specs.Owners.{HasOneOwner};
 ghost use Rattle.md_chips.specs.Starts as starts;
-ghost use Rattle.save_state.specs.Layout.{apart_size, fm_port_there, lines_there, part_of, psg_port_there, state_size};
+ghost use Rattle.save_state.specs.Layout.{apart_size, fm_port_there, lines_there, part_of, psg_port_there, sound_size, state_size};
 ghost use Rattle.save_state.specs.Ready.{IsReady};
 ghost use Rattle.md_word.specs.Clock.{last_cycle};
 ghost use Rattle.md_word.specs.Coding.{flag_number};
@@ -135,10 +135,10 @@ fn put_head(machine: &Machine, digest: &[u8; 32], into: &mut Vec<u8>)
 /// Appends the Z80's numbers, who has RAM and bank register, and those where the Z80 has them and the bus has not.
 fn put_sub(machine: &Machine, apart: &mut Vec<u8>, into: &mut Vec<u8>)
     requires apart { apart_size ≤ vec_capacity apart.old }
-    requires room { vec_len into.old + 8257 ≤ vec_capacity into.old }
+    requires room { vec_len into.old + (sub.ram_offset + 1 + shared.store_size true) ≤ vec_capacity into.old }
     ensures bytes { into.new.items ≡ into.old.items ++ (number_bytes machine.now.console.sub.state ++ (holder_of machine.now.console ∷ own_bytes machine.now.console)) }
-    ensures length { vec_len into.new ≡ vec_len into.old + (63 + length (own_bytes machine.now.console)) }
-    ensures few { length (own_bytes machine.now.console) ≤ 8194 }
+    ensures length { vec_len into.new ≡ vec_len into.old + ((sub.ram_offset + 1) + length (own_bytes machine.now.console)) }
+    ensures few { length (own_bytes machine.now.console) ≤ shared.store_size true }
     ensures sub { IsChip80 machine.now.console.sub }
     ensures room { vec_capacity into.old ≤ vec_capacity into.new }
     ensures apart { vec_capacity apart.old ≤ vec_capacity apart.new }
@@ -165,8 +165,8 @@ fn spell_sub(machine: &Machine, apart: &mut Vec<u8>)
 
 /// RAM and bank register in what the Z80 keeps, where the bus has none.
 fn own_of(has: bool, sub: &[u8]) -> &[u8]
-    requires { 62 ≤ length sub.now }
-    ensures { result.now ≡ (if has then [] else drop 62 sub.now) }
+    requires { sub.ram_offset ≤ length sub.now }
+    ensures { result.now ≡ (if has then [] else drop sub.ram_offset sub.now) }
 {
     if has { &[] } else { &sub[SUB.size..] }
 }
@@ -179,7 +179,7 @@ fn put_board(machine: &Machine, apart: &mut Vec<u8>, into: &mut Vec<u8>)
     requires room { vec_len into.old + shared.board_size (is_some machine.now.console.shared.store) ≤ vec_capacity into.old }
     ensures bytes { into.new.items ≡ into.old.items ++ (shared.store_bytes machine.now.console.shared.store ++ vdp_bytes (shared.settled_board machine.now.at machine.now.console.shared).vdp) }
     ensures following { apart.new.items ≡ after_video machine.now.at machine.now.console.shared }
-    ensures length { vec_len into.new + 22594 ≡ vec_len into.old + shared.board_size (is_some machine.now.console.shared.store) }
+    ensures length { vec_len into.new + apart_size ≡ vec_len into.old + shared.board_size (is_some machine.now.console.shared.store) }
     ensures board { IsBoard machine.now.console.shared }
     ensures room { vec_capacity into.old ≤ vec_capacity into.new }
     ensures apart { vec_capacity apart.old ≤ vec_capacity apart.new }
@@ -189,13 +189,13 @@ fn put_board(machine: &Machine, apart: &mut Vec<u8>, into: &mut Vec<u8>)
     cut_off(into, apart);
 }
 
-/// Cuts off the last 22,594 bytes of a list, and makes another one of them.
+/// Cuts off what follows the VDP, the last bytes of a list, and makes another one of them.
 fn cut_off(into: &mut Vec<u8>, apart: &mut Vec<u8>)
-    requires long { 22594 ≤ vec_len into.old }
-    requires room { 22594 ≤ vec_capacity apart.old }
-    ensures front { into.new.items ≡ take (vec_len into.old - 22594) into.old.items }
-    ensures back { apart.new.items ≡ drop (vec_len into.old - 22594) into.old.items }
-    ensures length { vec_len into.new + 22594 ≡ vec_len into.old }
+    requires long { apart_size ≤ vec_len into.old }
+    requires room { apart_size ≤ vec_capacity apart.old }
+    ensures front { into.new.items ≡ take (vec_len into.old - apart_size) into.old.items }
+    ensures back { apart.new.items ≡ drop (vec_len into.old - apart_size) into.old.items }
+    ensures length { vec_len into.new + apart_size ≡ vec_len into.old }
     ensures room { vec_capacity into.old ≤ vec_capacity into.new }
     ensures apart { vec_capacity apart.old ≤ vec_capacity apart.new }
 {
@@ -208,12 +208,12 @@ fn cut_off(into: &mut Vec<u8>, apart: &mut Vec<u8>)
 /// Appends the sound chips: ports, which the bus keeps, next batches and syntheses, and the lines after them.
 fn put_sound(machine: &Machine, following: &[u8], into: &mut Vec<u8>)
     requires cycle { machine.now.at ≤ last_cycle }
-    requires following { length following.now ≡ 22594 }
-    requires room { vec_len into.old + 23377 ≤ vec_capacity into.old }
+    requires following { length following.now ≡ apart_size }
+    requires room { vec_len into.old + sound_size ≤ vec_capacity into.old }
     ensures bytes { let batch = to_be_bytes w64 (starts.first_batch machine.now.at) in
         into.new.items ≡ into.old.items ++ (part_of fm_port_there following.now ++ (batch ++ (fm.synth_bytes machine.now.console.fm
         ++ (batch ++ (part_of psg_port_there following.now ++ (psg.synth_bytes machine.now.console.psg ++ part_of lines_there following.now)))))) }
-    ensures length { vec_len into.new ≡ vec_len into.old + 23377 }
+    ensures length { vec_len into.new ≡ vec_len into.old + sound_size }
     ensures room { vec_capacity into.old ≤ vec_capacity into.new }
 {
     let at = machine.at();

@@ -88,42 +88,42 @@ renderer_state_verdict at pal bytes fits =
 
 -- ---- the sound chips
 
-fm_port_by : (at : ℕ) (bytes : List ℕ) (n : FmNumbers) → IsBytes bytes → length bytes ≡ 12316 → fm_port_laws.IsHead bytes n
+fm_port_by : (at : ℕ) (bytes : List ℕ) (n : FmNumbers) → IsBytes bytes → length bytes ≡ fm_port.port_size → fm_port_laws.IsHead bytes n
     → (first : Option ℕ) → first_invalid 0 (fm_port.number_fields at n) ≡ first → (right : Bool) → fm_port.are_writes at (fm_port_laws.count_in bytes) (fm_port_laws.entries_in bytes) ≡ right
     → Verdict (fm_port.SpellsPort at bytes) (fm_port.PortInvalidAt at bytes)
 fm_port_by at bytes n fits long head (Some place) e right f = inr (place, fm_port_laws.breaks_number at bytes n place fits long head e)
 fm_port_by at bytes n fits long head None e true f =
     inl (fm_port.port_with n (fm_port.writes_from (fm_port_laws.count_in bytes) (fm_port_laws.entries_in bytes)), fm_port_laws.port_read at bytes n fits long head e f)
-fm_port_by at bytes n fits long head None e false f = inr (26, fm_port_laws.breaks_writes at bytes n fits long head e f)
+fm_port_by at bytes n fits long head None e false f = inr (fm_port.count_offset, fm_port_laws.breaks_writes at bytes n fits long head e f)
 
 pub fm_port_verdict : (at : ℕ) (bytes : List ℕ) → IsBytes bytes → Verdict (fm_port.SpellsPort at bytes) (fm_port.PortInvalidAt at bytes)
-fm_port_verdict at bytes fits = elim (cases_eq (length bytes) 12316) [
+fm_port_verdict at bytes fits = elim (cases_eq (length bytes) fm_port.port_size) [
   | inl long ↦ (
       let n = fm_port_there bytes in
       fm_port_by at bytes n.0 fits long n.1 (first_invalid 0 (fm_port.number_fields at n.0)) refl (fm_port.are_writes at (fm_port_laws.count_in bytes) (fm_port_laws.entries_in bytes)) refl)
-  | inr other ↦ inr (min (length bytes) 12316, inl (other, refl))
+  | inr other ↦ inr (min (length bytes) fm_port.port_size, inl (other, refl))
 ]
 
-psg_port_by : (at : ℕ) (bytes : List ℕ) → IsBytes bytes → length bytes ≡ 10242 → (right : Bool) → psg_port.are_writes at (psg_port_laws.read_port bytes) ≡ right
+psg_port_by : (at : ℕ) (bytes : List ℕ) → IsBytes bytes → length bytes ≡ psg_port.port_size → (right : Bool) → psg_port.are_writes at (psg_port_laws.read_port bytes) ≡ right
     → Verdict (psg_port.SpellsPort at bytes) (psg_port.PortInvalidAt at bytes)
-psg_port_by at bytes fits long true e = inl (psg_port.writes_at (number_at w16 0 bytes) (take 10240 (drop 2 bytes)), psg_port_laws.port_read at bytes fits long e)
+psg_port_by at bytes fits long true e = inl (psg_port.writes_at (number_at w16 0 bytes) (take psg_port.entries_size (drop psg_port.entries_offset bytes)), psg_port_laws.port_read at bytes fits long e)
 psg_port_by at bytes fits long false e = inr (0, psg_port_laws.breaks_port at bytes fits long e)
 
 pub psg_port_verdict : (at : ℕ) (bytes : List ℕ) → IsBytes bytes → Verdict (psg_port.SpellsPort at bytes) (psg_port.PortInvalidAt at bytes)
-psg_port_verdict at bytes fits = elim (cases_eq (length bytes) 10242) [
+psg_port_verdict at bytes fits = elim (cases_eq (length bytes) psg_port.port_size) [
   | inl long ↦ psg_port_by at bytes fits long (psg_port.are_writes at (psg_port_laws.read_port bytes)) refl
-  | inr other ↦ inr (min (length bytes) 10242, inl (other, refl))
+  | inr other ↦ inr (min (length bytes) psg_port.port_size, inl (other, refl))
 ]
 
 pub fm_verdict : (bytes : List ℕ) → IsBytes bytes → Verdict (fm.SpellsSynth bytes) (fm.SynthInvalidAt bytes)
 fm_verdict bytes fits =
-    sized 741 fm.synth_fields (fm.SpellsSynth bytes) bytes fits
+    sized fm.synth_size fm.synth_fields (fm.SpellsSynth bytes) bytes fits
     (λ long. (fm.synth_at bytes, fm_laws.synth_stands bytes long))
     (λ long s keeps right. (fm.synth_from s, fm_laws.synth_read bytes s keeps right))
 
 pub psg_verdict : (bytes : List ℕ) → IsBytes bytes → Verdict (psg.SpellsSynth bytes) (psg.SynthInvalidAt bytes)
 psg_verdict bytes fits =
-    sized 26 psg.synth_fields (psg.SpellsSynth bytes) bytes fits
+    sized psg.synth_size psg.synth_fields (psg.SpellsSynth bytes) bytes fits
     (λ long. psg_there bytes long)
     (λ long s keeps right. (psg.synth_from s, psg_laws.synth_read bytes s keeps right))
 
@@ -131,7 +131,7 @@ psg_verdict bytes fits =
 
 lines_verdict : (at : ℕ) (bytes : List ℕ) → IsBytes bytes → Verdict (λ n. Keeps (lines_fields at) bytes n × IsRight (lines_fields at) n) (shared.LinesInvalidAt at bytes)
 lines_verdict at bytes fits =
-    sized 36 (lines_fields at) (λ n. Keeps (lines_fields at) bytes n × IsRight (lines_fields at) n) bytes fits
+    sized shared.lines_size (lines_fields at) (λ n. Keeps (lines_fields at) bytes n × IsRight (lines_fields at) n) bytes fits
     (λ long. (let s = lines_there bytes long in (s.0, s.1 at)))
     (λ long n keeps right. (n, (keeps, right)))
 
@@ -141,7 +141,7 @@ record StoreKept (bytes : List ℕ) (store : Option Store) : Type 0 where
   fits : IfSome store IsStore
   right : (place : ℕ) → shared.StoreInvalidAt bytes place → ⊥
 
-store_verdict : (bytes : List ℕ) → IsBytes bytes → (length bytes ≡ 0) ⊎ (length bytes ≡ 8194) → Verdict (StoreKept bytes) (shared.StoreInvalidAt bytes)
+store_verdict : (bytes : List ℕ) → IsBytes bytes → (length bytes ≡ 0) ⊎ (length bytes ≡ shared.store_size true) → Verdict (StoreKept bytes) (shared.StoreInvalidAt bytes)
 store_verdict bytes fits (inl empty) = inl (
   None,
   record {
@@ -158,7 +158,7 @@ store_verdict bytes fits (inr long) = elim (cases_lt (number_at w16 8192 bytes) 
   | inr more ↦ inr (8192, shared_laws.held_invalid bytes (number_at w16 8192 bytes) 8192 long refl more refl)
 ]
 
-store_long : (bytes : List ℕ) → shared.IsLength bytes → (length (take (shared.store_length bytes) bytes) ≡ 0) ⊎ (length (take (shared.store_length bytes) bytes) ≡ 8194)
+store_long : (bytes : List ℕ) → shared.IsLength bytes → (length (take (shared.store_length bytes) bytes) ≡ 0) ⊎ (length (take (shared.store_length bytes) bytes) ≡ shared.store_size true)
 store_long bytes (inl short) = inl (omega (arith, short, length-take (shared.store_length bytes) bytes))
 store_long bytes (inr long) = inr (omega (arith, long, length-take (shared.store_length bytes) bytes))
 
@@ -188,7 +188,7 @@ record AreBytes (parts : shared.Parts) : Type 0 where
   psg : IsBytes parts.psg
   lines : IsBytes parts.lines
 
-parts_verdict : (at : ℕ) (pal : Bool) (start : ℕ) (parts : shared.Parts) → AreBytes parts → (length parts.store ≡ 0) ⊎ (length parts.store ≡ 8194)
+parts_verdict : (at : ℕ) (pal : Bool) (start : ℕ) (parts : shared.Parts) → AreBytes parts → (length parts.store ≡ 0) ⊎ (length parts.store ≡ shared.store_size true)
     → PartsKept at pal parts ⊎ ((place : ℕ) × shared.PartsInvalidAt at pal start parts place)
 parts_verdict at pal start parts fits long =
     chained 0 (shared.StoreInvalidAt parts.store) _ (store_verdict parts.store fits.store long) (λ kept. kept.1.right)
@@ -201,13 +201,13 @@ cut_bytes : (bytes : List ℕ) → IsBytes bytes → AreBytes (shared.cut bytes)
 cut_bytes bytes fits =
     let following = IsBytes-drop (shared.store_length bytes) bytes fits in
     let past_vdp = IsBytes-drop video.vdp_size (drop (shared.store_length bytes) bytes) following in
-    let past_fm = IsBytes-drop 12316 (drop video.vdp_size (drop (shared.store_length bytes) bytes)) past_vdp in
+    let past_fm = IsBytes-drop fm_port.port_size (drop video.vdp_size (drop (shared.store_length bytes) bytes)) past_vdp in
     record {
       store = IsBytes-take (shared.store_length bytes) bytes fits;
       vdp = IsBytes-take video.vdp_size (drop (shared.store_length bytes) bytes) following;
-      fm = IsBytes-take 12316 (drop video.vdp_size (drop (shared.store_length bytes) bytes)) past_vdp;
-      psg = IsBytes-take 10242 (drop 12316 (drop video.vdp_size (drop (shared.store_length bytes) bytes))) past_fm;
-      lines = IsBytes-drop 10242 (drop 12316 (drop video.vdp_size (drop (shared.store_length bytes) bytes))) past_fm;
+      fm = IsBytes-take fm_port.port_size (drop video.vdp_size (drop (shared.store_length bytes) bytes)) past_vdp;
+      psg = IsBytes-take psg_port.port_size (drop fm_port.port_size (drop video.vdp_size (drop (shared.store_length bytes) bytes))) past_fm;
+      lines = IsBytes-drop psg_port.port_size (drop fm_port.port_size (drop video.vdp_size (drop (shared.store_length bytes) bytes))) past_fm;
     }
 
 -- a board over a recording

@@ -7,6 +7,7 @@ use Rattle.m68k_chip.specs.Numbers.{Numbers68}
 use Rattle.m68k_chip.specs.Saved as saved68
 use Rattle.m68k_chip.specs.Spelling as main
 use Rattle.z80_chip.specs.Saved as saved80
+use Rattle.z80_chip.specs.Spelling as sub
 use Rattle.z80_chip.specs.declared.saved.Saved80.{Saved80}
 use Rattle.vdp_ports.specs.Numbers.{VdpNumbers}
 use Rattle.vdp_ports.specs.Saved.{vdp_fields}
@@ -19,6 +20,7 @@ use Rattle.fm_port.specs.declared.saved_port.SavedPort.{SavedPort as FmNumbers}
 use Rattle.psg_sound.specs.SynthSpelling as psg
 use Rattle.psg_sound.specs.declared.saved_synth.SavedSynth.{SavedSynth as PsgNumbers}
 use Rattle.bus_shared.specs.Saved.{lines_fields}
+use Rattle.bus_shared.specs.Spelling.{lines_size}
 use Rattle.bus_shared.specs.declared.saved_lines.SavedLines.{SavedLines}
 
 -- so many words from an offset on
@@ -47,7 +49,7 @@ main_there bytes long = (
 )
 
 -- the Z80's numbers, with what follows them
-pub sub_there : (bytes : List ℕ) → (n : Saved80) × ((at : ℕ) (has : Bool) (rest : List Field) → Stand 62 rest bytes → Stand 0 (saved80.number_fields at has n ++ rest) bytes)
+pub sub_there : (bytes : List ℕ) → (n : Saved80) × ((at : ℕ) (has : Bool) (rest : List Field) → Stand sub.ram_offset rest bytes → Stand 0 (saved80.number_fields at has n ++ rest) bytes)
 unfolding Stand
 sub_there bytes = (
   record { next = _; stage = _; start = _; af = _; bc = _; de = _; hl = _; af2 = _; bc2 = _; de2 = _; hl2 = _; ix = _; iy = _; sp = _; pc = _; i = _; r = _; iff1 = _; iff2 = _; mode = _; halted = _; after_ei = _; resets = _; cause = _; count = _; answers = _ },
@@ -71,7 +73,7 @@ renderer_state_there bytes long = (
 )
 
 -- latches and timers of the FM chip's port, with what follows them
-pub fm_port_there : (bytes : List ℕ) → (n : FmNumbers) × ((at : ℕ) (rest : List Field) → Stand 26 rest bytes → Stand 0 (fm_port.number_fields at n ++ rest) bytes)
+pub fm_port_there : (bytes : List ℕ) → (n : FmNumbers) × ((at : ℕ) (rest : List Field) → Stand fm_port.count_offset rest bytes → Stand 0 (fm_port.number_fields at n ++ rest) bytes)
 unfolding Stand
 fm_port_there bytes = (
   record { first = _; second = _; high_a = _; low_a = _; number_b = _; control = _; run_a = _; next_a = _; run_b = _; next_b = _; flag_a = _; flag_b = _ },
@@ -79,7 +81,7 @@ fm_port_there bytes = (
 )
 
 -- the PSG's synthesis
-pub psg_there : (bytes : List ℕ) → length bytes ≡ 26 → (n : PsgNumbers) × Stand 0 (psg.synth_fields n) bytes
+pub psg_there : (bytes : List ℕ) → length bytes ≡ psg.synth_size → (n : PsgNumbers) × Stand 0 (psg.synth_fields n) bytes
 unfolding Stand
 psg_there bytes long = (
   record { latch = _; period1 = _; period2 = _; period3 = _; control = _; volume1 = _; volume2 = _; volume3 = _; volume4 = _; counter1 = _; counter2 = _; counter3 = _; counter4 = _; bit1 = _; bit2 = _; bit3 = _; bit4 = _; register = _ },
@@ -87,7 +89,7 @@ psg_there bytes long = (
 )
 
 -- the board's lines and pads
-pub lines_there : (bytes : List ℕ) → length bytes ≡ 36 → (n : SavedLines) × ((at : ℕ) → Stand 0 (lines_fields at n) bytes)
+pub lines_there : (bytes : List ℕ) → length bytes ≡ lines_size → (n : SavedLines) × ((at : ℕ) → Stand 0 (lines_fields at n) bytes)
 unfolding Stand
 lines_there bytes long = (
   record { bus_request = _; reset = _; resets = _; value1 = _; control1 = _; value2 = _; control2 = _; pads1 = _; pads2 = _; count1 = _; fall1 = _; count2 = _; fall2 = _ },

@@ -11,3 +11,4 @@ mod spelling;
 
 pub use chip::ChipVdp;
 pub use picture::{SCANLINE, clear_dots, fill_scanline};
+pub use saved::RENDERER_STATE_SIZE;

@@ -16,7 +16,7 @@ use std::marker::Model;
 use vdp_time::line_of;
 
 /// How many bytes of a saved state keep a VDP renderer.
-const LENGTH: usize = 230_410;
+pub const RENDERER_STATE_SIZE: usize = 230_410;
 
 /// The offset of the picture among them.
 const DOTS: usize = 10;
@@ -54,7 +54,7 @@ impl<'a> SavedRendererState<'a> {
             next: u64_at(bytes, 0),
             overflow: u8_at(bytes, 8),
             collision: u8_at(bytes, 9),
-            picture: &bytes[DOTS..LENGTH],
+            picture: &bytes[DOTS..RENDERER_STATE_SIZE],
         }
     }
 
@@ -86,8 +86,8 @@ impl<'a> SavedRendererState<'a> {
         ensures found { IfOk result (λ n. Keeps (renderer_state_fields at pal) bytes.now n × IsRight (renderer_state_fields at pal) n) }
         ensures refused { IfErr result (λ place. IsRefused renderer_state_size (renderer_state_fields at pal) bytes.now place) }
     {
-        if bytes.len() != LENGTH {
-            return Err(bytes.len().min(LENGTH));
+        if bytes.len() != RENDERER_STATE_SIZE {
+            return Err(bytes.len().min(RENDERER_STATE_SIZE));
         }
         let saved = SavedRendererState::read(bytes);
         let holds = saved.is_picture(at, pal);

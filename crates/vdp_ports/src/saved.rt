@@ -17,7 +17,7 @@ use std::alloc::Global;
 use std::marker::Model;
 
 /// How many bytes of a saved state keep a VDP.
-const LENGTH: usize = 65_813;
+pub const VDP_SIZE: usize = 65_813;
 
 /// The offsets of VRAM and CRAM among them.
 const VRAM: usize = 24;
@@ -197,8 +197,8 @@ impl<'a> SavedVdp<'a> {
         ensures found { IfOk result (λ n. Keeps (vdp_fields at pal) bytes.now n × IsRight (vdp_fields at pal) n) }
         ensures refused { IfErr result (λ place. IsRefused vdp_size (vdp_fields at pal) bytes.now place) }
     {
-        if bytes.len() != LENGTH {
-            return Err(bytes.len().min(LENGTH));
+        if bytes.len() != VDP_SIZE {
+            return Err(bytes.len().min(VDP_SIZE));
         }
         let saved = SavedVdp::read(bytes);
         match first_invalid(&saved.fields(at, pal)) {

@@ -17,3 +17,4 @@ mod spelling;
 mod stage;
 
 pub use chip::Chip80;
+pub use spelling::{FULL_SIZE, RAM_OFFSET};

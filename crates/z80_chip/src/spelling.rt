@@ -16,13 +16,13 @@ use z80_exec::{DecodeCache80, Progress80};
 use z80_parcel::{BANKS, parcel_of, put_store};
 
 /// How many bytes of a saved state keep a Z80 without its RAM; else the offset of its RAM.
-const RAM: usize = 62;
+pub const RAM_OFFSET: usize = 62;
 
 /// The offset of the bank register.
 const BANK: usize = 8_254;
 
 /// How many bytes keep a Z80 with its RAM.
-const LENGTH: usize = 8_256;
+pub const FULL_SIZE: usize = 8_256;
 
 impl Chip80 {
     ghost use Rattle.std.specs.Arc.{arc_value};
@@ -82,7 +82,9 @@ impl Chip80 {
         };
         let parcel = parcel_at(alloc, bytes)?;
         if !saved.asks_more(&cart, &parcel) {
-            return Err(Unspell::Rule { place: RAM as u64 });
+            return Err(Unspell::Rule {
+                place: RAM_OFFSET as u64,
+            });
         }
         let cache = DecodeCache80::empty(alloc)?;
         let mut sequencer = saved.sequencer();
@@ -103,11 +105,11 @@ fn checked(bytes: &[u8], at: u64) -> Result<Saved80, usize>
     ensures found { IfOk result (λ saved. IsRead at bytes.now saved) }
     ensures refused { IfErr result (λ place. (cart : List ℕ) → InvalidAt cart at bytes.now place) }
 {
-    if bytes.len() != RAM && bytes.len() != LENGTH {
-        return Err(bytes.len().min(LENGTH));
+    if bytes.len() != RAM_OFFSET && bytes.len() != FULL_SIZE {
+        return Err(bytes.len().min(FULL_SIZE));
     }
     let saved = Saved80::read(bytes);
-    let has = bytes.len() != RAM;
+    let has = bytes.len() != RAM_OFFSET;
     if let Some(place) = first_invalid(&saved.fields(at, has)) {
         return Err(place);
     }
@@ -124,9 +126,9 @@ fn parcel_at(alloc: Global, bytes: &[u8]) -> Result<Option<Parcel>, NoMemory>
     requires nine { IfSome (store_at bytes.now) IsStore }
     ensures { IfOk result (λ parcel. option_map store_of parcel ≡ store_at bytes.now) }
 {
-    if bytes.len() == RAM {
+    if bytes.len() == RAM_OFFSET {
         return Ok(None);
     }
     let bank = u16_at(bytes, BANK);
-    Ok(Some(parcel_of(alloc, &bytes[RAM..BANK], bank)?))
+    Ok(Some(parcel_of(alloc, &bytes[RAM_OFFSET..BANK], bank)?))
 }

@@ -1,13 +1,10 @@
 // The bytes of saved states that keep the board, and buffers of pre-rendered lines.
 use crate::board::fixture::{Board, empty};
-use bus_shared::Shared;
+use bus_shared::{FULL_SIZE, Shared};
 use md_word::Unspell;
 use row_lines::{Answer, RowError, arguments};
 use std::alloc::Global;
 use vdp_ahead::LineBuffer;
-
-/// The bytes of a board that has the Z80's RAM.
-const LONG: usize = 96_601;
 
 impl Board {
     pub(crate) fn obey_saved(
@@ -31,7 +28,7 @@ impl Board {
     /// Replaces the bytes by those of a state at a cycle that keep the board.
     fn save(&mut self, alloc: Global, rest: &str) -> Result<(), RowError> {
         let at = arguments(rest, "d")?[0];
-        let mut bytes = Vec::with_capacity(alloc, LONG)?;
+        let mut bytes = Vec::with_capacity(alloc, FULL_SIZE)?;
         self.shared.spell(u64::from(at), &mut bytes);
         self.buffer.take(bytes);
         Ok(())

@@ -1,13 +1,10 @@
 // The bytes of a saved state that keep the chips and their ports.
 use crate::sound::chips::{FAR, Sound};
 use fm_chip::FmSynth;
-use fm_port::FmPort;
+use fm_port::{FmPort, PORT_SIZE};
 use md_word::Unspell;
 use psg_sound::{PsgPort, PsgSynth};
 use row_lines::{RowError, compared, number, pieces};
-
-/// As many bytes as the longest of the four has, which is the FM chip's port.
-const LONGEST: usize = 12_316;
 
 /// A chip, and a cycle.
 fn chip_and_cycle(words: &str) -> Result<(&str, u64), RowError> {
@@ -48,7 +45,8 @@ impl Sound {
 
     /// The bytes that keep a chip.
     fn spelled(&self, chip: &str, at: u64) -> Result<Vec<u8>, RowError> {
-        let mut bytes = Vec::with_capacity(self.alloc, LONGEST)?;
+        // The FM chip's port is the longest of the four.
+        let mut bytes = Vec::with_capacity(self.alloc, PORT_SIZE)?;
         match chip {
             "psg-port" => self.psg_port.spell(at, &mut bytes),
             "psg" => self.psg.spell(at, &mut bytes),

@@ -3,12 +3,8 @@ use crate::vdp::video::Video;
 use md_word::Unspell;
 use row_lines::{Answer, RowError, arguments};
 use std::alloc::Global;
-use vdp_chip::ChipVdp;
-use vdp_ports::VdpState;
-
-const VDP: usize = 65_813;
-
-const RENDERER_STATE: usize = 230_410;
+use vdp_chip::{ChipVdp, RENDERER_STATE_SIZE};
+use vdp_ports::{VDP_SIZE, VdpState};
 
 /// Writes why bytes are no state.
 fn tell_refusal(error: Unspell, answer: &mut Answer) -> Result<(), RowError> {
@@ -42,7 +38,7 @@ impl Video {
     /// Replaces the bytes by those of a state at a cycle that keep the VDP.
     fn save_vdp(&mut self, alloc: Global, rest: &str) -> Result<(), RowError> {
         let at = arguments(rest, "d")?[0];
-        let mut bytes = Vec::with_capacity(alloc, VDP)?;
+        let mut bytes = Vec::with_capacity(alloc, VDP_SIZE)?;
         self.vdp.spell(u64::from(at), &mut bytes);
         self.buffer.take(bytes);
         Ok(())
@@ -51,7 +47,7 @@ impl Video {
     /// The same of the renderer; the frame that is kept, if one is, follows.
     fn save_renderer_state(&mut self, alloc: Global, rest: &str) -> Result<(), RowError> {
         let at = arguments(rest, "d")?[0];
-        let mut bytes = Vec::with_capacity(alloc, RENDERER_STATE)?;
+        let mut bytes = Vec::with_capacity(alloc, RENDERER_STATE_SIZE)?;
         self.chip.spell(u64::from(at), &mut bytes);
         self.buffer.take(bytes);
         self.buffer.append(self.chip.frame().unwrap_or(&[]))

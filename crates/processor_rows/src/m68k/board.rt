@@ -3,15 +3,12 @@ use crate::m68k::changes::{change, piece, range_of};
 use crate::m68k::events::{ahead, begun, pins, sample, take};
 use crate::m68k::registers::{registers, value_of};
 use crate::m68k::requests::put_access;
-use m68k_chip::Chip68;
+use m68k_chip::{CHIP_SIZE, Chip68};
 use md_word::{Request68, Unspell};
 use rom_header::Cart;
 use row_lines::{RowError, hexadecimal, number, word};
 use std::alloc::Global;
 use std::sync::Arc;
-
-/// The bytes that keep a 68000.
-const LENGTH: usize = 65_714;
 
 /// A 68000 with its cartridge, and bytes that keep one.
 #[derive(Drop)]
@@ -23,7 +20,7 @@ pub struct Board {
 
 /// Appends the bytes that keep a 68000 at a cycle.
 fn spelled(alloc: Global, chip: &Chip68, at: u64) -> Result<Vec<u8>, RowError> {
-    let mut bytes = Vec::with_capacity(alloc, LENGTH)?;
+    let mut bytes = Vec::with_capacity(alloc, CHIP_SIZE)?;
     chip.spell(at, &mut bytes);
     Ok(bytes)
 }

@@ -8,10 +8,7 @@ use rom_header::Cart;
 use row_lines::{RowError, compared, number, pieces};
 use std::alloc::Global;
 use std::sync::Arc;
-use z80_chip::Chip80;
-
-/// How many bytes keep a Z80 with its RAM.
-const LENGTH: usize = 8_256;
+use z80_chip::{Chip80, FULL_SIZE};
 
 fn shared(alloc: Global) -> Result<Arc<Cart>, RowError> {
     let cart = cartridge(alloc)?;
@@ -91,7 +88,7 @@ pub fn request(fixture: &mut Z80) -> Result<String, RowError> {
 /// The bytes that keep a Z80.
 #[tactic(auto, using(z80_chip::proofs::SpellingLaws::most))]
 fn spelled(alloc: Global, chip: &Chip80, at: u64) -> Result<Vec<u8>, RowError> {
-    let mut bytes = Vec::with_capacity(alloc, LENGTH)?;
+    let mut bytes = Vec::with_capacity(alloc, FULL_SIZE)?;
     chip.spell(at, &mut bytes);
     Ok(bytes)
 }

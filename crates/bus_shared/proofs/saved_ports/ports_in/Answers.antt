@@ -1,14 +1,15 @@
 use Rattle.std.proofs.Common.{◌∙◌, ℕ, List, take, drop, Err, ap, sym, subst, inl, inr, arith}
 use Rattle.md_word.specs.declared.unspell.Unspell.TheVariants.{Rule}
 use Rattle.md_fields.proofs.Items.{refused_within}
-use Rattle.fm_port.specs.PortSpelling.{PortInvalidAt}
+use Rattle.fm_port.specs.PortSpelling.{PortInvalidAt, port_size as fm_size}
 use Rattle.psg_sound.specs.PortSpelling as psg_spelling
 use Rattle.md_fields.proofs.Refusals.{same_fault}
 use Rattle.bus_shared.specs.Saved.{lines_fields}
-use Rattle.bus_shared.specs.Spelling.{LinesInvalidAt}
-use Rattle.bus_shared.proofs.SavedLaws.{lines_size}
+use Rattle.bus_shared.specs.Spelling.{LinesInvalidAt, lines_size}
+use Rattle.bus_shared.proofs.SavedLaws.{fields_size}
 use Rattle.bus_shared.proofs.SpellingLaws.{after_rule, place_is, psg_near}
 use Rattle.bus_shared.proofs.saved_ports.ports_in.Goals as goal
+use Rattle.psg_sound.specs.PortSpelling.{port_size as psg_size}
 
 pub returns-in-Err-clause-rule : goal.returns-in-Err-clause-rule
 returns-in-Err-clause-rule c = λ place e.
@@ -24,19 +25,19 @@ following-requires-clause-near c = λ place e.
 
 pub returns-in-Err-psg_in-clause-rule : goal.returns-in-Err-psg_in-clause-rule
 returns-in-Err-psg_in-clause-rule c = λ place e.
-    let w = after_rule 12316 c.in-Err-psg_in.fault place (sym c.following.ensures ∙ same_fault c.following.result (Rule place) e) in
+    let w = after_rule fm_size c.in-Err-psg_in.fault place (sym c.following.ensures ∙ same_fault c.following.result (Rule place) e) in
     inr (
       λ p invalid. c.in-Ok.ensures.right p (subst (λ (l : List ℕ). PortInvalidAt c.args.at l p) (sym c.split_at.ensures.front) invalid),
       inl (
         w.0,
-        subst (λ (l : List ℕ). psg_spelling.PortInvalidAt c.args.at l w.0) (c.split_at-2.ensures.front ∙ ap (take 10242) c.split_at.ensures.back) (c.in-Err-psg_in.ensures.rule w.0 (ap Err w.1)),
+        subst (λ (l : List ℕ). psg_spelling.PortInvalidAt c.args.at l w.0) (c.split_at-2.ensures.front ∙ ap (take psg_size) c.split_at.ensures.back) (c.in-Err-psg_in.ensures.rule w.0 (ap Err w.1)),
         omega (arith, w.2),
       ),
     )
 
 pub overflow_add-result-in-Err-checked : goal.overflow_add-result-in-Err-checked
 overflow_add-result-in-Err-checked c =
-    omega (arith, refused_within (lines_fields c.args.at) _ 36 (lines_size c.args.at) c.in-Err-checked.place c.in-Err-checked.ensures.refused)
+    omega (arith, refused_within (lines_fields c.args.at) _ lines_size (fields_size c.args.at) c.in-Err-checked.place c.in-Err-checked.ensures.refused)
 
 pub returns-in-Ok-checked-clause-lines : goal.returns-in-Ok-checked-clause-lines
 returns-in-Ok-checked-clause-lines c =
@@ -48,10 +49,10 @@ returns-in-Err-checked-clause-rule c = λ place e.
       λ p invalid. c.in-Ok.ensures.right p (subst (λ (l : List ℕ). PortInvalidAt c.args.at l p) (sym c.split_at.ensures.front) invalid),
       inr (
         λ p invalid. c.in-Ok-psg_in.ensures.right p
-            (subst (λ (l : List ℕ). psg_spelling.PortInvalidAt c.args.at l p) (sym (c.split_at-2.ensures.front ∙ ap (take 10242) c.split_at.ensures.back)) invalid),
+            (subst (λ (l : List ℕ). psg_spelling.PortInvalidAt c.args.at l p) (sym (c.split_at-2.ensures.front ∙ ap (take psg_size) c.split_at.ensures.back)) invalid),
         inl (
           c.in-Err-checked.place,
-          subst (λ (l : List ℕ). LinesInvalidAt c.args.at l c.in-Err-checked.place) (c.split_at-2.ensures.back ∙ ap (drop 10242) c.split_at.ensures.back) c.in-Err-checked.ensures.refused,
+          subst (λ (l : List ℕ). LinesInvalidAt c.args.at l c.in-Err-checked.place) (c.split_at-2.ensures.back ∙ ap (drop psg_size) c.split_at.ensures.back) c.in-Err-checked.ensures.refused,
           omega (arith, place_is _ _ (same_fault _ (Rule place) e)),
         ),
       ),

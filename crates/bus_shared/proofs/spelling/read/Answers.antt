@@ -16,7 +16,9 @@ use Rattle.bus_shared.specs.Spelling.{IsLength, Spells, StoreInvalidAt, cut, sto
 use Rattle.bus_shared.proofs.SavedLaws.{falls_of}
 use Rattle.bus_shared.proofs.SpellingLaws.{PortsIn, after_rule, ok_not, ports_exit, ports_near, vdp_exit, vdp_near, whole}
 use Rattle.bus_shared.proofs.spelling.read.Goals as goal
-use Rattle.bus_shared.proofs.spelling.read.Goals.{else-bytes-ne-SHORT-via-then-bytes-ne-SHORT+else-bytes-ne-LONG, else-bytes-ne-SHORT-via-else-bytes-ne-SHORT}
+use Rattle.bus_shared.proofs.spelling.read.Goals.{else-bytes-ne-BOARD_SIZE-via-then-bytes-ne-BOARD_SIZE+else-bytes-ne-FULL_SIZE, else-bytes-ne-BOARD_SIZE-via-else-bytes-ne-BOARD_SIZE}
+use Rattle.fm_port.specs.PortSpelling.{port_size as fm_size}
+use Rattle.psg_sound.specs.PortSpelling.{port_size as psg_size}
 
 pub following-requires-clause-near : goal.following-requires-clause-near
 following-requires-clause-near c = λ place e. omega (arith, vdp_near c.args.at c.args.pal _ place ((c.in-Err-unspell.ensures.rule place).0 (ap Err e)))
@@ -24,9 +26,9 @@ following-requires-clause-near c = λ place e. omega (arith, vdp_near c.args.at 
 pub returns-in-Err-unspell-clause-rule : goal.returns-in-Err-unspell-clause-rule
 returns-in-Err-unspell-clause-rule c = λ place e.
     let bytes = c.args.bytes.now in
-    let long : IsLength bytes = elim c.else-bytes-ne-SHORT.branch [
-      | else-bytes-ne-SHORT-via-then-bytes-ne-SHORT+else-bytes-ne-LONG w ↦ inr (w.if-bytes-ne-LONG.false)
-      | else-bytes-ne-SHORT-via-else-bytes-ne-SHORT w ↦ inl (w.if-bytes-ne-SHORT.false)
+    let long : IsLength bytes = elim c.else-bytes-ne-BOARD_SIZE.branch [
+      | else-bytes-ne-BOARD_SIZE-via-then-bytes-ne-BOARD_SIZE+else-bytes-ne-FULL_SIZE w ↦ inr (w.if-bytes-ne-FULL_SIZE.false)
+      | else-bytes-ne-BOARD_SIZE-via-else-bytes-ne-BOARD_SIZE w ↦ inl (w.if-bytes-ne-BOARD_SIZE.false)
     ] in
     let w = after_rule (length c.split_at.result.0.now) c.in-Err-unspell.fault place (sym c.following.ensures ∙ same_fault c.following.result (Rule place) e) in
     let front : c.split_at-2.result.0.now ≡ (cut bytes).vdp = c.split_at-2.ensures.front ∙ ap (take vdp_size) c.split_at.ensures.back in
@@ -38,9 +40,9 @@ returns-in-Err-unspell-clause-rule c = λ place e.
 pub ports_in-requires-clause-length : goal.ports_in-requires-clause-length
 ports_in-requires-clause-length c =
     let bytes = c.args.bytes.now in
-    let long : IsLength bytes = elim c.else-bytes-ne-SHORT.branch [
-      | else-bytes-ne-SHORT-via-then-bytes-ne-SHORT+else-bytes-ne-LONG w ↦ inr (w.if-bytes-ne-LONG.false)
-      | else-bytes-ne-SHORT-via-else-bytes-ne-SHORT w ↦ inl (w.if-bytes-ne-SHORT.false)
+    let long : IsLength bytes = elim c.else-bytes-ne-BOARD_SIZE.branch [
+      | else-bytes-ne-BOARD_SIZE-via-then-bytes-ne-BOARD_SIZE+else-bytes-ne-FULL_SIZE w ↦ inr (w.if-bytes-ne-FULL_SIZE.false)
+      | else-bytes-ne-BOARD_SIZE-via-else-bytes-ne-BOARD_SIZE w ↦ inl (w.if-bytes-ne-BOARD_SIZE.false)
     ] in
     elim long [
       | inl e ↦ omega (arith, e, c.split_at.ensures.front_len, c.split_at.ensures.back_len, c.split_at-2.ensures.back_len, c.split_at-2.ensures.front_len)
@@ -53,9 +55,9 @@ following-requires-in-Err-ports_in-clause-near c = λ place e. omega (arith, por
 pub returns-in-Err-ports_in-clause-rule : goal.returns-in-Err-ports_in-clause-rule
 returns-in-Err-ports_in-clause-rule c = λ place e.
     let bytes = c.args.bytes.now in
-    let long : IsLength bytes = elim c.else-bytes-ne-SHORT.branch [
-      | else-bytes-ne-SHORT-via-then-bytes-ne-SHORT+else-bytes-ne-LONG w ↦ inr (w.if-bytes-ne-LONG.false)
-      | else-bytes-ne-SHORT-via-else-bytes-ne-SHORT w ↦ inl (w.if-bytes-ne-SHORT.false)
+    let long : IsLength bytes = elim c.else-bytes-ne-BOARD_SIZE.branch [
+      | else-bytes-ne-BOARD_SIZE-via-then-bytes-ne-BOARD_SIZE+else-bytes-ne-FULL_SIZE w ↦ inr (w.if-bytes-ne-FULL_SIZE.false)
+      | else-bytes-ne-BOARD_SIZE-via-else-bytes-ne-BOARD_SIZE w ↦ inl (w.if-bytes-ne-BOARD_SIZE.false)
     ] in
     let w = after_rule (length c.split_at.result.0.now + vdp_size) c.in-Err-ports_in.fault place (sym c.following-in-Err-ports_in.ensures ∙ same_fault c.following-in-Err-ports_in.result (Rule place) e) in
     let front : c.split_at-2.result.0.now ≡ (cut bytes).vdp = c.split_at-2.ensures.front ∙ ap (take vdp_size) c.split_at.ensures.back in
@@ -86,9 +88,9 @@ returns-clause-found c =
             store_is = sym c.split_at.ensures.front ∙ c.in-Ok.ensures.found.0;
             store_fits = c.in-Ok.ensures.found.1;
             vdp_is = subst (λ (l : List ℕ). vdp_spelling.Spells c.args.at c.args.pal l c.in-Ok-unspell.vdp) front c.in-Ok-unspell.ensures.found;
-            fm_is = subst (λ (l : List ℕ). fm_spelling.SpellsPort c.args.at (take 12316 l) ports.fm.value) back c.in-Ok-ports_in.ensures.fm;
-            psg_is = subst (λ (l : List ℕ). psg_spelling.SpellsPort c.args.at (take 10242 (drop 12316 l)) ports.psg.value) back c.in-Ok-ports_in.ensures.psg;
-            lines_are = subst (λ (l : List ℕ). Keeps (lines_fields c.args.at) (drop 10242 (drop 12316 l)) ports.lines) back c.in-Ok-ports_in.ensures.lines.0;
+            fm_is = subst (λ (l : List ℕ). fm_spelling.SpellsPort c.args.at (take fm_size l) ports.fm.value) back c.in-Ok-ports_in.ensures.fm;
+            psg_is = subst (λ (l : List ℕ). psg_spelling.SpellsPort c.args.at (take psg_size (drop fm_size l)) ports.psg.value) back c.in-Ok-ports_in.ensures.psg;
+            lines_are = subst (λ (l : List ℕ). Keeps (lines_fields c.args.at) (drop psg_size (drop fm_size l)) ports.lines) back c.in-Ok-ports_in.ensures.lines.0;
             lines_right = c.in-Ok-ports_in.ensures.lines.1;
           })),
       ap (λ (b : Board). b.recording) made,

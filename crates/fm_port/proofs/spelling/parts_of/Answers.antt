@@ -10,7 +10,7 @@ first_invalid-requires c = omega (arith, ap sizes c.fields.ensures.fields ∙ nu
 
 pub returns-in-Some-clause-refused : goal.returns-in-Some-clause-refused
 returns-in-Some-clause-refused c =
-    breaks_number c.args.at c.args.bytes.now c.read-numbers.result c.in-Some.place (λ i. omega (arith, c.type_inv.bytes i)) c.if-bytes-ne-LENGTH.false c.read-numbers.ensures
+    breaks_number c.args.at c.args.bytes.now c.read-numbers.result c.in-Some.place (λ i. omega (arith, c.type_inv.bytes i)) c.if-bytes-ne-PORT_SIZE.false c.read-numbers.ensures
     (ap (first_invalid 0) (sym c.fields.ensures.fields) ∙ sym c.first_invalid.ensures ∙ c.in-Some.is)
 
 -- the rule of the writes by the count that was read
@@ -22,13 +22,13 @@ returns-clause-found c =
     let same : c.from-count.result ≡ count_in c.args.bytes.now = c.from-count.ensures ∙ c.u16_at.ensures in
     subst (λ (ws : List FmWrite). SpellsPort c.args.at c.args.bytes.now (port_with c.read-numbers.result ws))
     (sym (c.read_writes.ensures ∙ ap (λ (n : ℕ). writes_from n (entries_in c.args.bytes.now)) same))
-    (port_read c.args.at c.args.bytes.now c.read-numbers.result (λ i. omega (arith, c.type_inv.bytes i)) c.if-bytes-ne-LENGTH.false c.read-numbers.ensures
+    (port_read c.args.at c.args.bytes.now c.read-numbers.result (λ i. omega (arith, c.type_inv.bytes i)) c.if-bytes-ne-PORT_SIZE.false c.read-numbers.ensures
     (ap (first_invalid 0) (sym c.fields.ensures.fields) ∙ sym c.first_invalid.ensures ∙ c.in_default.is)
     (reported_by c.args.at c.from-count.result _ (entries_in c.args.bytes.now) _ same c.are_saved.ensures ∙ c.if-not-are_saved.false))
 
 pub returns-then-not-are_saved-clause-refused : goal.returns-then-not-are_saved-clause-refused
 returns-then-not-are_saved-clause-refused c =
     let same : c.from-count.result ≡ count_in c.args.bytes.now = c.from-count.ensures ∙ c.u16_at.ensures in
-    breaks_writes c.args.at c.args.bytes.now c.read-numbers.result (λ i. omega (arith, c.type_inv.bytes i)) c.if-bytes-ne-LENGTH.false c.read-numbers.ensures
+    breaks_writes c.args.at c.args.bytes.now c.read-numbers.result (λ i. omega (arith, c.type_inv.bytes i)) c.if-bytes-ne-PORT_SIZE.false c.read-numbers.ensures
     (ap (first_invalid 0) (sym c.fields.ensures.fields) ∙ sym c.first_invalid.ensures ∙ c.in_default.is)
     (reported_by c.args.at c.from-count.result _ (entries_in c.args.bytes.now) _ same c.are_saved.ensures ∙ c.if-not-are_saved.true)

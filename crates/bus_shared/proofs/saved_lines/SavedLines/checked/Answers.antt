@@ -2,11 +2,11 @@ use Rattle.std.proofs.Common.{inr, sym, ap, ◌∙◌, arith}
 use Rattle.md_fields.specs.Fields.{sizes, first_invalid}
 use Rattle.md_fields.proofs.Items.{kept}
 use Rattle.bus_shared.specs.Saved.{lines_fields}
-use Rattle.bus_shared.proofs.SavedLaws.{lines_size}
+use Rattle.bus_shared.proofs.SavedLaws.{fields_size}
 use Rattle.bus_shared.proofs.saved_lines.SavedLines.checked.Goals as goal
 
 pub first_invalid-requires : goal.first_invalid-requires
-first_invalid-requires c = omega (arith, ap sizes c.fields.ensures.fields ∙ lines_size c.args.at c.read-lines.result)
+first_invalid-requires c = omega (arith, ap sizes c.fields.ensures.fields ∙ fields_size c.args.at c.read-lines.result)
 
 pub returns-in-Some-clause-refused : goal.returns-in-Some-clause-refused
 returns-in-Some-clause-refused c = inr (record {
