@@ -19,7 +19,7 @@ use Rattle.m68k_exec.proofs.Bounds.KeepsSamples.{status_kept}
 use Rattle.m68k_exec.proofs.Bounds.Spends.{never_odd, waits}
 use Rattle.m68k_exec.proofs.Later.Samples as later
 use Rattle.m68k_chip.specs.Cases.{case_of, cause_of, mask_of}
-use Rattle.m68k_chip.specs.Events.{answered, answered_at, at_sample, at_word, begun, begun_with, came_to, carried_out, end_of, left_by, next_source, request_at, request_in, request_of, waited, went_on, with_started}
+use Rattle.m68k_chip.specs.Events.{answered, answered_at, at_sample, at_word, begun, begun_with, came_to, carried_out, end_of, left_by, next_source, request_at, request_in, request_of, step, waited, went_on, with_started}
 use Rattle.m68k_chip.specs.Validity.{AreFit, Asks, Chip68Value, Fits, FitsValue, IsAsking, IsAt, IsBetween, IsKnownCause, IsChip68, IsWordCost, IsStarted, IsTransfer}
 use Rattle.m68k_chip.specs.States.{State68, is_sample, next_of, none_left, power_on}
 use Rattle.m68k_chip.specs.declared.case.Case.TheVariants.{Halted, Trace, Interrupt, Stopped, Instruction}
@@ -75,7 +75,7 @@ halts-early true start end less = less
 halts-early false start end less = tt
 
 -- the end of a sample is at least 28 cycles after its start for none, and 28 more for each access
-pub end-late : (cart : List ℕ) (state : State68) (cause : ℕ) (answers : List ℕ) (ended : Ended) → carried_out cart state cause answers ≡ Ok ended → state.start + 28 * ended.spent.accesses + 28 ≤ end_of state ended
+pub end-late : (cart : List ℕ) (state : State68) (cause : ℕ) (answers : List ℕ) (ended : Ended) → carried_out cart state cause answers ≡ Ok ended → state.start + step * ended.spent.accesses + step ≤ end_of state ended
 end-late cart state cause answers ended e = let time = suffices cause state.regs _ ended e in omega (arith, time)
 
 came-ok : (cart : List ℕ) (state : State68) (cause : ℕ) (answers : List ℕ) → Ready cart state cause answers → (r : Result Ended Stop) → carried_out cart state cause answers ≡ r
@@ -96,7 +96,7 @@ came-ok cart state cause answers ready (Err (Ask request)) e = record {
   ram = ready.ram;
   status = ready.status;
   transfer = ready.transfer;
-  halted = subst (λ (h : Option ℕ). IfSome h (λ since. since < state.start + 28 * (length answers + 1))) (sym ready.running) tt;
+  halted = subst (λ (h : Option ℕ). IfSome h (λ since. since < state.start + step * (length answers + 1))) (sym ready.running) tt;
   stands = record { place = refl; cause = ready.known; running = ready.running; request = request; asked = e; fit = ready.fit };
 }
 came-ok cart state cause answers ready (Err (Odd address read used)) e = absurd (never_odd cause state.regs _ address read used e)
@@ -120,7 +120,7 @@ waited-ok v ok between none = record {
   ram = ok.ram;
   status = ok.status;
   transfer = ok.transfer;
-  halted = raised v.state.halted v.state.next (v.state.start + 28) (let e = between.start in omega (arith, e)) ok.halted;
+  halted = raised v.state.halted v.state.next (v.state.start + step) (let e = between.start in omega (arith, e)) ok.halted;
   stands = (record { start = refl; cause = between.cause; answers = between.answers }, none);
 }
 
@@ -143,7 +143,7 @@ begun-ok v level known ok kind =
     begun-by v ok at.0 at.1 (cause_of (case_of v.state level)) (chosen v.state level known)
 
 came-later : (cart : List ℕ) (state : State68) (cause : ℕ) (answers : List ℕ) (r : Result Ended Stop) → carried_out cart state cause answers ≡ r
-    → ((ended : Ended) → r ≡ Ok ended → length answers ≤ ended.spent.accesses) → state.start + 28 * (length answers + 1) ≤ (came_to state cause answers r).next
+    → ((ended : Ended) → r ≡ Ok ended → length answers ≤ ended.spent.accesses) → state.start + step * (length answers + 1) ≤ (came_to state cause answers r).next
 came-later cart state cause answers (Ok ended) e most =
     let late = end-late cart state cause answers ended e in
     let taken = most ended refl in
@@ -152,7 +152,7 @@ came-later cart state cause answers (Ok ended) e most =
 came-later cart state cause answers (Err (Ask request)) e most = omega arith
 came-later cart state cause answers (Err (Odd address read used)) e most = absurd (never_odd cause state.regs _ address read used e)
 
-begun-late : (v : Chip68Value) → IsBetween v.state → (c : Option ℕ) → v.state.next + 28 ≤ (begun_with v.cart v.state c).next
+begun-late : (v : Chip68Value) → IsBetween v.state → (c : Option ℕ) → v.state.next + step ≤ (begun_with v.cart v.state c).next
 unfolding went_on
 begun-late v between None = let e = between.start in omega (arith, e)
 begun-late v between (Some cause) =
@@ -160,7 +160,7 @@ begun-late v between (Some cause) =
     let late = came-later v.cart v.state cause [] (carried_out v.cart v.state cause []) refl (λ ended is. omega arith) in
     omega (arith, e, late)
 
-pub begun-later : (v : Chip68Value) (level : ℕ) → IsChip68 v → (next_of v.state).sample ≡ true → v.state.next + 28 ≤ (begun v.cart v.state level).next
+pub begun-later : (v : Chip68Value) (level : ℕ) → IsChip68 v → (next_of v.state).sample ≡ true → v.state.next + step ≤ (begun v.cart v.state level).next
 unfolding begun next_of
 begun-later v level ok kind =
     let at = sample-between v.state.stage v.cart v.state kind ok.stands in
@@ -235,13 +235,13 @@ one-more transfer cost more (inr started) is =
     inr (record { some = grind (arith, nat_tests); most = omega (arith, most); even = next.0; on_bus = next.1; cost = is })
 
 moved-by : (b : Bool) (v : Chip68Value) (cost : ℕ) → nat_le v.state.transfer.words 1 ≡ b → IsChip68 v → IsBetween v.state → IsWordCost cost
-    → IsChip68 (of v.cart (if b then at_sample (record v.state { transfer = none_left }) (v.state.next + 28) else at_word (record v.state { transfer = record { source = next_source v.state.transfer.source; words = v.state.transfer.words - 1; cost = cost } }) (v.state.next + cost)))
+    → IsChip68 (of v.cart (if b then at_sample (record v.state { transfer = none_left }) (v.state.next + step) else at_word (record v.state { transfer = record { source = next_source v.state.transfer.source; words = v.state.transfer.words - 1; cost = cost } }) (v.state.next + cost)))
 moved-by true v cost e ok between is = record {
   image = ok.image;
   ram = ok.ram;
   status = ok.status;
   transfer = inl refl;
-  halted = raised v.state.halted v.state.next (v.state.next + 28) (omega arith) ok.halted;
+  halted = raised v.state.halted v.state.next (v.state.next + step) (omega arith) ok.halted;
   stands = (record { start = refl; cause = between.cause; answers = between.answers }, refl);
 }
 moved-by false v cost e ok between is = record {
@@ -279,7 +279,7 @@ takes-more cart state cause answers x request ended asks e =
       | inr less ↦ absurd (different ended (Ask request) (sym (later.sampled cause state.regs _ _ ended e (answers-same cart state.ram answers x ended.spent.accesses less)) ∙ asks))
     ]
 
-asked-late : (v : Chip68Value) (answer : Answer68) → IsAsking v.cart v.state → v.state.next + 28 ≤ (went_on v.cart (with_started v.state answer.transfer) v.state.cause (v.state.answers ++ answer.value ∷ [])).next
+asked-late : (v : Chip68Value) (answer : Answer68) → IsAsking v.cart v.state → v.state.next + step ≤ (went_on v.cart (with_started v.state answer.transfer) v.state.cause (v.state.answers ++ answer.value ∷ [])).next
 unfolding went_on
 asked-late v answer a =
     let rest = started-rest v.state answer.transfer in
@@ -290,22 +290,22 @@ asked-late v answer a =
     (λ ended is. (let more = takes-more v.cart v.state v.state.cause v.state.answers answer.value a.request ended a.asked (sym (started-same v.cart v.state answer.transfer v.state.cause (v.state.answers ++ answer.value ∷ [])) ∙ is) in omega (arith, more, counted))) in
     omega (arith, place, late, counted, start)
 
-cost-late : (cost : ℕ) → IsWordCost cost → 28 ≤ cost
+cost-late : (cost : ℕ) → IsWordCost cost → step ≤ cost
 cost-late cost (inl is) = omega (arith, is)
 cost-late cost (inr is) = omega (arith, is)
 
 moved-late : (b : Bool) (state : State68) (cost : ℕ) → IsWordCost cost
-    → state.next + 28 ≤ (if b then at_sample (record state { transfer = none_left }) (state.next + 28) else at_word (record state { transfer = record { source = next_source state.transfer.source; words = state.transfer.words - 1; cost = cost } }) (state.next + cost)).next
+    → state.next + step ≤ (if b then at_sample (record state { transfer = none_left }) (state.next + step) else at_word (record state { transfer = record { source = next_source state.transfer.source; words = state.transfer.words - 1; cost = cost } }) (state.next + cost)).next
 moved-late true state cost is = omega arith
 moved-late false state cost is = let least = cost-late cost is in omega (arith, least)
 
 late-by : (stage : Stage) (v : Chip68Value) (answer : Answer68) → IsAt stage v.cart v.state → is_sample stage ≡ false → Fits (request_at stage v.cart v.state) answer
-    → v.state.next + 28 ≤ (answered_at stage v.cart v.state answer).next
+    → v.state.next + step ≤ (answered_at stage v.cart v.state answer).next
 late-by Sample v answer at kind fits = cc
 late-by Access v answer at kind fits = asked-late v answer at
 late-by Word v answer at kind fits = moved-late (nat_le v.state.transfer.words 1) v.state answer.cost fits.cost
 
-pub answered-later : (v : Chip68Value) (answer : Answer68) → IsChip68 v → (next_of v.state).sample ≡ false → Fits (request_of v.cart v.state) answer → v.state.next + 28 ≤ (answered v.cart v.state answer).next
+pub answered-later : (v : Chip68Value) (answer : Answer68) → IsChip68 v → (next_of v.state).sample ≡ false → Fits (request_of v.cart v.state) answer → v.state.next + step ≤ (answered v.cart v.state answer).next
 unfolding answered next_of request_of
 answered-later v answer ok kind fits = late-by v.state.stage v answer ok.stands kind fits
 

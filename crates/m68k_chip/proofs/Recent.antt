@@ -15,7 +15,7 @@ use Rattle.m68k_access.specs.declared.stop.Stop.{Stop}
 use Rattle.m68k_access.specs.declared.stop.Stop.TheVariants.{Ask, Odd}
 use Rattle.m68k_exec.proofs.Bounds.Spends.{never_odd, waits}
 use Rattle.m68k_chip.specs.Cases.{case_of, cause_of}
-use Rattle.m68k_chip.specs.Events.{answered, answered_at, at_sample, at_word, begun, begun_with, came_to, carried_out, end_of, left_by, next_source, request_at, request_of, went_on, with_started}
+use Rattle.m68k_chip.specs.Events.{answered, answered_at, at_sample, at_word, begun, begun_with, came_to, carried_out, end_of, left_by, next_source, request_at, request_of, step, went_on, with_started}
 use Rattle.m68k_chip.specs.Rules as spec
 use Rattle.m68k_chip.specs.Rules.{HasRules}
 use Rattle.m68k_chip.specs.Validity.{AreFit, Chip68Value, Fits, FitsValue, IsAt, IsChip68, IsWordCost, IsTransfer}
@@ -127,7 +127,7 @@ begun_rules at v level known ok image kind below rules =
 
 -- a word of a transfer
 moved_rules : (b : Bool) (at : ℕ) (state : State68) (cost : ℕ) → IsWordCost cost → state.next < at → HasRules at state
-    → HasRules at (if b then at_sample (record state { transfer = none_left }) (state.next + 28) else at_word (record state { transfer = record { source = next_source state.transfer.source; words = state.transfer.words - 1; cost = cost } }) (state.next + cost))
+    → HasRules at (if b then at_sample (record state { transfer = none_left }) (state.next + step) else at_word (record state { transfer = record { source = next_source state.transfer.source; words = state.transfer.words - 1; cost = cost } }) (state.next + cost))
 moved_rules true at state cost is below rules = record { ram = rules.ram; recent = record { soon = omega (arith, below); begun = tt; since = rules.recent.since } }
 moved_rules false at state cost (inl is) below rules = record { ram = rules.ram; recent = record { soon = omega (arith, below, is); begun = tt; since = rules.recent.since } }
 moved_rules false at state cost (inr is) below rules = record { ram = rules.ram; recent = record { soon = omega (arith, below, is); begun = tt; since = rules.recent.since } }

@@ -1,6 +1,7 @@
 -- What an event of the 68000 leaves, and what it asks for. Cycles are master cycles, of which a clock
 -- has 7. M68000 User's Manual, the bus cycles; the places of events are this project's profile.
 use Rattle.std.specs.Prelude.{◌≡◌, ℕ, zero, suc, ◌+◌, ◌-◌, ◌*◌, ◌/◌, ◌%◌, ◌^◌, ◌<◌, ◌≤◌, nat_le, min, true, ◌==◌, if◌then◌else◌, List, [], ◌∷◌, ◌++◌, length, Option, Some, None, Result, Ok, Err}
+use Rattle.md_word.specs.Clock.{main_gap}
 use Rattle.md_word.specs.declared.main_bus.Answer68.{Answer68}
 use Rattle.md_word.specs.declared.main_bus.Request68.{Request68}
 use Rattle.md_word.specs.declared.main_bus.Request68.TheVariants as requests
@@ -18,7 +19,7 @@ use Rattle.m68k_chip.specs.declared.stage.Stage.TheVariants.{Sample, Access, Wor
 -- from a sample to the first access of what it carries out, and from one access to the next; also the
 -- time for which a 68000 waits that is stopped or halted
 abbrev pub step : ℕ
-step = 28
+step = main_gap
 
 -- the outcome of the sample of this cause with these answers
 abbrev pub carried_out : List ℕ → State68 → ℕ → List ℕ → Result Ended Stop

@@ -7,11 +7,12 @@ ghost use Rattle.m68k_chip.specs.States.{long_in, power_on, state_of};
 use crate::stage::Stage;
 use arrayvec::ArrayVec;
 use m68k_exec::Predicted;
+use md_word::clock::MAIN_GAP;
 use md_word::{Regs, Request68, Transfer};
 
 /// The master cycles from a sample to the first access of what it carries out, from one access to
 /// the next, and for which a 68000 waits that is stopped or halted.
-pub const STEP: u64 = 28;
+pub const STEP: u64 = MAIN_GAP;
 
 /// The status register at power-on: supervisor mode, and the interrupt mask at 7.
 const RESET_STATUS: u16 = 0x2700;

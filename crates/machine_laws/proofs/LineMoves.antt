@@ -40,7 +40,7 @@ record Counts (end : ℕ) (board : Board) (main : State68) : Type 0 where
   falls : HasFalls end board
 
 -- the resets of a board that is the next, after so many more
-more-resets : (old new next later end : ℕ) → new ≤ old + 1 → old ≤ next → next < end → next + 28 ≤ later → (new ≤ end) × (new ≤ later)
+more-resets : (old new next later end : ℕ) → new ≤ old + 1 → old ≤ next → next < end → next + clock.main_gap ≤ later → (new ≤ end) × (new ≤ later)
 more-resets old new next later end one early below late = (omega arith, omega arith)
 
 -- the 68000

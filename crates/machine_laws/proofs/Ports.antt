@@ -174,7 +174,7 @@ sub-for board key TakeBack = taken-for board.request board.store (hearing board)
 module _ {A : Type 0} (p : PortOf A) (end : ℕ) where
   -- a write of the 68000 at its next event, and of the Z80, where there is one
   main-reported : (from main sub main' : ℕ) (ws new reported : List A) → IsReported p.key p.right (main_key main) reported → new ≡ held_all ws reported
-      → main < end → main ≤ from + clock.batch → main ≤ sub → main + 28 ≤ main' → AreHeld p.key from end main sub ws → AreHeld p.key from end main' sub new
+      → main < end → main ≤ from + clock.batch → main ≤ sub → main + clock.main_gap ≤ main' → AreHeld p.key from end main sub ws → AreHeld p.key from end main' sub new
   main-reported from main sub main' ws new reported (none is) new_is high batch before next held =
       subst (AreHeld p.key from end main' sub) (sym (new_is ∙ ap (held_all ws) is)) (held-later p.key from end main sub main' sub ws (omega (arith, next)) (omega arith) held)
   main-reported from main sub main' ws new reported (one w is at right) new_is high batch before next held =
@@ -182,7 +182,7 @@ module _ {A : Type 0} (p : PortOf A) (end : ℕ) where
       (held-main p.key from end main sub main' ws w at high batch before next held)
 
   sub-reported : (from main sub sub' : ℕ) (ws new reported : List A) → IsReported p.key p.right (sub_key sub) reported → new ≡ held_all ws reported
-      → sub < end → sub ≤ from + clock.batch → sub < main → sub + 45 ≤ sub' → AreHeld p.key from end main sub ws → AreHeld p.key from end main sub' new
+      → sub < end → sub ≤ from + clock.batch → sub < main → sub + clock.sub_gap ≤ sub' → AreHeld p.key from end main sub ws → AreHeld p.key from end main sub' new
   sub-reported from main sub sub' ws new reported (none is) new_is high batch before next held =
       subst (AreHeld p.key from end main sub') (sym (new_is ∙ ap (held_all ws) is)) (held-later p.key from end main sub main sub' ws (omega arith) (omega (arith, next)) held)
   sub-reported from main sub sub' ws new reported (one w is at right) new_is high batch before next held =
@@ -215,7 +215,7 @@ module _ {A : Type 0} (p : PortOf A) (end : ℕ) where
       let sub_late : z.main.next ≤ z.sub.state.next = not_before z.sub.state.next z.main.next 1 0 (paced.least 1 (lit< tt)) in
       let batch : z.main.next ≤ next_batch p.fm z = batch_low p.fm z.main.next z.fm_cycle z.psg_cycle (not_before z.fm_cycle z.main.next 3 0 (paced.least 3 (lit< tt))) (not_before z.psg_cycle z.main.next 4 0 (paced.least 4 (lit< tt))) in
       let soon : z.main.next ≤ holds.from + clock.batch = omega (arith, batch, holds.next) in
-      main_by (next_of z.main).sample _ _ (z.main.next + 28)
+      main_by (next_of z.main).sample _ _ (z.main.next + clock.main_gap)
       (λ late. record { from = holds.from; next = holds.next; held = held-later p.key holds.from end z.main.next z.sub.state.next _ z.sub.state.next (p.held z.shared) (omega (arith, late)) (omega arith) holds.held; right = holds.right })
       (λ late. record {
         from = holds.from;
@@ -233,7 +233,7 @@ module _ {A : Type 0} (p : PortOf A) (end : ℕ) where
       let main_late : z.sub.state.next < z.main.next = sub_before_main z.main.next z.sub.state.next (paced.least 0 (lit< tt)) in
       let batch : z.sub.state.next ≤ next_batch p.fm z = batch_low p.fm z.sub.state.next z.fm_cycle z.psg_cycle (not_before z.fm_cycle z.sub.state.next 3 1 (paced.least 3 (lit< tt))) (not_before z.psg_cycle z.sub.state.next 4 1 (paced.least 4 (lit< tt))) in
       let soon : z.sub.state.next ≤ holds.from + clock.batch = omega (arith, batch, holds.next) in
-      sub_by (sub_next_of z.sub.state).sample _ _ (z.sub.state.next + 45)
+      sub_by (sub_next_of z.sub.state).sample _ _ (z.sub.state.next + clock.sub_gap)
       (λ late. record { from = holds.from; next = holds.next; held = held-later p.key holds.from end z.main.next z.sub.state.next z.main.next _ (p.held z.shared) (omega arith) (omega (arith, late)) holds.held; right = holds.right })
       (λ late. record {
         from = holds.from;

@@ -54,7 +54,7 @@ first_done known m end n small has below some =
     by (zero_or (mover m)) own paced where
       by : (mover m ≡ 0) ⊎ (0 < mover m) → AllBelow m end 1 → IsPaced m (mover m) → least_of m < (key_in (ran m 1) 0).cycle
       by (inl is) own paced =
-          let gap_is : gap (mover m) ≡ 28 = ap gap is in
+          let gap_is : gap (mover m) ≡ clock.main_gap = ap gap is in
           let later = paced.later in
           let here : (key_in (moved m (mover m)) (mover m)).cycle ≡ (key_in (ran m 1) 0).cycle =
           (λ i. (key_in (sym (ran_one m) i) (is i)).cycle) in

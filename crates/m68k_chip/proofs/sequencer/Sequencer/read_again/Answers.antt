@@ -1,8 +1,9 @@
 use Rattle.std.proofs.Common.{◌+◌, ap}
+use Rattle.m68k_chip.specs.Events.{step}
 use Rattle.m68k_chip.specs.States.{State68}
 use Rattle.m68k_chip.specs.declared.stage.Stage.TheVariants.{Access}
 use Rattle.m68k_chip.proofs.sequencer.Sequencer.read_again.Goals as goal
 
 pub returns-clause-state : goal.returns-clause-state
 returns-clause-state c = λ ram.
-    ap (λ (s : State68). record s { next = c.args.start + 28; stage = Access; start = c.args.start; regs = c.args.regs.now }) (c.requires.sampling ram)
+    ap (λ (s : State68). record s { next = c.args.start + step; stage = Access; start = c.args.start; regs = c.args.regs.now }) (c.requires.sampling ram)
