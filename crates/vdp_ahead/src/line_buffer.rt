@@ -8,8 +8,7 @@ use crate::line::draw_line;
 use md_word::NoMemory;
 use std::alloc::Global;
 use std::marker::Model;
-use vdp_chip::SCANLINE;
-use vdp_planes::{LineView, SpriteNote, fill_view};
+use vdp_planes::{LineView, SCANLINE_LENGTH, SpriteNote, fill_view};
 use vdp_ports::VdpState;
 
 /// The scanlines of a picture at most.
@@ -23,7 +22,7 @@ pub struct LineBuffer {
     from: u32,
     to: u32,
     until: u32,
-    scanlines: [[u8; SCANLINE]; SCANLINES],
+    scanlines: [[u8; SCANLINE_LENGTH]; SCANLINES],
     notes: [SpriteNote; SCANLINES],
 }
 
@@ -52,7 +51,7 @@ impl LineBuffer {
             from: 0,
             to: 0,
             until: 0,
-            scanlines: [[0; SCANLINE]; SCANLINES],
+            scanlines: [[0; SCANLINE_LENGTH]; SCANLINES],
             notes: [SpriteNote {
                 overflow: false,
                 collision: false,

@@ -14,7 +14,7 @@ use md_word::region::picture_length;
 use md_word::{Key, Next, NoMemory};
 use std::alloc::Global;
 use std::marker::Model;
-use vdp_planes::{Dot, LineView, Scene, SpriteNote};
+use vdp_planes::{Dot, Dots, LineView, Scene, SpriteNote};
 use vdp_time::line_of;
 
 /// The number of this chip.
@@ -118,7 +118,7 @@ impl ChipVdp {
     /// Makes the event of the next line, and takes the view back: the line is drawn from it and from
     /// the dots of the line's sprites. The note of those is kept for the next request.
     #[tactic(auto, unfolding(crate::specs::RendererState::answered))]
-    pub fn answer_with(&mut self, view: Box<LineView>, sprites: &[Dot; 320], note: SpriteNote)
+    pub fn answer_with(&mut self, view: Box<LineView>, sprites: &Dots, note: SpriteNote)
         requires view { self.old.has_view ≡ false }
         requires colours { AllColours sprites.now }
         requires cycle { self.old.next < cycle_limit }
@@ -130,7 +130,7 @@ impl ChipVdp {
 
     /// `answer_with` from borrowed registers and memories: the view stays where it is.
     #[tactic(auto, unfolding(crate::specs::RendererState::line_drawn, crate::specs::RendererState::picture_after))]
-    pub fn draw_line(&mut self, scene: &Scene, sprites: &[Dot; 320], note: SpriteNote)
+    pub fn draw_line(&mut self, scene: &Scene, sprites: &Dots, note: SpriteNote)
         requires colours { AllColours sprites.now }
         requires cycle { self.old.next < cycle_limit }
         ensures { self.new ≡ line_drawn (seen scene.now) sprites.now note self.old }

@@ -9,7 +9,7 @@ ghost use Rattle.vdp_chip.specs.declared.kept.Kept.TheVariants as kinds;
 use crate::picture::{PICTURE, clear, draw_scanline, put_scanline};
 use md_word::region::rows;
 use std::mem::swap;
-use vdp_planes::{Dot, Scene};
+use vdp_planes::{Dots, Scene};
 
 /// Where the finished frame is.
 #[derive(Clone, Copy)]
@@ -76,7 +76,7 @@ pub fn draw(
     pal: bool,
     scene: &Scene,
     line: u32,
-    sprites: &[Dot; 320],
+    sprites: &Dots,
     kept: Kept,
     picture: &mut Box<[u8; PICTURE]>,
     aside: &mut Box<[u8; PICTURE]>,

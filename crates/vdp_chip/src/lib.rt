@@ -10,5 +10,5 @@ mod saved;
 mod spelling;
 
 pub use chip::ChipVdp;
-pub use picture::{SCANLINE, clear_dots, fill_scanline};
+pub use picture::{clear_dots, fill_scanline};
 pub use saved::RENDERER_STATE_SIZE;

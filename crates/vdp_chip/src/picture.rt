@@ -5,10 +5,7 @@ ghost use Rattle.vdp_planes.specs.View.{AllColours, clear, dot_at, has_bit, regi
 ghost use Rattle.vdp_chip.specs.Picture.{blank, line_scanline, memory_length, scanline_of, with_scanline, without_bit_6};
 
 use vdp_planes::register::MODE_2;
-use vdp_planes::{Dot, Scene, draw_plane, mix_dots};
-
-/// Bytes of a row: red, green and blue of 320 dots.
-pub const SCANLINE: usize = 960;
+use vdp_planes::{Dot, Dots, PICTURE_WIDTH, SCANLINE_LENGTH, Scene, draw_plane, mix_dots};
 
 /// Bytes that a picture takes: as many as one for PAL has.
 pub const PICTURE: usize = 230_400;
@@ -23,7 +20,7 @@ pub fn clear(picture: &mut [u8; PICTURE])
 
 /// Draws the dots of both planes on a line. Where the display is off none of them shows, and they stay
 /// as they are.
-fn draw_planes(scene: &Scene, line: u32, a: &mut [Dot; 320], b: &mut [Dot; 320])
+fn draw_planes(scene: &Scene, line: u32, a: &mut Dots, b: &mut Dots)
     requires line { line < 240 }
     requires colours { AllColours a.old }
     requires others { AllColours b.old }
@@ -41,17 +38,17 @@ fn draw_planes(scene: &Scene, line: u32, a: &mut [Dot; 320], b: &mut [Dot; 320])
 }
 
 /// The dots of a line on which nothing is drawn yet.
-pub fn clear_dots() -> [Dot; 320]
+pub fn clear_dots() -> Dots
     ensures dots { (x : ℕ) → x < picture_width → dot_at result x ≡ clear }
     ensures colours { AllColours result }
 {
-    [Dot::new(0, false); 320]
+    [Dot::new(0, false); PICTURE_WIDTH]
 }
 
 /// Fills a scanline of the picture from the two planes and the sprites' dots. After the lines of the display
 /// it shows the backdrop.
 #[tactic(auto, unfolding(crate::specs::Picture::scanline_of, crate::specs::Picture::on_scanline, crate::specs::Picture::hidden))]
-pub fn fill_scanline(scene: &Scene, line: u32, sprites: &[Dot; 320], scanline: &mut [u8])
+pub fn fill_scanline(scene: &Scene, line: u32, sprites: &Dots, scanline: &mut [u8])
     requires line { line < 240 }
     requires colours { AllColours sprites.now }
     requires whole { length scanline.old ≡ scanline_length }
@@ -83,7 +80,7 @@ fn without_display(registers: &[u8; 24]) -> [u8; 24]
 }
 
 /// Fills a row with a line as a scene has it.
-fn fill_line(scene: &Scene, line: u32, sprites: &[Dot; 320], scanline: &mut [u8])
+fn fill_line(scene: &Scene, line: u32, sprites: &Dots, scanline: &mut [u8])
     requires line { line < 240 }
     requires colours { AllColours sprites.now }
     requires whole { length scanline.old ≡ scanline_length }
@@ -96,14 +93,14 @@ fn fill_line(scene: &Scene, line: u32, sprites: &[Dot; 320], scanline: &mut [u8]
 }
 
 /// Draws a scanline of the picture in its place.
-pub fn draw_scanline(scene: &Scene, line: u32, sprites: &[Dot; 320], picture: &mut [u8; PICTURE])
+pub fn draw_scanline(scene: &Scene, line: u32, sprites: &Dots, picture: &mut [u8; PICTURE])
     requires line { line < 240 }
     requires colours { AllColours sprites.now }
     requires whole { length picture.old ≡ memory_length }
     ensures { picture.new ≡ with_scanline line (scanline_of (seen scene.now) sprites.now line) picture.old }
 {
-    let at = line as usize * SCANLINE;
-    fill_scanline(scene, line, sprites, &mut picture[at..at + SCANLINE]);
+    let at = line as usize * SCANLINE_LENGTH;
+    fill_scanline(scene, line, sprites, &mut picture[at..at + SCANLINE_LENGTH]);
 }
 
 /// Writes a scanline into the picture.
@@ -113,6 +110,6 @@ pub fn put_scanline(scanline: &[u8], line: u32, picture: &mut [u8; PICTURE])
     requires whole { length picture.old ≡ memory_length }
     ensures { picture.new ≡ with_scanline line scanline.now picture.old }
 {
-    let at = line as usize * SCANLINE;
-    picture[at..at + SCANLINE].copy_from_slice(scanline);
+    let at = line as usize * SCANLINE_LENGTH;
+    picture[at..at + SCANLINE_LENGTH].copy_from_slice(scanline);
 }

@@ -8,11 +8,11 @@ ghost use Rattle.vdp_chip.specs.Saved as rules;
 ghost use Rattle.vdp_chip.specs.Saved.{renderer_state_fields, fields_by};
 ghost use Rattle.vdp_chip.specs.Spelling.{renderer_state_size};
 
-use crate::picture::SCANLINE;
 use md_fields::{Field, are_zeros, first_invalid, u8_at, u64_at};
 use md_word::clock::LINE;
 use md_word::region::rows;
 use std::marker::Model;
+use vdp_planes::SCANLINE_LENGTH;
 use vdp_time::line_of;
 
 /// How many bytes of a saved state keep a VDP renderer.
@@ -77,7 +77,7 @@ impl<'a> SavedRendererState<'a> {
     fn is_picture(&self, at: u64, pal: bool) -> bool
         ensures { result ≡ rules.is_picture at pal self.now.picture }
     {
-        are_zeros(&self.picture[SCANLINE * undrawn_from(at, pal) as usize..])
+        are_zeros(&self.picture[SCANLINE_LENGTH * undrawn_from(at, pal) as usize..])
     }
 
     /// The numbers that the bytes keep, where the rules hold of them. The error is the offset of the first

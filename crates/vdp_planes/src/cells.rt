@@ -3,7 +3,7 @@ ghost use Rattle.md_word.specs.Region.{picture_width};
 ghost use Rattle.vdp_planes.specs.View.{IsFilled, clear, has_bit, seen};
 ghost use Rattle.vdp_planes.specs.Planes.{pattern_index, pixel_dot, pixel_of, run_dot, turned};
 
-use crate::view::{Dot, Scene};
+use crate::view::{Dot, Dots, Scene};
 
 /// Moves a number of 16 bits to four places, 20 bits apart.
 const FOUR_APART: u64 = 0x1000_0100_0010_0001;
@@ -99,7 +99,7 @@ fn base(name: u32) -> u16
 /// Draws dots of this name from these pixels, the one in `column` at `from`, up to `to`.
 #[inline(always)]
 #[tactic(auto, using(crate::proofs::Filled::filled_one))]
-fn pixel_run(name: u32, pixels: u32, column: u32, from: u32, to: u32, out: &mut [Dot; 320])
+fn pixel_run(name: u32, pixels: u32, column: u32, from: u32, to: u32, out: &mut Dots)
     requires name { name < 2 ^ 16 }
     requires order { from ≤ to }
     requires within { to ≤ picture_width }
@@ -126,7 +126,7 @@ fn four_words(digits: u32, base: u16) -> u64
 
 /// Writes four dots of a cell's row, those from `column` on, at their places after `from`.
 #[inline(always)]
-fn put_four(name: u32, pixels: u32, words: u64, column: u32, from: u32, out: &mut [Dot; 320])
+fn put_four(name: u32, pixels: u32, words: u64, column: u32, from: u32, out: &mut Dots)
     requires column { column ≤ 4 }
     requires within { from + 8 ≤ picture_width }
     requires whole { length out.old ≡ picture_width }
@@ -143,7 +143,7 @@ fn put_four(name: u32, pixels: u32, words: u64, column: u32, from: u32, out: &mu
 
 /// Draws the eight dots of a cell's row, four at once.
 #[inline(always)]
-fn whole_run(name: u32, pixels: u32, from: u32, out: &mut [Dot; 320])
+fn whole_run(name: u32, pixels: u32, from: u32, out: &mut Dots)
     requires name { name < 2 ^ 16 }
     requires within { from + 8 ≤ picture_width }
     requires whole { length out.old ≡ picture_width }
@@ -158,7 +158,7 @@ fn whole_run(name: u32, pixels: u32, from: u32, out: &mut [Dot; 320])
 
 /// Draws the eight dots of a row of the cell of this name.
 #[inline(always)]
-pub fn cell_row(scene: &Scene, name: u32, row: u32, from: u32, out: &mut [Dot; 320])
+pub fn cell_row(scene: &Scene, name: u32, row: u32, from: u32, out: &mut Dots)
     requires name { name < 2 ^ 16 }
     requires row { row < 8 }
     requires within { from + 8 ≤ picture_width }
@@ -172,15 +172,7 @@ pub fn cell_row(scene: &Scene, name: u32, row: u32, from: u32, out: &mut [Dot; 3
 
 /// Draws the dots of a row of the cell of this name, the one in `column` at `from`, up to `to`.
 #[inline(always)]
-pub fn cell_run(
-    scene: &Scene,
-    name: u32,
-    column: u32,
-    row: u32,
-    from: u32,
-    to: u32,
-    out: &mut [Dot; 320],
-)
+pub fn cell_run(scene: &Scene, name: u32, column: u32, row: u32, from: u32, to: u32, out: &mut Dots)
     requires name { name < 2 ^ 16 }
     requires row { row < 8 }
     requires order { from ≤ to }

@@ -17,5 +17,7 @@ pub use cells::{pixel, row_pixels};
 pub use fields::word;
 pub use line::{draw_plane, plane_line};
 pub use screen::{mix_dots, mix_line};
-pub use view::{Dot, LineView, Scene, SpriteNote, fill_view, scene_of};
+pub use view::{
+    Dot, Dots, LineView, PICTURE_WIDTH, SCANLINE_LENGTH, Scene, SpriteNote, fill_view, scene_of,
+};
 pub use window::width_of;

@@ -6,12 +6,12 @@ ghost use Rattle.vdp_planes.specs.Scrolls.{IsScroll};
 ghost use Rattle.vdp_planes.specs.Lines.{clear_at};
 
 use crate::scroll::{Scroll, draw_scrolled, scroll_of};
-use crate::view::{Dot, LineView, Scene};
+use crate::view::{Dot, Dots, LineView, PICTURE_WIDTH, Scene};
 use crate::window::{draw_window, split_of, width_of};
 
 /// Draws line `y` of plane A with the window, or of plane B where `second` is set. In the 256 mode
 /// the dots from 256 on are clear. Source: Genesis Technical Overview, scrolling and the window.
-pub fn plane_line(view: &LineView, y: u32, second: bool, out: &mut [Dot; 320])
+pub fn plane_line(view: &LineView, y: u32, second: bool, out: &mut Dots)
     requires { y < 240 }
     ensures dots { (x : ℕ) → x < picture_width → dot_at out.new x ≡ plane_dot view.now second y x }
     ensures below { AllColours out.new }
@@ -20,7 +20,7 @@ pub fn plane_line(view: &LineView, y: u32, second: bool, out: &mut [Dot; 320])
 }
 
 /// `plane_line` from borrowed registers and memories.
-pub fn draw_plane(scene: &Scene, y: u32, second: bool, out: &mut [Dot; 320])
+pub fn draw_plane(scene: &Scene, y: u32, second: bool, out: &mut Dots)
     requires { y < 240 }
     ensures dots { (x : ℕ) → x < picture_width → dot_at out.new x ≡ plane_dot (seen scene.now) second y x }
     ensures below { AllColours out.new }
@@ -32,7 +32,7 @@ pub fn draw_plane(scene: &Scene, y: u32, second: bool, out: &mut [Dot; 320])
 }
 
 /// Draws the dots of the picture.
-fn draw_dots(scene: &Scene, scroll: &Scroll, width: u32, out: &mut [Dot; 320])
+fn draw_dots(scene: &Scene, scroll: &Scroll, width: u32, out: &mut Dots)
     requires scroll { IsScroll (seen scene.now) scroll.now }
     requires width { width ≡ width_of (seen scene.now) }
     requires within { width ≤ picture_width }
@@ -47,7 +47,7 @@ fn draw_dots(scene: &Scene, scroll: &Scroll, width: u32, out: &mut [Dot; 320])
 }
 
 /// Draws plane A with the window.
-fn draw_first(scene: &Scene, scroll: &Scroll, width: u32, out: &mut [Dot; 320])
+fn draw_first(scene: &Scene, scroll: &Scroll, width: u32, out: &mut Dots)
     requires scroll { IsScroll (seen scene.now) scroll.now }
     requires plane { scroll.now.second ≡ false }
     requires width { width ≡ width_of (seen scene.now) }
@@ -67,11 +67,11 @@ fn draw_first(scene: &Scene, scroll: &Scroll, width: u32, out: &mut [Dot; 320])
 
 /// Clears the dots from a place on.
 #[tactic(auto, using(crate::proofs::Filled::filled_one))]
-fn clear_from(from: u32, out: &mut [Dot; 320])
+fn clear_from(from: u32, out: &mut Dots)
     requires within { from ≤ picture_width }
     ensures { IsFilled clear from picture_width out.old out.new clear_at }
 {
-    for x in from..320 {
+    for x in from..PICTURE_WIDTH as u32 {
         out[x as usize] = Dot::new(0, false);
     }
 }

@@ -7,14 +7,14 @@ ghost use Rattle.vdp_planes.specs.Mixing.{IsSpan, back_at, backdrop, backdrop_by
 use crate::colours::{Rgb, Shade, fill_shown, rgb_of};
 use crate::mix::{index_of, shaded, unshaded};
 use crate::register::{BACKDROP, MODE_4};
-use crate::view::{Dot, LineView, Scene};
+use crate::view::{Dots, LineView, PICTURE_WIDTH, Scene};
 use crate::window::width_of;
 
 /// Mixes the dots of a line of plane A, plane B and the sprites into its 960 bytes: red, green and
 /// blue of 320 dots. The borders of the 256 mode, and all where the display is off, show the
 /// backdrop. Source: Genesis Technical Overview, priority; the bytes of a level are this project's
 /// profile.
-pub fn mix_line(view: &LineView, a: &[Dot; 320], b: &[Dot; 320], s: &[Dot; 320], rgb: &mut [u8])
+pub fn mix_line(view: &LineView, a: &Dots, b: &Dots, s: &Dots, rgb: &mut [u8])
     requires a { AllColours a.now }
     requires b { AllColours b.now }
     requires s { AllColours s.now }
@@ -25,7 +25,7 @@ pub fn mix_line(view: &LineView, a: &[Dot; 320], b: &[Dot; 320], s: &[Dot; 320],
 }
 
 /// `mix_line` from borrowed registers and memories.
-pub fn mix_dots(scene: &Scene, a: &[Dot; 320], b: &[Dot; 320], s: &[Dot; 320], rgb: &mut [u8])
+pub fn mix_dots(scene: &Scene, a: &Dots, b: &Dots, s: &Dots, rgb: &mut [u8])
     requires a { AllColours a.now }
     requires b { AllColours b.now }
     requires s { AllColours s.now }
@@ -68,7 +68,7 @@ fn sixteen_dots(colour: &Rgb) -> [u8; 48]
 }
 
 /// Mixes a line whose dots show, dot by dot.
-fn mix_shown(scene: &Scene, a: &[Dot; 320], b: &[Dot; 320], s: &[Dot; 320], rgb: &mut [u8])
+fn mix_shown(scene: &Scene, a: &Dots, b: &Dots, s: &Dots, rgb: &mut [u8])
     requires a { AllColours a.now }
     requires b { AllColours b.now }
     requires s { AllColours s.now }
@@ -77,7 +77,7 @@ fn mix_shown(scene: &Scene, a: &[Dot; 320], b: &[Dot; 320], s: &[Dot; 320], rgb:
 {
     let mut table = [[0; 4]; 192];
     fill_shown(scene, &mut table);
-    let mut line = [0; 320];
+    let mut line = [0; PICTURE_WIDTH];
     mix_indexes(scene, a, b, s, &mut line);
     print(&table, &line, rgb);
 }
@@ -91,14 +91,14 @@ fn span_of(scene: &Scene) -> (usize, usize)
         return (0, 0);
     }
     if scene.registers[MODE_4] % 2 == 1 {
-        (0, 320)
+        (0, PICTURE_WIDTH)
     } else {
         (32, 288)
     }
 }
 
 /// The index of what each dot of the line shows.
-fn mix_indexes(scene: &Scene, a: &[Dot; 320], b: &[Dot; 320], s: &[Dot; 320], line: &mut [u8; 320])
+fn mix_indexes(scene: &Scene, a: &Dots, b: &Dots, s: &Dots, line: &mut [u8; PICTURE_WIDTH])
     requires a { AllColours a.now }
     requires b { AllColours b.now }
     requires s { AllColours s.now }
@@ -110,18 +110,18 @@ fn mix_indexes(scene: &Scene, a: &[Dot; 320], b: &[Dot; 320], s: &[Dot; 320], li
     let (from, to) = span_of(scene);
     fill_back(back, 0, from, line);
     fill_mixed(scene, a, b, s, from, to, line);
-    fill_back(back, to, 320, line);
+    fill_back(back, to, PICTURE_WIDTH, line);
 }
 
 /// The dots of the picture, with or without shadow and highlight.
 fn fill_mixed(
     scene: &Scene,
-    a: &[Dot; 320],
-    b: &[Dot; 320],
-    s: &[Dot; 320],
+    a: &Dots,
+    b: &Dots,
+    s: &Dots,
     from: usize,
     to: usize,
-    line: &mut [u8; 320],
+    line: &mut [u8; PICTURE_WIDTH],
 )
     requires a { AllColours a.now }
     requires b { AllColours b.now }
@@ -141,7 +141,7 @@ fn fill_mixed(
 
 /// The backdrop.
 #[tactic(auto, using(crate::proofs::Filled::filled_one))]
-fn fill_back(back: u8, from: usize, to: usize, line: &mut [u8; 320])
+fn fill_back(back: u8, from: usize, to: usize, line: &mut [u8; PICTURE_WIDTH])
     requires back { back < 64 }
     requires order { from ≤ to }
     requires within { to ≤ picture_width }
@@ -158,12 +158,12 @@ fn fill_back(back: u8, from: usize, to: usize, line: &mut [u8; 320])
 #[tactic(auto, using(crate::proofs::Filled::filled_one))]
 fn fill_shaded(
     back: u8,
-    a: &[Dot; 320],
-    b: &[Dot; 320],
-    s: &[Dot; 320],
+    a: &Dots,
+    b: &Dots,
+    s: &Dots,
     from: usize,
     to: usize,
-    line: &mut [u8; 320],
+    line: &mut [u8; PICTURE_WIDTH],
 )
     requires back { back < 64 }
     requires a { AllColours a.now }
@@ -184,12 +184,12 @@ fn fill_shaded(
 #[tactic(auto, using(crate::proofs::Filled::filled_one))]
 fn fill_unshaded(
     back: u8,
-    a: &[Dot; 320],
-    b: &[Dot; 320],
-    s: &[Dot; 320],
+    a: &Dots,
+    b: &Dots,
+    s: &Dots,
     from: usize,
     to: usize,
-    line: &mut [u8; 320],
+    line: &mut [u8; PICTURE_WIDTH],
 )
     requires back { back < 64 }
     requires a { AllColours a.now }
@@ -209,7 +209,7 @@ fn fill_unshaded(
 /// Writes the bytes of the colours of these indices, four dots at a time. Each dot but the last is
 /// written with one byte more, which the next dot's first then replaces.
 #[tactic(auto, using(crate::proofs::Printed::dot_printed))]
-fn print(table: &[[u8; 4]; 192], line: &[u8; 320], rgb: &mut [u8])
+fn print(table: &[[u8; 4]; 192], line: &[u8; PICTURE_WIDTH], rgb: &mut [u8])
     requires indices { (x : ℕ) → x < picture_width → slice_index line.now x < 192 }
     requires entries { (x : ℕ) → x < picture_width → length (slice_index_or table.now (slice_index line.now x) []) ≡ 4 }
     requires room { length rgb.old ≡ scanline_length }

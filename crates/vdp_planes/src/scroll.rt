@@ -7,7 +7,7 @@ ghost use Rattle.vdp_planes.specs.Scrolls.{IsScroll};
 use crate::cells::{cell_row, cell_run};
 use crate::fields::{cells, even_word, word, wrapped};
 use crate::register::{MODE_3, PLANE_A, PLANE_B, PLANE_SIZE, SCROLLS};
-use crate::view::{Dot, Scene};
+use crate::view::{Dots, Scene};
 
 /// What stays the same along a line of a plane.
 #[derive(Clone, Copy)]
@@ -117,14 +117,7 @@ fn column_end(scroll: &Scroll, x: u32, to: u32) -> u32
 /// `py` is the point of the plane down, the same for all. The answer is the place after them.
 #[inline(always)]
 #[tactic(auto, unfolding(crate::specs::Planes::name_place, crate::specs::Planes::point_x))]
-fn scrolled_cell(
-    scene: &Scene,
-    scroll: &Scroll,
-    py: u32,
-    x: u32,
-    to: u32,
-    out: &mut [Dot; 320],
-) -> u32
+fn scrolled_cell(scene: &Scene, scroll: &Scroll, py: u32, x: u32, to: u32, out: &mut Dots) -> u32
     requires scroll { IsScroll (seen scene.now) scroll.now }
     requires order { x < to }
     requires within { to ≤ picture_width }
@@ -146,7 +139,7 @@ fn scrolled_cell(
 /// Draws the eight dots of a cell that begins at `x`. `py` is the point of the plane down, the same for all.
 #[inline(always)]
 #[tactic(auto, unfolding(crate::specs::Planes::name_place, crate::specs::Planes::point_x))]
-fn whole_cell(scene: &Scene, scroll: &Scroll, py: u32, x: u32, out: &mut [Dot; 320])
+fn whole_cell(scene: &Scene, scroll: &Scroll, py: u32, x: u32, out: &mut Dots)
     requires scroll { IsScroll (seen scene.now) scroll.now }
     requires within { x + 8 ≤ picture_width }
     requires whole { length out.old ≡ picture_width }
@@ -165,7 +158,7 @@ fn whole_cell(scene: &Scene, scroll: &Scroll, py: u32, x: u32, out: &mut [Dot; 3
 /// where another ends are drawn whole.
 #[inline(always)]
 #[tactic(auto, unfolding(crate::specs::Planes::point_y))]
-fn draw_column(scene: &Scene, scroll: &Scroll, from: u32, to: u32, out: &mut [Dot; 320])
+fn draw_column(scene: &Scene, scroll: &Scroll, from: u32, to: u32, out: &mut Dots)
     requires scroll { IsScroll (seen scene.now) scroll.now }
     requires whole { length out.old ≡ picture_width }
     requires order { from < to }
@@ -185,7 +178,7 @@ fn draw_column(scene: &Scene, scroll: &Scroll, from: u32, to: u32, out: &mut [Do
 }
 
 /// Draws the dots of the plane from one place to another.
-pub fn draw_scrolled(scene: &Scene, scroll: &Scroll, from: u32, to: u32, out: &mut [Dot; 320])
+pub fn draw_scrolled(scene: &Scene, scroll: &Scroll, from: u32, to: u32, out: &mut Dots)
     requires scroll { IsScroll (seen scene.now) scroll.now }
     requires whole { length out.old ≡ picture_width }
     requires order { from ≤ to }

@@ -7,6 +7,15 @@ use std::marker::Model;
 use vdp_ports::VdpState;
 use vdp_ports::register::is_shown;
 
+/// How many dots a scanline of a picture has. In the 256 mode 32 on each side are borders.
+pub const PICTURE_WIDTH: usize = 320;
+
+/// How many bytes it has: red, green and blue of each dot.
+pub const SCANLINE_LENGTH: usize = 3 * PICTURE_WIDTH;
+
+/// The dots of a plane or of the sprites on a scanline, from the left.
+pub type Dots = [Dot; PICTURE_WIDTH];
+
 /// What a line of a picture is drawn from: the registers and memories of the VDP at the line's event,
 /// and the height of its display. The region is that of the picture. It takes 64 KiB: keep it in a box.
 /// Source: Genesis Technical Overview, the VDP.

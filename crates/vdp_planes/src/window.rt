@@ -7,7 +7,7 @@ ghost use Rattle.vdp_planes.specs.Scrolls.{IsSplit};
 use crate::cells::cell_run;
 use crate::fields::word;
 use crate::register::{MODE_4, WINDOW, WINDOW_ACROSS, WINDOW_DOWN};
-use crate::view::{Dot, Scene};
+use crate::view::{Dots, PICTURE_WIDTH, Scene};
 
 /// How many dots the picture is wide: 320 or 256.
 #[inline(always)]
@@ -17,7 +17,7 @@ pub fn width_of(scene: &Scene) -> u32
     ensures most { result ≤ picture_width }
 {
     if scene.registers[MODE_4] % 2 == 1 {
-        320
+        PICTURE_WIDTH as u32
     } else {
         256
     }
@@ -42,7 +42,7 @@ fn window_place(scene: &Scene, y: u32, x: u32) -> u32
 
 /// Draws the dots of the window from `x` on, as `scrolled_cell` does those of a plane.
 #[inline(always)]
-fn window_cell(scene: &Scene, y: u32, x: u32, to: u32, out: &mut [Dot; 320]) -> u32
+fn window_cell(scene: &Scene, y: u32, x: u32, to: u32, out: &mut Dots) -> u32
     requires line { y < 240 }
     requires order { x < to }
     requires within { to ≤ picture_width }
@@ -57,7 +57,7 @@ fn window_cell(scene: &Scene, y: u32, x: u32, to: u32, out: &mut [Dot; 320]) -> 
 }
 
 /// Draws the dots of the window from one place to another.
-pub fn draw_window(scene: &Scene, y: u32, from: u32, to: u32, out: &mut [Dot; 320])
+pub fn draw_window(scene: &Scene, y: u32, from: u32, to: u32, out: &mut Dots)
     requires line { y < 240 }
     requires whole { length out.old ≡ picture_width }
     requires order { from ≤ to }

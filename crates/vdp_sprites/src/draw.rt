@@ -11,7 +11,7 @@ ghost use Rattle.vdp_sprites.specs.Drawn.{IsLine, IsOver, IsReach, IsRun, over, 
 use crate::chosen::{Found, choose};
 use crate::parts::{cell_pixels, pixel_dot, too_wide};
 use crate::sprite::Sprite;
-use vdp_planes::{Dot, LineView, Scene, SpriteNote, width_of};
+use vdp_planes::{Dot, Dots, LineView, PICTURE_WIDTH, Scene, SpriteNote, width_of};
 
 /// Index 0 is transparent.
 #[inline(always)]
@@ -80,7 +80,7 @@ fn draw_run(
     from: u32,
     to: u32,
     mut hit: bool,
-    out: &mut [Dot; 320],
+    out: &mut Dots,
 ) -> bool
     requires order { from ≤ to }
     requires within { to ≤ picture_width }
@@ -100,7 +100,7 @@ fn draw_run(
 
 /// Draws the eight dots of a cell's row: their number is known to the compiler.
 #[inline(always)]
-fn draw_whole(sprite: Sprite, pixels: u32, from: u32, mut hit: bool, out: &mut [Dot; 320]) -> bool
+fn draw_whole(sprite: Sprite, pixels: u32, from: u32, mut hit: bool, out: &mut Dots) -> bool
     requires within { from + 8 ≤ picture_width }
     ensures { (view : View) (y : ℕ) (part : Part) (old : List DotValue) (before : Bool) → IsRun view y part sprite pixels 0 from (from + 8)
         → IsOver view y from part old out.old before hit
@@ -125,7 +125,7 @@ fn draw_cell(
     from: u32,
     to: u32,
     hit: bool,
-    out: &mut [Dot; 320],
+    out: &mut Dots,
 ) -> bool
     requires line { y < 240 }
     requires order { from < to }
@@ -156,7 +156,7 @@ fn draw_part(
     pixels: u32,
     width: u32,
     mut hit: bool,
-    out: &mut [Dot; 320],
+    out: &mut Dots,
 ) -> bool
     requires line { y < 240 }
     requires width { width ≤ picture_width }
@@ -194,7 +194,7 @@ fn seen_with(seen: bool, sprite: Sprite) -> bool
 }
 
 /// Draws the chosen sprites over a clear line; true: two have met.
-fn draw_parts(scene: &Scene, y: u32, width: u32, found: &Found, out: &mut [Dot; 320]) -> bool
+fn draw_parts(scene: &Scene, y: u32, width: u32, found: &Found, out: &mut Dots) -> bool
     requires line { y < 240 }
     requires width { width ≡ width_of (seen scene.now) }
     requires most { width ≤ picture_width }
@@ -225,18 +225,18 @@ fn either(a: bool, b: bool) -> bool
 }
 
 /// Clears the line.
-fn clear_line(out: &mut [Dot; 320])
+fn clear_line(out: &mut Dots)
     ensures whole { length out.new ≡ picture_width }
     ensures clear { (x : ℕ) → x < picture_width → dot_at out.new x ≡ clear }
 {
-    for x in 0..320 {
+    for x in 0..PICTURE_WIDTH {
         out[x] = Dot::new(0, false);
     }
 }
 
 /// The dots of the sprites on line `y`, whether the display is on or off, and what they set. In the
 /// 256 mode the dots from 256 on are clear.
-pub fn sprite_line(view: &LineView, y: u32, out: &mut [Dot; 320]) -> SpriteNote
+pub fn sprite_line(view: &LineView, y: u32, out: &mut Dots) -> SpriteNote
     requires { y < 240 }
     ensures dots { (x : ℕ) → x < picture_width → dot_at out.new x ≡ sprite_dot view.now y x }
     ensures below { AllColours out.new }
@@ -247,7 +247,7 @@ pub fn sprite_line(view: &LineView, y: u32, out: &mut [Dot; 320]) -> SpriteNote
 }
 
 /// `sprite_line` from borrowed registers and memories.
-pub fn draw_sprites(scene: &Scene, y: u32, out: &mut [Dot; 320]) -> SpriteNote
+pub fn draw_sprites(scene: &Scene, y: u32, out: &mut Dots) -> SpriteNote
     requires { y < 240 }
     ensures dots { (x : ℕ) → x < picture_width → dot_at out.new x ≡ sprite_dot (seen scene.now) y x }
     ensures below { AllColours out.new }

@@ -6,12 +6,9 @@ use md_word::clock::LAST_CYCLE;
 use row_lines::{Answer, RowError, arguments, word};
 use std::alloc::Global;
 use vdp_chip::clear_dots;
-use vdp_planes::{Dot, fill_view, mix_line, plane_line};
+use vdp_planes::{Dots, PICTURE_WIDTH, SCANLINE_LENGTH, fill_view, mix_line, plane_line};
 use vdp_sprites::sprite_line;
 use vdp_time::line_of;
-
-/// Bytes of a scanline of the picture.
-const ROW: usize = 960;
 
 /// A line of the picture.
 fn line_number(line: u32) -> Result<u32, RowError>
@@ -32,7 +29,7 @@ fn tell_run(count: u64, colour: u8, answer: &mut Answer) -> Result<(), RowError>
 }
 
 /// Writes the colours of dots, from the left.
-fn tell_runs(dots: &[Dot; 320], answer: &mut Answer) -> Result<(), RowError> {
+fn tell_runs(dots: &Dots, answer: &mut Answer) -> Result<(), RowError> {
     let mut colour = dots[0].colour();
     let mut count = 0u64;
     for dot in dots {
@@ -80,7 +77,7 @@ impl Video {
         let mut dots = clear_dots();
         fill_view(&mut self.view, &self.vdp);
         plane_line(&self.view, line, false, &mut dots);
-        let dot = dots[x as usize % 320];
+        let dot = dots[x as usize % PICTURE_WIDTH];
         answer.say_number(u64::from(dot.colour()))?;
         answer.say_bit(dot.priority())
     }
@@ -102,7 +99,7 @@ impl Video {
         let mut a = clear_dots();
         let mut b = clear_dots();
         let mut sprites = clear_dots();
-        let mut row = [1; ROW];
+        let mut row = [1; SCANLINE_LENGTH];
         fill_view(&mut self.view, &self.vdp);
         plane_line(&self.view, line, false, &mut a);
         plane_line(&self.view, line, true, &mut b);
@@ -155,7 +152,7 @@ impl Video {
     /// The bytes of a dot of the frame that is kept.
     fn tell_dot(&self, rest: &str, answer: &mut Answer) -> Result<(), RowError> {
         let [y, x, _, _] = arguments(rest, "dd")?;
-        let at = ROW * (y % 240) as usize + 3 * (x % 320) as usize;
+        let at = SCANLINE_LENGTH * (y % 240) as usize + 3 * (x as usize % PICTURE_WIDTH);
         let frame = self.chip.frame().unwrap_or(&[]);
         match frame.get(at..at + 3) {
             Some(dot) => answer.say_bytes(dot),
