@@ -1,20 +1,18 @@
 -- What words decode to is made again of the tokens of its text. So words that pass the round-trip check are of that
 -- instruction, whatever follows them.
-use Rattle.std.proofs.Common.{◌≡◌, ℕ, ◌+◌, ◌<◌, List, [], ◌∷◌, ◌++◌, Option, Some, None, refl, ap, ◌∙◌, sym, arith}
+use Rattle.std.proofs.Common.{◌≡◌, ℕ, ◌+◌, ◌<◌, List, ◌∷◌, ◌++◌, Option, Some, None, ap, ◌∙◌, sym}
 use Rattle.std.specs.Prelude.{slice_index}
-use Rattle.m68k_decode.specs.Instructions.{instruction_of, made, picked}
+use Rattle.m68k_decode.specs.Instructions.{instruction_of, picked}
 use Rattle.m68k_decode.specs.Nested.{nested}
 use Rattle.m68k_decode.specs.Rows.{Row}
-use Rattle.m68k_decode.specs.declared.decoded.Decoded.{Decoded}
 use Rattle.m68k_decode.proofs.Table.{decoded_is_picked}
-use Rattle.asm_m68k.specs.Encoding.{encoded}
 use Rattle.asm_m68k.proofs.Again.{decoded_again}
 use Rattle.md_disasm.specs.Texts68.{text_of}
 use Rattle.md_asm_text.specs.Tokens.{Token, tokens}
 use Rattle.asm_m68k.specs.Building.{meant}
 use Rattle.asm_m68k.specs.Checked.{tried}
 use Rattle.asm_m68k.specs.Reading.{read_source}
-use Rattle.asm_m68k.specs.Table.{IsEntered, IsEnteredWord, IsInstruction, AreWords}
+use Rattle.asm_m68k.specs.Table.{IsEnteredWord, IsInstruction, AreWords}
 use Rattle.asm_m68k.proofs.Decoded.{row_again}
 use Rattle.asm_m68k.proofs.Entered.{every_word}
 use Rattle.asm_m68k.proofs.Instructions.{again}

@@ -1,7 +1,6 @@
 -- Every word that has a row, but ILLEGAL, has what its row needs: shown by computing it for all words.
-use Rattle.std.proofs.Common.{◌≡◌, ℕ, ◌/◌, ◌<◌, Bool, true, false, ◌&&◌, List, map, Option, Some, None, zero, suc, refl, arith}
+use Rattle.std.proofs.Common.{◌≡◌, ℕ, ◌/◌, ◌<◌, Bool, true, false, ◌&&◌, map, Option, Some, None, zero, suc, refl, arith}
 use Rattle.std.proofs.lemmas.Bool.{and_parts}
-use Rattle.md_word.specs.declared.size.Size.TheVariants.{Word, Long}
 use Rattle.md_word.specs.declared.task.Task.{Task}
 use Rattle.md_word.specs.declared.task.Task.TheVariants as tasks
 use Rattle.md_word.proofs.Agree.{range, same_at}

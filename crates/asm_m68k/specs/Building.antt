@@ -1,6 +1,6 @@
 -- The instruction that the code makes of what it read. What does not fit is cut off, and found out
 -- when the instruction's text is compared with what was written.
-use Rattle.std.specs.Prelude.{ℕ, ◌+◌, ◌-◌, ◌*◌, ◌/◌, ◌%◌, ◌^◌, ◌==◌, Bool, true, false, ◌&&◌, nat_lt, if◌then◌else◌, List, [], ◌∷◌, ◌++◌, Option, Some, None, codes}
+use Rattle.std.specs.Prelude.{ℕ, ◌+◌, ◌-◌, ◌%◌, ◌^◌, Bool, true, false, nat_lt, if◌then◌else◌, List, [], ◌∷◌, Option, Some, None, codes}
 use Rattle.std.specs.Str.{bytes_eq}
 use Rattle.md_word.specs.Width.{modulus_of}
 use Rattle.md_word.specs.declared.mode.Mode.{Mode}
@@ -9,7 +9,6 @@ use Rattle.md_word.specs.declared.size.Size.{Size}
 use Rattle.md_word.specs.declared.size.Size.TheVariants.{Byte, Word, Long}
 use Rattle.md_word.specs.declared.task.Task.{Task}
 use Rattle.md_word.specs.declared.task.Task.TheVariants as tasks
-use Rattle.m68k_decode.specs.declared.condition.Condition.{Condition}
 use Rattle.m68k_decode.specs.declared.condition.Condition.TheVariants as conditions
 use Rattle.m68k_decode.specs.declared.displacement.Displacement.{Displacement}
 use Rattle.m68k_decode.specs.declared.displacement.Displacement.TheVariants as displacements

@@ -1,7 +1,7 @@
 -- What the code reads of an instruction's tokens. It takes every text for one of the forms that its
 -- kinds of tokens allow; what it made of it is compared with the text afterwards, so nobody has to
 -- believe this file.
-use Rattle.std.specs.Prelude.{ℕ, ◌+◌, ◌-◌, ◌*◌, ◌/◌, ◌%◌, ◌^◌, ◌==◌, Bool, true, false, ◌&&◌, not, if◌then◌else◌, List, [], ◌∷◌, ◌++◌, Option, Some, None}
+use Rattle.std.specs.Prelude.{ℕ, ◌+◌, ◌-◌, ◌%◌, ◌^◌, ◌==◌, Bool, false, if◌then◌else◌, List, [], ◌∷◌, Option, Some, None}
 use Rattle.md_word.specs.declared.size.Size.{Size}
 use Rattle.md_word.specs.declared.size.Size.TheVariants.{Byte, Word, Long}
 use Rattle.md_asm_text.specs.Operands.{operands_of}

@@ -1,5 +1,5 @@
 -- The words of an instruction that is written.
-use Rattle.std.specs.Prelude.{ℕ, ◌≡◌, ◌*◌, ◌<◌, List, [], ◌∷◌, ◌++◌, length}
+use Rattle.std.specs.Prelude.{ℕ, ◌≡◌, ◌*◌, List, ◌++◌, length}
 use Rattle.m68k_decode.specs.Instructions.{instruction_of}
 use Rattle.md_disasm.specs.Texts68.{text_of}
 use Rattle.md_asm_text.specs.Tokens.{Token, tokens}

@@ -1,12 +1,11 @@
 -- The bytes of what bytes decode to decode to the same: shown for each page by computing both for
 -- all opcodes, whatever the operands are.
-use Rattle.std.proofs.Common.{◌≡◌, ◌==◌, ℕ, ◌+◌, ◌*◌, ◌/◌, ◌%◌, ◌<◌, Bool, true, false, cond, List, [], ◌∷◌, ◌++◌, map, refl, ap, arith}
-use Rattle.std.specs.Prelude.{◌||◌, ◌&&◌, slice_index}
+use Rattle.std.proofs.Common.{◌≡◌, ◌==◌, ℕ, ◌+◌, ◌*◌, ◌/◌, ◌%◌, Bool, cond, List, ◌++◌, map, refl, arith}
+use Rattle.std.specs.Prelude.{◌||◌, slice_index}
 use Rattle.z80_decode.specs.declared.decoded80.Decoded80.{Decoded80}
-use Rattle.z80_decode.specs.declared.index.Index.{Index}
 use Rattle.z80_decode.specs.declared.index.Index.TheVariants as indexes
 use Rattle.z80_decode.specs.declared.op80.Op80.TheVariants as ops
-use Rattle.md_word.proofs.Agree.{range, same_at}
+use Rattle.md_word.proofs.Agree.{range}
 use Rattle.z80_decode.specs.Fields.{memory_of, place_of, lower, pair_of, stacked_of, condition_of, bit_of}
 use Rattle.z80_decode.specs.Nested.{of_bytes, bits, shift, arithmetic, accumulator, block_of, block_op, relative_jumps, pair_loads, memory_loads, pair_steps, step, number_loads, low_group, loads, returns, jumps, calls, control, by_opcode, low_names_hl, names_hl, indexed, ports, pairs_extended, modes, specials, extended, nested}
 use Rattle.asm_z80.specs.Encoding80.{prefixes, opcode_of, operands, encoded}

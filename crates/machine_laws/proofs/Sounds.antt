@@ -14,7 +14,7 @@ use Rattle.sound_writes.specs.Keys.{are_spaced, is_following}
 use Rattle.sound_writes.specs.Order.{IsInOrder}
 use Rattle.sound_writes.proofs.Orders.{IsInOrder-append, IsInOrder-high, IsInOrder-low, IsInOrder-taken_below}
 use Rattle.md_chips.specs.Console as consoles
-use Rattle.md_chips.specs.Console.{AllBelow, Console, first_of, moved, rendered}
+use Rattle.md_chips.specs.Console.{Console, first_of, moved, rendered}
 use Rattle.md_chips.specs.Media.{Media, joined, no_media}
 use Rattle.journal_sound.specs.Heard.{after, at_power_on, heard_of, reported}
 use Rattle.journal_sound.specs.declared.hearing.Hearing.{Hearing}

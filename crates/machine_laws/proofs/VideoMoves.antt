@@ -1,5 +1,5 @@
 -- A move keeps what holds of the VDP and its renderer, at each cycle above its own.
-use Rattle.std.proofs.Common.{ℕ, zero, suc, ◌^◌, ◌<◌, ◌≤◌, Bool, true, false, cond, List, sym, subst, arith}
+use Rattle.std.proofs.Common.{ℕ, zero, suc, ◌<◌, ◌≤◌, Bool, true, false, cond, List, sym, subst, arith}
 use Rattle.md_word.specs.Clock as clock
 use Rattle.md_pads.specs.Recording.{Recorded}
 use Rattle.md_word.specs.declared.event.Entry.{Entry}

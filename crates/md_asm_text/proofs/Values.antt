@@ -1,11 +1,11 @@
 -- The value of at most eight digits fits.
-use Rattle.std.proofs.Common.{◌≡◌, ℕ, zero, suc, ◌+◌, ◌*◌, ◌/◌, ◌<◌, ◌≤◌, Bool, true, false, List, [], ◌∷◌, ◌-◌, length, take, drop, get_or, refl, arith}
+use Rattle.std.proofs.Common.{◌≡◌, ℕ, zero, suc, ◌+◌, ◌*◌, ◌<◌, ◌≤◌, true, List, [], ◌∷◌, ◌-◌, length, take, drop, get_or, arith}
 use Rattle.std.proofs.lemmas.Grind.{common_steps}
 use Rattle.std.proofs.lemmas.Bool.Decides.{nat_tests}
 use Rattle.std.proofs.lemmas.Bool.{and_parts}
 use Rattle.md_asm_text.specs.Bounds.{limit}
 use Rattle.text_lines.specs.Digits.{is_hexadecimal}
-use Rattle.md_asm_text.specs.Tokens.{digit_value, every, value_after}
+use Rattle.md_asm_text.specs.Tokens.{digit_value, every}
 
 -- one digit more
 pub limit_step : (k v d : ℕ) → v < limit (suc k) → d < 16 → v * 16 + d < limit k

@@ -1,5 +1,5 @@
 -- The operands of an instruction's text: a comma is between them.
-use Rattle.std.specs.Prelude.{ℕ, Bool, true, false, ◌&&◌, ◌==◌, not, if◌then◌else◌, List, [], ◌∷◌}
+use Rattle.std.specs.Prelude.{Bool, true, false, ◌&&◌, ◌==◌, not, if◌then◌else◌, List, [], ◌∷◌}
 use Rattle.md_asm_text.specs.Tokens as tokens
 use Rattle.md_asm_text.specs.Tokens.{Token}
 

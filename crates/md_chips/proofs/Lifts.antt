@@ -2,7 +2,7 @@
 use Rattle.std.proofs.Common.{◌≡◌, ℕ, zero, suc, ◌<◌, refl, ap, ◌∙◌, arith}
 use Rattle.chip_core.specs.Equations.{least-same}
 use Rattle.chip_core.specs.Machines as machines
-use Rattle.chip_core.specs.Machines.{IsValid, Machine, key_of, least_below, move, run}
+use Rattle.chip_core.specs.Machines.{IsValid, Machine, key_of, run}
 use Rattle.md_chips.specs.Console.{Console, key_in, journal, moved, mover, ran, reported}
 use Rattle.bus_shared.specs.Board.{Board, IsBoard}
 use Rattle.md_chips.specs.Refinement.{console_of}

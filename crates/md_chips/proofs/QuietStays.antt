@@ -6,7 +6,7 @@ use Rattle.chip_core.specs.Machines.{IsValid, Machine, key_of, made, run}
 use Rattle.chip_core.specs.Machines as machines
 use Rattle.bus_shared.specs.Board.{Board, IsBoard}
 use Rattle.md_chips.specs.Console as consoles
-use Rattle.md_chips.specs.Console.{Console, IsQuiet, key_in, mover, ran}
+use Rattle.md_chips.specs.Console.{Console, IsQuiet, key_in, ran}
 use Rattle.md_chips.specs.Refinement.{console_of}
 use Rattle.md_chips.specs.Rules.{IsChip, five}
 use Rattle.md_chips.specs.ValidParts.{HasValidParts}

@@ -1,7 +1,7 @@
 -- What the event of a line leaves, and when two ways to draw it are one.
 use Rattle.std.specs.Prelude.{◌≡◌, ℕ, ◌+◌, ◌<◌, ◌≤◌, ◌&&◌, nat_lt, not, Bool, true, false, List, Option, Some, None, is_some, option_map}
 use Rattle.std.proofs.Common.{refl, sym, ap, ◌∙◌, arith, inl, inr}
-use Rattle.std.proofs.lemmas.Bool.{cases_Bool, le-ltb, ltb-false, ltb-true}
+use Rattle.std.proofs.lemmas.Bool.{cases_Bool, le-ltb, ltb-false}
 use Rattle.md_word.specs.Clock.{line}
 use Rattle.md_word.specs.Region.{height, picture_width, rows}
 use Rattle.vdp_ports.specs.Vdp.{Vdp}

@@ -1,5 +1,5 @@
 -- Within one cycle the 68000 moves at most once, and first.
-use Rattle.std.proofs.Common.{◌≡◌, ◌≢◌, ℕ, zero, suc, ◌+◌, ◌-◌, ◌<◌, ◌≤◌, ◌^◌, ◌==◌, ◌&&◌, ◌||◌, ◌⊎◌, inl, inr, lit<, Bool, false, cond, nat_lt, ◌++◌, Option, None, refl, sym, ap, subst, ◌∙◌, append-nil, arith, option_to_list}
+use Rattle.std.proofs.Common.{◌≡◌, ◌≢◌, ℕ, zero, suc, ◌+◌, ◌-◌, ◌<◌, ◌≤◌, ◌==◌, ◌&&◌, ◌||◌, ◌⊎◌, inl, inr, lit<, Bool, false, cond, nat_lt, ◌++◌, Option, None, refl, sym, ap, subst, ◌∙◌, append-nil, arith, option_to_list}
 use Rattle.std.proofs.lemmas.Bool.Decides.{nat_tests}
 use Rattle.std.proofs.lemmas.Bool.{ne_eqb}
 use Rattle.md_word.specs.Clock as clock

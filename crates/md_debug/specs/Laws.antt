@@ -1,5 +1,5 @@
 -- What holds of the debugger's scripts and kept states.
-use Rattle.std.specs.Prelude.{◌≡◌, ◌≢◌, ℕ, ◌^◌, ◌≤◌, List}
+use Rattle.std.specs.Prelude.{◌≡◌, ◌≢◌, ℕ, ◌≤◌, List}
 use Rattle.md_word.specs.Clock as clock
 use Rattle.md_word.specs.declared.event.Entry.{Entry}
 use Rattle.md_chips.specs.Console.{Console, IsRunTo}

@@ -1,5 +1,5 @@
 -- What a frame leaves of a run from power-on.
-use Rattle.std.proofs.Common.{◌≡◌, ◌∙◌, refl, sym, ap, subst, false, ℕ, ◌+◌, ◌*◌, ◌^◌, ◌<◌, ◌≤◌, List, [], ◌++◌, Result, Ok, Err, arith}
+use Rattle.std.proofs.Common.{◌≡◌, ◌∙◌, refl, sym, ap, subst, false, ℕ, ◌+◌, ◌*◌, ◌<◌, ◌≤◌, List, [], ◌++◌, Result, Ok, Err, arith}
 use Rattle.std.specs.Prelude.{All}
 use Rattle.md_word.specs.Clock as clock
 use Rattle.md_pads.specs.Recording.{Frame, IsFrame, Recorded, recording_of}

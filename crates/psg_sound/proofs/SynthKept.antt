@@ -1,6 +1,6 @@
 -- The bytes that keep a synthesis are read again.
 use Rattle.std.proofs.Common.{◌≡◌, ℕ, ◌<◌, ◌≤◌, true, refl, arith}
-use Rattle.std.specs.Prelude.{◌&&◌, nat_le, nat_lt}
+use Rattle.std.specs.Prelude.{nat_le, nat_lt}
 use Rattle.std.proofs.lemmas.Bool.{le-leb, lt-ltb, and_from}
 use Rattle.md_fields.specs.Fields.{AllHold, AreWithin}
 use Rattle.md_fields.proofs.Items.{none_invalid}

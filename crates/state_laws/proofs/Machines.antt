@@ -1,18 +1,18 @@
 -- The images of machines, and the machines of images.
-use Rattle.std.proofs.Common.{◌≡◌, ◌≢◌, ◌⊎◌, inl, inr, ℕ, zero, suc, ◌<◌, ◌≤◌, ◌^◌, Bool, List, [], Result, Ok, Err, refl, sym, ap, subst, ◌∙◌, arith}
+use Rattle.std.proofs.Common.{◌≡◌, ◌⊎◌, inl, inr, ℕ, zero, suc, ◌≤◌, List, [], Result, Ok, Err, refl, sym, ap, subst, ◌∙◌, arith}
 use Rattle.std.specs.Global.{Vec}
 use Rattle.std.specs.Prelude.{IfOk}
 use Rattle.md_word.specs.Clock as clock
 use Rattle.md_word.specs.Clock.{last_cycle}
 use Rattle.md_word.specs.declared.event.Entry.{Entry}
-use Rattle.md_chips.specs.Console.{AllBelow, Console, IsRunTo, key_in, mover, power_on, ran}
+use Rattle.md_chips.specs.Console.{AllBelow, Console, IsRunTo, power_on, ran}
 use Rattle.md_chips.specs.Machines.{MachineValue}
 use Rattle.md_chips.specs.Media.{Media, no_media}
 use Rattle.md_chips.specs.Starts.{Start}
 use Rattle.md_chips.proofs.Kept.{cart-stays}
 use Rattle.machine_laws.specs.Reached.{IsReached}
 use Rattle.save_state.specs.Ready.{IsReady}
-use Rattle.save_state.specs.States.{settled_console, state_bytes}
+use Rattle.save_state.specs.States.{settled_console}
 use Rattle.save_state.specs.Versions.{IsState}
 use Rattle.save_state.proofs.PowerOn.{first_is_none, first_settled}
 use Rattle.state_laws.proofs.Whole.{one_machine}

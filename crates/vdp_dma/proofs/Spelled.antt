@@ -1,5 +1,5 @@
 -- VRAM among the bytes that keep a VDP: its offset, and another memory in its place.
-use Rattle.std.proofs.Common.{◌≡◌, ◌∙◌, ap, sym, ℕ, ◌+◌, ◌≤◌, List, ◌++◌, length, take, drop, append_assoc, take_all, arith}
+use Rattle.std.proofs.Common.{◌≡◌, ◌∙◌, ap, sym, ℕ, ◌+◌, List, ◌++◌, length, take, drop, append_assoc, take_all, arith}
 use Rattle.std.proofs.lemmas.List.{length-append, take_at, drop_at, take-append-le}
 use borrow.Rule.Slice.PartMut.{put_mid}
 use Rattle.md_fields.specs.Fields.{spelling}

@@ -1,5 +1,5 @@
 -- What follows a write that waits for its answer.
-use Rattle.std.proofs.Common.{◌≡◌, ℕ, ◌+◌, ◌≤◌, ◌∙◌, true, false, nat_lt, List, [], ◌∷◌, length, slice_index, Result, Ok, Err, refl, sym, ap, arith}
+use Rattle.std.proofs.Common.{◌≡◌, ℕ, ◌+◌, ◌≤◌, ◌∙◌, true, false, nat_lt, [], length, slice_index, Result, Ok, Err, refl, sym, ap, arith}
 use Rattle.std.proofs.lemmas.Bool.Decides.{nat_tests}
 use Rattle.md_word.specs.Answers.{Done}
 use Rattle.md_word.proofs.Answered.{answered-same, as-last, one-longer}

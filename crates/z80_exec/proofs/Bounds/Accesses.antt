@@ -1,6 +1,6 @@
 -- What holds of each action: how many answers it takes at most, what it waits for, and that later
 -- answers change nothing.
-use Rattle.std.proofs.Common.{◌≡◌, ℕ, ◌+◌, ◌<◌, ◌≤◌, ◌∙◌, ◌%◌, ◌/◌, Bool, true, false, nat_lt, List, [], ◌∷◌, ◌++◌, length, Result, Ok, Err, refl, ap, sym, subst, arith, slice_index}
+use Rattle.std.proofs.Common.{◌≡◌, ℕ, ◌+◌, ◌<◌, ◌≤◌, ◌∙◌, ◌%◌, ◌/◌, Bool, true, false, nat_lt, List, length, Result, Ok, Err, refl, ap, sym, subst, arith, slice_index}
 use Rattle.std.specs.Prelude.{◌||◌, if◌then◌else◌}
 use Rattle.std.proofs.lemmas.Bool.Decides.{nat_tests}
 use Rattle.md_word.proofs.Answered.{lower, written-used}

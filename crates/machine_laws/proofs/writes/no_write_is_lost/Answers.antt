@@ -1,4 +1,4 @@
-use Rattle.std.proofs.Common.{◌≡◌, ℕ, Bool, ◌⊎◌, inl, inr, List, sym, subst}
+use Rattle.std.proofs.Common.{ℕ, Bool, inl, inr, List, sym, subst}
 use Rattle.fm_port.specs.PortSpelling as fm_port
 use Rattle.psg_sound.specs.PortSpelling as psg_port
 use Rattle.md_pads.specs.Recording.{Recorded}

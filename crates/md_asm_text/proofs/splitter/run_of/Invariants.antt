@@ -1,4 +1,4 @@
-use Rattle.std.proofs.Common.{◌≡◌, ◌≤◌, ◌+◌, length}
+use Rattle.std.proofs.Common.{◌≡◌, ◌+◌, length}
 use Rattle.md_asm_text.specs.Runs.{run}
 use Rattle.md_asm_text.proofs.splitter.run_of.Given as goal
 

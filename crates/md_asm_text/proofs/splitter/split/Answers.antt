@@ -1,4 +1,4 @@
-use Rattle.std.proofs.Common.{rules, arith, sym}
+use Rattle.std.proofs.Common.{arith, sym}
 use Rattle.std.proofs.lemmas.Grind.{common_steps}
 use Rattle.md_asm_text.proofs.Runs.{opened_front}
 use Rattle.md_asm_text.proofs.splitter.split.Goals as goal

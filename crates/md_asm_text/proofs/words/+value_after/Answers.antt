@@ -1,4 +1,4 @@
-use Rattle.std.proofs.Common.{rules, arith, ◌≡◌, ◌<◌, length, get_or}
+use Rattle.std.proofs.Common.{rules, arith, ◌≡◌, get_or}
 use Rattle.md_asm_text.specs.Tokens.{digit_value}
 use Rattle.md_asm_text.proofs.Values.{grown}
 use Rattle.md_asm_text.proofs.words.+value_after.Goals as goal

@@ -1,4 +1,4 @@
-use Rattle.std.proofs.Common.{◌≡◌, ◌∙◌, ℕ, ◌+◌, ◌-◌, ◌*◌, ap, List, arith}
+use Rattle.std.proofs.Common.{◌∙◌, ℕ, ◌+◌, ◌-◌, ◌*◌, ap, List, arith}
 use Rattle.md_word.specs.Region.{scanline_length}
 use Rattle.vdp_chip.specs.Picture.{with_scanline}
 use Rattle.vdp_chip.proofs.Scanlines.{scanline_put}

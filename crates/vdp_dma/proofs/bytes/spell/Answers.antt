@@ -1,9 +1,8 @@
-use Rattle.std.proofs.Common.{◌≡◌, ◌∙◌, ◌++◌, ◌<◌, ◌+◌, ◌-◌, ℕ, List, length, take, drop, refl, ap, sym, subst, arith}
+use Rattle.std.proofs.Common.{◌≡◌, ◌∙◌, ◌++◌, ◌<◌, ◌+◌, ◌-◌, ℕ, List, length, take, drop, ap, sym, subst, arith}
 use borrow.Rule.Slice.PartMut.{put_mid}
 use Rattle.vdp_ports.specs.Dma.{with_rest}
 use Rattle.vdp_ports.specs.Spelling.{IsSettled, Spells, vdp_bytes}
 use Rattle.vdp_ports.specs.Vdp.{Vdp}
-use Rattle.std.proofs.lemmas.List.{length-append}
 use Rattle.vdp_dma.proofs.Kept.{settled_is}
 use Rattle.vdp_dma.proofs.Settled.{settled_after, settled_none}
 use Rattle.vdp_dma.proofs.Spelled.{given_back, vram_length, vram_put, vram_there}

@@ -1,4 +1,4 @@
-use Rattle.std.proofs.Common.{ℕ, true, false, ltb, inl, inr, sym, ap, ◌∙◌, arith}
+use Rattle.std.proofs.Common.{ℕ, ltb, inl, inr, sym, ap, ◌∙◌, arith}
 use Rattle.std.proofs.lemmas.Bool.{both_ways, eq-eqb, le-ltb, lt-ltb, ne_eqb}
 use Rattle.md_fields.specs.Fields.{sizes, first_invalid}
 use Rattle.z80_chip.specs.Saved.{number_fields}

@@ -1,4 +1,4 @@
-use Rattle.std.proofs.Common.{◌≡◌, ◌∙◌, ap, subst, sym, Option, Some}
+use Rattle.std.proofs.Common.{◌≡◌, ◌∙◌, ap, subst, sym, Option}
 use Rattle.std.specs.Arc.{arc_value}
 use Rattle.chip_core.specs.Cores.{CoreValue}
 use Rattle.bus_shared.specs.Board.{Board}
