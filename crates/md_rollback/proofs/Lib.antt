@@ -9,6 +9,7 @@ pub mod Near
 pub mod Numerals
 pub mod Outcomes
 pub mod Pushed
+pub mod Replayed
 pub mod Rolling
 pub mod Scripts
 pub mod Single

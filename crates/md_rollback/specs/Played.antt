@@ -1,5 +1,5 @@
 -- The machine of a run from power-on at the start of a frame of NTSC, and its image.
-use Rattle.std.specs.Prelude.{◌≡◌, ℕ, false, ◌+◌, ◌*◌, ◌≤◌, List, []}
+use Rattle.std.specs.Prelude.{◌≡◌, ℕ, false, ◌+◌, ◌*◌, ◌<◌, ◌≤◌, List, [], length}
 use Rattle.md_pads.specs.Recording.{Frame, Recorded, recording_of}
 use Rattle.md_word.specs.Clock.{frame, last_cycle}
 use Rattle.md_word.specs.declared.event.Entry.{Entry}
@@ -9,7 +9,8 @@ use Rattle.md_chips.specs.Media.{Media, no_media}
 use Rattle.machine_laws.specs.Reached.{IsReached}
 use Rattle.machine_laws.specs.Recorded.{AreAlikeBelow}
 use Rattle.save_state.specs.States.{settled_console}
-use Rattle.md_rollback.specs.Images.{AreImagesBelow, Kept, ReachBackTo}
+use Rattle.md_rollback.specs.Images.{AreImagesBelow, Image, Kept, ReachBackTo}
+use Rattle.md_rollback.specs.Inputs.{frame_at}
 
 -- the machine that a run of NTSC from power-on with this cartridge and recording is at a cycle, seen with what is
 -- below the cycle settled
@@ -62,3 +63,27 @@ pub record AreMade (cart : List ℕ) (spelling : ℕ → Console → List ℕ) (
 pub record KeepsReached (cart : List ℕ) (is_ready : ℕ → Console → Type 0) : Type 0 where
   pub first : (recording : Recorded) → is_ready 0 (power_on cart recording false)
   pub later : (at : ℕ) (m : Console) → 1 ≤ at → at ≤ last_cycle → m.cart ≡ cart → IsReached at m → is_ready at m
+
+-- the images of a run as contracts see them: how many are kept at most, the cartridge, the words with which the frames
+-- were made, and the images
+pub record RunImagesValue : Type 0 where
+  pub most : ℕ
+  pub cart : List ℕ
+  pub played : List Frame
+  pub images : List Image
+
+-- the images are those of the machine after some of the frames that were played, newest first. Of each of the last
+-- frames, fewer by one than images are kept, one is at its start or at most three frames earlier
+pub record AreRunImages (cart : List ℕ) (spelling : ℕ → Console → List ℕ) (is_ready is_own : ℕ → Console → Type 0) (most : ℕ) (played : List Frame) (images : List Image) : Type 0 where
+  pub some : 1 ≤ most
+  pub keeps : KeepsReached cart is_ready
+  pub each : AreImagesBelow (IsImageOf cart spelling is_own played) (length played + 1) images
+  pub back : (f : ℕ) → f ≤ length played → length played < f + most → ReachBackTo f images
+
+-- one frame more than were played is expected. So many of the first ones were played as they are expected, and the
+-- images reach back to there
+pub record ArePlayedRight (run : RunImagesValue) (expected : List Frame) (right : ℕ) : Type 0 where
+  pub longer : length expected ≡ length run.played + 1
+  pub within : right ≤ length run.played
+  pub near : length run.played < right + run.most
+  pub same : (f : ℕ) → f < right → frame_at run.played f ≡ frame_at expected f

@@ -18,6 +18,7 @@ mod reading;
 mod recording;
 mod replaying;
 mod rolled;
+mod run_images;
 mod running;
 mod script;
 mod sessions;

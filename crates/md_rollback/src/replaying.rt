@@ -1,6 +1,6 @@
-ghost use Rattle.std.specs.Prelude.{◌≡◌, ◌≤◌, ◌<◌, ◌+◌, ◌-◌, ◌*◌, ◌%◌, ◌↔◌, ℕ, true, false, List, [], All, IfOk, IsTrue, OnErr, OnOk, drop, length};
+ghost use Rattle.std.specs.Prelude.{◌≡◌, ◌≤◌, ◌<◌, ◌+◌, ◌-◌, ◌*◌, ◌%◌, ◌↔◌, ℕ, true, false, List, [], All, IfOk, IsTrue, OnErr, length};
 ghost use Rattle.std.specs.Arc.{arc_value};
-ghost use Rattle.md_pads.specs.Recording.{Frame, IsFrame, IsRecording, recording_of};
+ghost use Rattle.md_pads.specs.Recording.{Frame, IsFrame};
 ghost use Rattle.md_pads.specs.declared.version.Version.TheVariants.{First};
 ghost use Rattle.md_word.specs.Clock.{frame as frame_length};
 ghost use Rattle.md_chips.specs.Media.{no_media};
@@ -9,7 +9,6 @@ ghost use Rattle.md_rollback.specs.Images.{AreImagesBelow, ReachBackTo, image_at
 ghost use Rattle.md_rollback.specs.Played.{AreMade, IsImageOf, IsPlayed, IsPlayedAlike, KeepsReached};
 
 use crate::KeptImages;
-use crate::recording::shared_recording;
 use machine_laws::{processors, saved};
 use md_machine::{Machine, laws};
 use md_pads::Recording;
@@ -78,7 +77,7 @@ fn exchange(machine: &mut Machine, recording: Arc<Recording>)
 /// Brings a machine to the start of a frame of a recording, and returns the frame. The machine is at `right`
 /// already, `here`, or the image that follows so many newer ones keeps one, from which the frames up to `right`
 /// are the same. It fails only when memory runs out.
-fn stand_at<R: Replays>(
+pub(crate) fn stand_at<R: Replays>(
     alloc: Global,
     replays: &R,
     machine: &mut Machine,
@@ -168,43 +167,4 @@ pub(crate) fn play<R: Replays>(
     for frame in from..to {
         play_next(replays, machine, frame, is_kept(frame, right), images);
     }
-}
-
-/// Brings a machine to the end of all frames of a recording, of which those before `right` were the same: from
-/// itself where only the last frame is new, else from the image that follows so many newer ones. Images of some
-/// of the frames after it replace the newer ones. It fails only when memory runs out; then machine and images
-/// are as they were.
-pub(crate) fn remake<R: Replays>(
-    alloc: Global,
-    replays: &R,
-    machine: &mut Machine,
-    images: &mut KeptImages,
-    newer: usize,
-    expected: &[(u16, u16)],
-    right: usize,
-) -> Result<(), NoMemory>
-    requires keeps { KeepsReached (R.cart replays.now) (R.is_ready replays.now) }
-    requires some { 1 ≤ images.old.most }
-    requires size { images.old.size ≡ R.size replays.now }
-    requires newer { newer < length images.old.images }
-    requires early { (image_at images.old.images newer).frames ≤ right }
-    requires here { right + 1 ≡ length expected.now → IsPlayedAlike (R.cart replays.now) expected.now right machine.old }
-    requires recording { IsRecording (recording_of expected.now) }
-    requires images { AreImagesBelow (IsImageOf (R.cart replays.now) (R.spelling replays.now) (R.is_own replays.now) expected.now) ((image_at images.old.images newer).frames + 1) (drop newer images.old.images) }
-    requires order { right < length expected.now }
-    requires within { length expected.now ≤ most_frames }
-    ensures machine { OnOk result (IsPlayed (R.cart replays.now) expected.now (length expected.now) machine.new) }
-    ensures images { OnOk result (AreMade (R.cart replays.now) (R.spelling replays.now) (R.is_own replays.now) expected.now (length expected.now)
-        (record images.old { images = drop newer images.old.images }) images.new) }
-    ensures near { OnOk result ((window f : ℕ) → images.new.most ≡ window + 1 → right < f → f ≤ length expected.now → length expected.now ≤ f + window → ReachBackTo f images.new.images) }
-    ensures err { OnErr result ((images.new ≡ images.old) × (machine.new ≡ machine.old)) }
-{
-    let recording = shared_recording(alloc, expected)?;
-    let here = right + 1 == expected.len();
-    let from = stand_at(
-        alloc, replays, machine, here, images, newer, recording, right,
-    )?;
-    images.drop_newest(newer);
-    play(replays, machine, from, right, expected.len(), images);
-    Ok(())
 }

@@ -9,9 +9,8 @@ ghost use Rattle.md_rollback.specs.Played.{IsMachineOf, KeepsReached};
 
 use crate::fault::AdvanceFault;
 use crate::frames::same_frames;
-use crate::replaying::remake;
+use crate::run_images::RunImages;
 use crate::{InputFault, Inputs, KeptImages, MOST_FRAMES};
-use machine_laws::saved;
 use md_machine::Machine;
 use md_word::NoMemory;
 use state_laws::Replays;
@@ -24,11 +23,8 @@ use std::marker::Model;
 #[derive(Drop)]
 pub struct Session<R: Replays> {
     alloc: Global,
-    replays: R,
     inputs: Inputs,
-    /// The words with which the frames were made.
-    played: Vec<(u16, u16)>,
-    images: KeptImages,
+    images: RunImages<R>,
     machine: Machine,
     window: usize,
 }
@@ -39,10 +35,9 @@ impl<R: Replays> Model for Session<R> {
 
     ghost Value = { SessionValue };
 
-    ghost view = { λ s. record { window = s.window; local = s.inputs.local; remote = s.inputs.remote; confirmed = s.inputs.confirmed; frames = length s.played.items; machine = s.machine } };
+    ghost view = { λ s. record { window = s.window; local = s.inputs.local; remote = s.inputs.remote; confirmed = s.inputs.confirmed; frames = length s.images.played; machine = s.machine } };
 
-    ghost invariant = { λ s. IsSession (R.cart s.replays) (R.spelling s.replays) (R.is_ready s.replays) (R.is_own s.replays) s.window s.inputs s.played.items s.images.images s.machine
-        × (s.images.most ≡ s.window + 1) × (s.images.size ≡ R.size s.replays) };
+    ghost invariant = { λ s. IsSession s.images.cart s.window s.inputs s.images.played s.machine × (s.images.most ≡ s.window + 1) };
 }
 
 impl<R: Replays> Session<R> {
@@ -62,15 +57,11 @@ impl<R: Replays> Session<R> {
         requires keeps { KeepsReached (R.cart replays) (R.is_ready replays) }
         ensures { IfOk result (λ session. session ≡ record { window = window; local = no_words; remote = no_words; confirmed = 0; frames = 0; machine = machine }) }
     {
-        saved::power_on_is_reached(machine.cart());
         let inputs = Inputs::make(alloc)?;
-        let mut images = KeptImages::make(alloc, window + 1, replays.image_size())?;
-        images.keep(&replays, &machine, 0);
+        let images = RunImages::make(alloc, window + 1, replays, &machine)?;
         Ok(Session {
             alloc,
-            replays,
             inputs,
-            played: Vec::new(alloc),
             images,
             machine,
             window: window as usize,
@@ -115,7 +106,8 @@ impl<R: Replays> Session<R> {
         ensures waiting { (confirmed frames : ℕ) → IsErrOf result (AdvanceFault.Waiting confirmed frames)
             ↔ ((self.old.frames ≢ most_frames) × (self.old.confirmed + self.old.window ≤ self.old.frames) × (confirmed ≡ self.old.confirmed) × (frames ≡ self.old.frames)) }
     {
-        let frames = self.played.len();
+        let played = self.images.played();
+        let frames = played.len();
         let confirmed = self.inputs.confirmed();
         if frames == MOST_FRAMES {
             return Err(AdvanceFault::Ended);
@@ -129,20 +121,12 @@ impl<R: Replays> Session<R> {
         self.inputs.known();
         // the frames before the last ones of the window were played as they are expected
         let fixed = frames.saturating_sub(self.window);
-        let known = &self.played[..fixed];
-        let expected = self.inputs.expected_after(self.alloc, known, frames + 1)?;
-        let right = same_frames(self.played.as_slice(), expected.as_slice(), fixed);
-        let newer = self.images.newer_than(right);
-        remake(
-            self.alloc,
-            &self.replays,
-            &mut self.machine,
-            &mut self.images,
-            newer,
-            expected.as_slice(),
-            right,
-        )?;
-        self.played = expected;
+        let expected = self
+            .inputs
+            .expected_after(self.alloc, &played[..fixed], frames + 1)?;
+        let right = same_frames(played, expected.as_slice(), fixed);
+        self.images
+            .replay(self.alloc, &mut self.machine, expected, right)?;
         Ok(())
     }
 
@@ -151,7 +135,7 @@ impl<R: Replays> Session<R> {
         ensures frames { result ≡ self.now.frames }
         ensures few { result ≤ most_frames }
     {
-        self.played.len() as u64
+        self.images.played().len() as u64
     }
 
     /// The greatest number of frames of which both players' buttons were all given.
@@ -179,6 +163,6 @@ impl<R: Replays> Session<R> {
         ensures near { (f : ℕ) → f ≤ self.now.frames → self.now.frames ≤ f + self.now.window → ReachBackTo f result.now.images }
         ensures most { result.now.most ≡ self.now.window + 1 }
     {
-        &self.images
+        self.images.kept()
     }
 }
