@@ -1,5 +1,7 @@
 -- Scripts: lines that are obeyed one after another, up to the first that is refused. This project's profile.
-use Rattle.std.specs.Prelude.{◌≡◌, ℕ, ◌+◌, List, [], ◌∷◌, ◌++◌, length}
+use Rattle.std.specs.Prelude.{◌≡◌, ℕ, ◌+◌, List, [], ◌∷◌, ◌++◌, length, Option, Some, None}
+use Rattle.debug_text.specs.declared.outcome.ScriptOutcome.{ScriptOutcome}
+use Rattle.debug_text.specs.declared.outcome.ScriptOutcome.TheVariants.{OutOfMemory, Refused}
 
 -- by what obeying a line makes of a state
 module _ {State : Type 0} (obeys : List ℕ → State → State → Type 0) where
@@ -22,3 +24,8 @@ module _ {State : Type 0} (obeys : List ℕ → State → State → Type 0) wher
   RefusesLine refuses lines old new number =
       (before : List (List ℕ)) × (line : List ℕ) × (after : List (List ℕ)) × ObeysFirst lines before (line ∷ after) old new
       × (number ≡ length before + 1) × refuses new line
+
+-- the outcome of a script at a line that is not obeyed: it is refused with a fault, or memory ran out
+abbrev pub script_outcome_at : {Fault : Type 0} → ℕ → Option Fault → ScriptOutcome Fault
+script_outcome_at number (Some fault) = Refused number fault
+script_outcome_at number None = OutOfMemory

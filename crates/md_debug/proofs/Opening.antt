@@ -7,8 +7,9 @@ use Rattle.md_outer.specs.Outside.{SinkState}
 use Rattle.md_outer.specs.declared.sink.Failed.{Failed}
 use Rattle.debug_text.proofs.Scripts.{first_none}
 use Rattle.md_debug.specs.Scripts.{ObeysLine, Plays, PutsReplies, StopsAtReply, replied}
-use Rattle.md_debug.specs.declared.script.SessionOutcome.{SessionOutcome}
-use Rattle.md_debug.specs.declared.script.SessionOutcome.TheVariants.{OutOfMemory}
+use Rattle.md_debug.specs.declared.fault.DebugFault.{DebugFault}
+use Rattle.debug_text.specs.declared.outcome.ScriptOutcome.{ScriptOutcome}
+use Rattle.debug_text.specs.declared.outcome.ScriptOutcome.TheVariants.{OutOfMemory}
 use Rattle.md_debug.specs.Opened.{PlaysScript, PutsScript, StopsScript, images_with, opened}
 use Rattle.md_debug.specs.Sessions.{SessionValue}
 use Rattle.md_word.specs.Clock.{last_cycle}
@@ -50,21 +51,21 @@ plays_none cart script =
     record { after = session; plays = (session, ([], lines_of script, first_none (ObeysLine size_of image_of Keeps) (lines_of script) (replied session []))) }
 
 -- what is put in the session at power-on
-pub puts_script : (observable : Type 0) (cart script : List ℕ) (old new : SessionValue ImagesValue) (out out' : SinkState) (result : Result SessionOutcome Failed) → old ≡ opened (images_with cart)
-    → IfOk result (λ session_outcome. PutsReplies size_of image_of Keeps observable (lines_of script) old new out out' session_outcome) → IfOk result (λ session_outcome. PutsScript observable cart script out out' session_outcome)
+pub puts_script : (observable : Type 0) (cart script : List ℕ) (old new : SessionValue ImagesValue) (out out' : SinkState) (result : Result (ScriptOutcome DebugFault) Failed) → old ≡ opened (images_with cart)
+    → IfOk result (λ script_outcome. PutsReplies size_of image_of Keeps observable (lines_of script) old new out out' script_outcome) → IfOk result (λ script_outcome. PutsScript observable cart script out out' script_outcome)
 puts_script observable cart script old new out out' (Err failed) is put = tt
-puts_script observable cart script old new out out' (Ok session_outcome) is put = record {
+puts_script observable cart script old new out out' (Ok script_outcome) is put = record {
   replies = put.replies;
   plays = record {
     after = new;
-    plays = subst (λ (s : SessionValue ImagesValue). Plays size_of image_of Keeps (lines_of script) s new put.replies session_outcome) is put.plays;
+    plays = subst (λ (s : SessionValue ImagesValue). Plays size_of image_of Keeps (lines_of script) s new put.replies script_outcome) is put.plays;
   };
   puts = put.puts;
 }
 
-pub stops_script : (observable : Type 0) (cart script : List ℕ) (old new : SessionValue ImagesValue) (out out' : SinkState) (result : Result SessionOutcome Failed) → old ≡ opened (images_with cart)
+pub stops_script : (observable : Type 0) (cart script : List ℕ) (old new : SessionValue ImagesValue) (out out' : SinkState) (result : Result (ScriptOutcome DebugFault) Failed) → old ≡ opened (images_with cart)
     → OnErr result (StopsAtReply size_of image_of Keeps observable (lines_of script) old new out out') → OnErr result (StopsScript observable cart script out out')
-stops_script observable cart script old new out out' (Ok session_outcome) is stops = tt
+stops_script observable cart script old new out out' (Ok script_outcome) is stops = tt
 stops_script observable cart script old new out out' (Err failed) is stops = record {
   after = new;
   stops = subst (λ (s : SessionValue ImagesValue). StopsAtReply size_of image_of Keeps observable (lines_of script) s new out out') is stops;

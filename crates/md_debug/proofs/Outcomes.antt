@@ -3,8 +3,8 @@ use Rattle.std.proofs.Common.{◌≡◌, ◌≢◌, ℕ, List, [], ◌++◌, ref
 use Rattle.debug_text.proofs.Scripts.{alike_after, none_refused, one_refused}
 use Rattle.debug_text.specs.declared.command.Command.{Command}
 use Rattle.md_debug.specs.Scripts.{ObeysLine, Plays, RefusesFor, Replied, replied}
-use Rattle.md_debug.specs.declared.script.SessionOutcome.{SessionOutcome}
-use Rattle.md_debug.specs.declared.script.SessionOutcome.TheVariants.{Obeyed, OutOfMemory, Refused}
+use Rattle.debug_text.specs.declared.outcome.ScriptOutcome.{ScriptOutcome}
+use Rattle.debug_text.specs.declared.outcome.ScriptOutcome.TheVariants.{Obeyed, OutOfMemory, Refused}
 use Rattle.md_debug.specs.Sessions.{Obeys, SessionValue, reply_to}
 use Rattle.md_debug.specs.declared.fault.DebugFault.{DebugFault}
 use Rattle.md_chips.specs.Machines.{MachineValue}
@@ -40,9 +40,9 @@ module _ {Images : Type 0} (size : Images → ℕ) (spelling : Images → Machin
   first_alike : (session : SessionValue Images) → AreAlike (replied session []) (replied session [])
   first_alike session = record { session = alike_self session; replies = refl }
 
-  pub one_outcome : (lines : List (List ℕ)) (old x y : SessionValue Images) (first second : List ℕ) (session_outcome other : SessionOutcome)
-      → Plays size spelling keeps lines old x first session_outcome → Plays size spelling keeps lines old y second other → session_outcome ≢ OutOfMemory → other ≢ OutOfMemory
-      → (first ≡ second) × (session_outcome ≡ other)
+  pub one_outcome : (lines : List (List ℕ)) (old x y : SessionValue Images) (first second : List ℕ) (script_outcome other : ScriptOutcome DebugFault)
+      → Plays size spelling keeps lines old x first script_outcome → Plays size spelling keeps lines old y second other → script_outcome ≢ OutOfMemory → other ≢ OutOfMemory
+      → (first ≡ second) × (script_outcome ≡ other)
   one_outcome lines old x y first second Obeyed Obeyed one two there there' =
       ((alike_after (ObeysLine size spelling keeps) RefusesFor AreAlike follows never lines (replied old []) (replied old []) (replied x first) (replied y second) (first_alike old) one two).replies, refl)
   one_outcome lines old x y first second Obeyed (Refused number fault) one two there there' =
@@ -54,4 +54,4 @@ module _ {Images : Type 0} (size : Images → ℕ) (spelling : Images → Machin
       (replied old []) (replied old []) (replied x first) (replied y second) number number' fault fault' (first_alike old) one two in
       (same.0.replies, ap₂ Refused same.1.0 same.1.1)
   one_outcome lines old x y first second OutOfMemory other one two there there' = absurd (there refl)
-  one_outcome lines old x y first second session_outcome OutOfMemory one two there there' = absurd (there' refl)
+  one_outcome lines old x y first second script_outcome OutOfMemory one two there there' = absurd (there' refl)

@@ -15,8 +15,8 @@ use Rattle.md_debug.specs.declared.fault.DebugFault.{DebugFault}
 use Rattle.md_debug.specs.declared.fault.DebugFault.TheVariants.{BadNumber, NoMemory, NotKept, UnknownWord}
 use Rattle.debug_text.specs.Scripts.{ObeysFirst}
 use Rattle.md_debug.specs.Scripts.{FailsWithin, IsRefused, ObeysLine, Plays, PutsWhole, replied}
-use Rattle.md_debug.specs.declared.script.SessionOutcome.{SessionOutcome}
-use Rattle.md_debug.specs.declared.script.SessionOutcome.TheVariants.{OutOfMemory, Refused}
+use Rattle.debug_text.specs.declared.outcome.ScriptOutcome.{ScriptOutcome}
+use Rattle.debug_text.specs.declared.outcome.ScriptOutcome.TheVariants.{OutOfMemory, Refused}
 
 -- why a session refuses a line
 pub refused_by : {X Images : Type 0} (session : SessionValue Images) (line : List ℕ) (r : Result X DebugFault) (fault : DebugFault) → r ≡ Err fault
@@ -76,10 +76,10 @@ not_text line other = by (list_all is_seven_bit line) refl where
 
 module _ {Images : Type 0} (size : Images → ℕ) (spelling : Images → MachineValue → List ℕ) (keeps : Images → List ℕ → MachineValue → Type 0) where
   -- a line is not obeyed
-  refused_at : (lines before after : List (List ℕ)) (line : List ℕ) (old mid new : SessionValue Images) (replies : List ℕ) (session_outcome : SessionOutcome) (number : ℕ) (fault : DebugFault)
-      → ObeysFirst (ObeysLine size spelling keeps) lines before (line ∷ after) (replied old []) (replied mid replies) → number ≡ length before + 1 → session_outcome ≡ Refused number fault
-      → IsRefused mid line fault × (new ≡ mid) → Plays size spelling keeps lines old new replies session_outcome
-  refused_at lines before after line old mid new replies session_outcome number fault so_far is ends refused =
+  refused_at : (lines before after : List (List ℕ)) (line : List ℕ) (old mid new : SessionValue Images) (replies : List ℕ) (script_outcome : ScriptOutcome DebugFault) (number : ℕ) (fault : DebugFault)
+      → ObeysFirst (ObeysLine size spelling keeps) lines before (line ∷ after) (replied old []) (replied mid replies) → number ≡ length before + 1 → script_outcome ≡ Refused number fault
+      → IsRefused mid line fault × (new ≡ mid) → Plays size spelling keeps lines old new replies script_outcome
+  refused_at lines before after line old mid new replies script_outcome number fault so_far is ends refused =
       subst (Plays size spelling keeps lines old new replies) (sym ends) (
         before,
         line,
@@ -89,18 +89,18 @@ module _ {Images : Type 0} (size : Images → ℕ) (spelling : Images → Machin
         subst (λ (s : SessionValue Images). IsRefused s line fault) (sym refused.1) refused.0,
       )
 
-  pub plays_stopped : (lines before after : List (List ℕ)) (line : List ℕ) (old mid new : SessionValue Images) (replies : List ℕ) (session_outcome : SessionOutcome) (number : ℕ) (fault : DebugFault)
+  pub plays_stopped : (lines before after : List (List ℕ)) (line : List ℕ) (old mid new : SessionValue Images) (replies : List ℕ) (script_outcome : ScriptOutcome DebugFault) (number : ℕ) (fault : DebugFault)
       → ObeysFirst (ObeysLine size spelling keeps) lines before (line ∷ after) (replied old []) (replied mid replies) → number ≡ length before + 1
-      → (fault ≡ NoMemory → session_outcome ≡ OutOfMemory) → (fault ≢ NoMemory → session_outcome ≡ Refused number fault)
-      → (fault ≢ NoMemory → IsRefused mid line fault × (new ≡ mid)) → Plays size spelling keeps lines old new replies session_outcome
-  plays_stopped lines before after line old mid new replies session_outcome number NoMemory so_far is memory ends refused =
+      → (fault ≡ NoMemory → script_outcome ≡ OutOfMemory) → (fault ≢ NoMemory → script_outcome ≡ Refused number fault)
+      → (fault ≢ NoMemory → IsRefused mid line fault × (new ≡ mid)) → Plays size spelling keeps lines old new replies script_outcome
+  plays_stopped lines before after line old mid new replies script_outcome number NoMemory so_far is memory ends refused =
       subst (Plays size spelling keeps lines old new replies) (sym (memory refl)) (mid, (before, line ∷ after, so_far))
-  plays_stopped lines before after line old mid new replies session_outcome number UnknownWord so_far is memory ends refused =
+  plays_stopped lines before after line old mid new replies script_outcome number UnknownWord so_far is memory ends refused =
       let other : UnknownWord ≢ NoMemory = λ e. cc in
-      refused_at lines before after line old mid new replies session_outcome number UnknownWord so_far is (ends other) (refused other)
-  plays_stopped lines before after line old mid new replies session_outcome number BadNumber so_far is memory ends refused =
+      refused_at lines before after line old mid new replies script_outcome number UnknownWord so_far is (ends other) (refused other)
+  plays_stopped lines before after line old mid new replies script_outcome number BadNumber so_far is memory ends refused =
       let other : BadNumber ≢ NoMemory = λ e. cc in
-      refused_at lines before after line old mid new replies session_outcome number BadNumber so_far is (ends other) (refused other)
-  plays_stopped lines before after line old mid new replies session_outcome number (NotKept oldest) so_far is memory ends refused =
+      refused_at lines before after line old mid new replies script_outcome number BadNumber so_far is (ends other) (refused other)
+  plays_stopped lines before after line old mid new replies script_outcome number (NotKept oldest) so_far is memory ends refused =
       let other : NotKept oldest ≢ NoMemory = λ e. cc in
-      refused_at lines before after line old mid new replies session_outcome number (NotKept oldest) so_far is (ends other) (refused other)
+      refused_at lines before after line old mid new replies script_outcome number (NotKept oldest) so_far is (ends other) (refused other)

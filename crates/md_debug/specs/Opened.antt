@@ -3,7 +3,8 @@ use Rattle.std.specs.Prelude.{ℕ, false, List, [], ◌∷◌}
 use Rattle.md_debug.specs.Kept.{padded}
 use Rattle.text_lines.specs.Lines.{lines_of}
 use Rattle.md_debug.specs.Scripts.{Plays, PutsWhole, StopsAtReply}
-use Rattle.md_debug.specs.declared.script.SessionOutcome.{SessionOutcome}
+use Rattle.md_debug.specs.declared.fault.DebugFault.{DebugFault}
+use Rattle.debug_text.specs.declared.outcome.ScriptOutcome.{ScriptOutcome}
 use Rattle.md_outer.specs.Outside.{SinkState}
 use Rattle.md_pads.specs.Recording.{no_frames}
 use Rattle.md_debug.specs.Sessions.{SessionValue}
@@ -24,14 +25,14 @@ opened images = record {
 }
 
 -- the lines of a script have these replies and this outcome, in the session at power-on of a cartridge
-pub record PlaysScript (cart script : List ℕ) (replies : List ℕ) (session_outcome : SessionOutcome) : Type 0 where
+pub record PlaysScript (cart script : List ℕ) (replies : List ℕ) (script_outcome : ScriptOutcome DebugFault) : Type 0 where
   pub after : SessionValue ImagesValue
-  pub plays : Plays size_of image_of Keeps (lines_of script) (opened (images_with cart)) after replies session_outcome
+  pub plays : Plays size_of image_of Keeps (lines_of script) (opened (images_with cart)) after replies script_outcome
 
 -- the lines of a script have this outcome there, and the replies to those that were obeyed were written
-pub record PutsScript (observable : Type 0) (cart script : List ℕ) (out out' : SinkState) (session_outcome : SessionOutcome) : Type 0 where
+pub record PutsScript (observable : Type 0) (cart script : List ℕ) (out out' : SinkState) (script_outcome : ScriptOutcome DebugFault) : Type 0 where
   pub replies : List ℕ
-  pub plays : PlaysScript cart script replies session_outcome
+  pub plays : PlaysScript cart script replies script_outcome
   pub puts : PutsWhole observable replies out out'
 
 -- a reply to a line of a script could not be written there: the replies before it were written, and a prefix of

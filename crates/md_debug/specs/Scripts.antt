@@ -10,8 +10,8 @@ use Rattle.md_outer.specs.Outside.{PutsText, SinkState}
 use Rattle.md_debug.specs.Sessions.{Obeys, SessionValue, oldest_of, reply_to}
 use Rattle.md_debug.specs.declared.fault.DebugFault.{DebugFault}
 use Rattle.md_debug.specs.declared.fault.DebugFault.TheVariants as faults
-use Rattle.md_debug.specs.declared.script.SessionOutcome.{SessionOutcome}
-use Rattle.md_debug.specs.declared.script.SessionOutcome.TheVariants.{Obeyed, Refused, OutOfMemory}
+use Rattle.debug_text.specs.declared.outcome.ScriptOutcome.{ScriptOutcome}
+use Rattle.debug_text.specs.declared.outcome.ScriptOutcome.TheVariants.{Obeyed, Refused, OutOfMemory}
 
 -- a session, and the replies to the lines so far
 pub record Replied (Images : Type 0) : Type 0 where
@@ -51,15 +51,15 @@ module _ {Images : Type 0} (size : Images → ℕ) (spelling : Images → Machin
 
   -- how a script ends: each line was obeyed; or the line of a number, from 1 on, is the first that is refused, and
   -- those before it were obeyed; or memory ran out after lines that were obeyed
-  abbrev pub Plays : List (List ℕ) → SessionValue Images → SessionValue Images → List ℕ → SessionOutcome → Type 0
+  abbrev pub Plays : List (List ℕ) → SessionValue Images → SessionValue Images → List ℕ → ScriptOutcome DebugFault → Type 0
   Plays lines old new replies Obeyed = ObeysAll ObeysLine lines (replied old []) (replied new replies)
   Plays lines old new replies (Refused number fault) = RefusesLine ObeysLine (RefusesFor fault) lines (replied old []) (replied new replies) number
   Plays lines old new replies OutOfMemory = (mid : SessionValue Images) × ObeysSome ObeysLine lines (replied old []) (replied mid replies)
 
   -- a script ended so, and the replies to the lines that were obeyed were written
-  pub record PutsReplies (observable : Type 0) (lines : List (List ℕ)) (old new : SessionValue Images) (out out' : SinkState) (session_outcome : SessionOutcome) : Type 0 where
+  pub record PutsReplies (observable : Type 0) (lines : List (List ℕ)) (old new : SessionValue Images) (out out' : SinkState) (script_outcome : ScriptOutcome DebugFault) : Type 0 where
     pub replies : List ℕ
-    pub plays : Plays lines old new replies session_outcome
+    pub plays : Plays lines old new replies script_outcome
     pub puts : PutsWhole observable replies out out'
 
   -- a reply could not be written: the lines before its own were obeyed and their replies written. Then its line

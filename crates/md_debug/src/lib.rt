@@ -14,5 +14,5 @@ pub mod session_laws;
 pub use fault::DebugFault;
 pub use kept_states::KeptStates;
 pub use playing::{open, play_script};
-pub use script::{SessionOutcome, play};
+pub use script::play;
 pub use session::Session;

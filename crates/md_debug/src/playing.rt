@@ -1,7 +1,8 @@
 ghost use Rattle.std.specs.Prelude.{◌≡◌, IfOk, OnErr};
 ghost use Rattle.md_debug.specs.Opened.{PutsScript, StopsScript, images_with, opened};
 
-use crate::{Session, SessionOutcome, play};
+use crate::{DebugFault, Session, play};
+use debug_text::ScriptOutcome;
 use md_outer::{Failed, Sink};
 use md_pads::Recording;
 use md_word::NoMemory;
@@ -47,13 +48,13 @@ pub fn play_script<S: Sink>(
     cart: Cart,
     script: &[u8],
     out: &mut S,
-) -> Result<SessionOutcome, Failed>
-    ensures ends { IfOk result (λ session_outcome. PutsScript S.observable cart script.now (S.state out.old) (S.state out.new) session_outcome) }
+) -> Result<ScriptOutcome<DebugFault>, Failed>
+    ensures ends { IfOk result (λ script_outcome. PutsScript S.observable cart script.now (S.state out.old) (S.state out.new) script_outcome) }
     ensures stops { OnErr result (StopsScript S.observable cart script.now (S.state out.old) (S.state out.new)) }
 {
     match session_with(alloc, cart) {
         Ok(session) => played(session, script, out),
-        Err(NoMemory) => Ok(SessionOutcome::OutOfMemory),
+        Err(NoMemory) => Ok(ScriptOutcome::OutOfMemory),
     }
 }
 
@@ -62,8 +63,8 @@ fn played<S: Sink>(
     session: Session<StateImages>,
     script: &[u8],
     out: &mut S,
-) -> Result<SessionOutcome, Failed>
-    ensures ends { (cart : _) → session ≡ opened (images_with cart) → IfOk result (λ session_outcome. PutsScript S.observable cart script.now (S.state out.old) (S.state out.new) session_outcome) }
+) -> Result<ScriptOutcome<DebugFault>, Failed>
+    ensures ends { (cart : _) → session ≡ opened (images_with cart) → IfOk result (λ script_outcome. PutsScript S.observable cart script.now (S.state out.old) (S.state out.new) script_outcome) }
     ensures stops { (cart : _) → session ≡ opened (images_with cart) → OnErr result (StopsScript S.observable cart script.now (S.state out.old) (S.state out.new)) }
 {
     let mut session = session;

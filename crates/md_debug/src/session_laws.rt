@@ -7,8 +7,9 @@ ghost use Rattle.md_chips.specs.Console.{Console, IsRunTo};
 ghost use Rattle.md_chips.specs.Machines.{MachineValue};
 ghost use Rattle.md_chips.specs.Media.{Media};
 ghost use Rattle.machine_laws.specs.Settling.{GoesOn};
-ghost use Rattle.md_debug.specs.declared.script.SessionOutcome.{SessionOutcome};
-ghost use Rattle.md_debug.specs.declared.script.SessionOutcome.TheVariants.{OutOfMemory};
+ghost use Rattle.debug_text.specs.declared.outcome.ScriptOutcome.{ScriptOutcome};
+ghost use Rattle.md_debug.specs.declared.fault.DebugFault.{DebugFault};
+ghost use Rattle.debug_text.specs.declared.outcome.ScriptOutcome.TheVariants.{OutOfMemory};
 ghost use Rattle.state_laws.specs.Images.{HasImage, ImagesValue, settled_of};
 ghost use Rattle.md_debug.specs.Laws.{DebugLaws};
 ghost use Rattle.md_debug.specs.Opened.{PlaysScript};
@@ -17,8 +18,8 @@ use machine_laws::settling::settled_machines_go_on;
 
 /// A script has one outcome alone, where memory suffices.
 pub fn scripts_have_one_outcome()
-    ensures { (cart script first second : List ℕ) (session_outcome other : SessionOutcome) → PlaysScript cart script first session_outcome → PlaysScript cart script second other
-        → session_outcome ≢ OutOfMemory → other ≢ OutOfMemory → (first ≡ second) × (session_outcome ≡ other) }
+    ensures { (cart script first second : List ℕ) (script_outcome other : ScriptOutcome DebugFault) → PlaysScript cart script first script_outcome → PlaysScript cart script second other
+        → script_outcome ≢ OutOfMemory → other ≢ OutOfMemory → (first ≡ second) × (script_outcome ≡ other) }
 {}
 
 /// A machine continues from its kept state as it would have continued: with the same entries, frames and samples,

@@ -14,8 +14,8 @@ use Rattle.md_rollback.proofs.Advances.{first-machine}
 use Rattle.md_rollback.specs.Following.{Follows}
 use Rattle.md_rollback.specs.Scripts.{Plays, Script, begun}
 use Rattle.md_rollback.specs.declared.line_fault.LineFault.{LineFault}
-use Rattle.md_rollback.specs.declared.script.SessionOutcome.{SessionOutcome}
-use Rattle.md_rollback.specs.declared.script.SessionOutcome.TheVariants as session_outcomes
+use Rattle.debug_text.specs.declared.outcome.ScriptOutcome.{ScriptOutcome}
+use Rattle.debug_text.specs.declared.outcome.ScriptOutcome.TheVariants as script_outcomes
 use Rattle.md_rollback.specs.Rolls.{CompletesWith, IsDigestOf, IsRolled}
 use Rattle.md_rollback.specs.declared.rolled.Completion.TheVariants.{Done, Refused}
 use Rattle.md_rollback.specs.declared.rolled.Rolled.{Rolled}
@@ -51,25 +51,25 @@ digest-of cart session script digest follows is =
     }
 
 -- what the lines of a script make of a session
-abbrev pub GoesBy : List ℕ → SessionValue → SessionValue → SessionOutcome → Type 0
-GoesBy text old new session_outcome =
-    (cart : List ℕ) (script : Script) → Follows cart old script → (after : Script) × Plays old.window (lines_of text) script after session_outcome × Follows cart new after
+abbrev pub GoesBy : List ℕ → SessionValue → SessionValue → ScriptOutcome LineFault → Type 0
+GoesBy text old new script_outcome =
+    (cart : List ℕ) (script : Script) → Follows cart old script → (after : Script) × Plays old.window (lines_of text) script after script_outcome × Follows cart new after
 
-pub done-completion : (cart : List ℕ) (window : ℕ) (text : List ℕ) (old new : SessionValue) (rolled : Rolled) → old ≡ opened cart window → GoesBy text old new session_outcomes.Obeyed
+pub done-completion : (cart : List ℕ) (window : ℕ) (text : List ℕ) (old new : SessionValue) (rolled : Rolled) → old ≡ opened cart window → GoesBy text old new script_outcomes.Obeyed
     → IsRolled new rolled → CompletesWith cart window text (Done rolled)
 done-completion cart window text old new rolled first goes is =
     let went = goes cart begun (first-follows cart window old first) in (
       went.0,
-      subst (λ (n : ℕ). Plays n (lines_of text) begun went.0 session_outcomes.Obeyed) (ap (λ (s : SessionValue). s.window) first) went.1,
+      subst (λ (n : ℕ). Plays n (lines_of text) begun went.0 script_outcomes.Obeyed) (ap (λ (s : SessionValue). s.window) first) went.1,
       is.frames ∙ went.2.frames_are,
       subst (IsConfirmed went.0.local went.0.remote) (sym is.confirmed) went.2.confirmed_is,
       digest-of cart new went.0 rolled.digest went.2 is.digest,
     )
 
 pub refused-completion : (cart : List ℕ) (window : ℕ) (text : List ℕ) (old new : SessionValue) (line : ℕ) (fault : LineFault) → old ≡ opened cart window
-    → GoesBy text old new (session_outcomes.Refused line fault) → CompletesWith cart window text (Refused line fault)
+    → GoesBy text old new (script_outcomes.Refused line fault) → CompletesWith cart window text (Refused line fault)
 refused-completion cart window text old new line fault first goes =
     let went = goes cart begun (first-follows cart window old first) in (
       went.0,
-      subst (λ (n : ℕ). Plays n (lines_of text) begun went.0 (session_outcomes.Refused line fault)) (ap (λ (s : SessionValue). s.window) first) went.1,
+      subst (λ (n : ℕ). Plays n (lines_of text) begun went.0 (script_outcomes.Refused line fault)) (ap (λ (s : SessionValue). s.window) first) went.1,
     )

@@ -11,7 +11,7 @@ use Rattle.text_lines.specs.Lines.{lines_of}
 use Rattle.md_rollback.specs.Inputs.{IsConfirmed}
 use Rattle.md_rollback.specs.Sessions.{SessionValue}
 use Rattle.md_rollback.specs.Scripts.{Plays, Script, begun}
-use Rattle.md_rollback.specs.declared.script.SessionOutcome.TheVariants as session_outcomes
+use Rattle.debug_text.specs.declared.outcome.ScriptOutcome.TheVariants as script_outcomes
 use Rattle.md_rollback.specs.declared.rolled.Completion.{Completion}
 use Rattle.md_rollback.specs.declared.rolled.Completion.TheVariants.{Done, Refused, NoMemory}
 use Rattle.md_rollback.specs.declared.rolled.Rolled.{Rolled}
@@ -34,7 +34,7 @@ pub record IsRolled (session : SessionValue) (rolled : Rolled) : Type 0 where
 -- the digest of the state; or its first refused line
 abbrev pub CompletesWith : List ℕ → ℕ → List ℕ → Completion → Type 0
 CompletesWith cart window text (Done rolled) =
-    (script : Script) × Plays window (lines_of text) begun script session_outcomes.Obeyed × (rolled.frames ≡ script.frames)
+    (script : Script) × Plays window (lines_of text) begun script script_outcomes.Obeyed × (rolled.frames ≡ script.frames)
     × IsConfirmed script.local script.remote rolled.confirmed × IsDigestOf cart script rolled.digest
-CompletesWith cart window text (Refused line fault) = (script : Script) × Plays window (lines_of text) begun script (session_outcomes.Refused line fault)
+CompletesWith cart window text (Refused line fault) = (script : Script) × Plays window (lines_of text) begun script (script_outcomes.Refused line fault)
 CompletesWith cart window text NoMemory = Unit {0}

@@ -12,8 +12,8 @@ use Rattle.md_rollback.specs.declared.line.Player.{Player}
 use Rattle.md_rollback.specs.declared.line.Player.TheVariants.{Local, Remote}
 use Rattle.md_rollback.specs.declared.line_fault.LineFault.{LineFault}
 use Rattle.md_rollback.specs.declared.line_fault.LineFault.TheVariants as faults
-use Rattle.md_rollback.specs.declared.script.SessionOutcome.{SessionOutcome}
-use Rattle.md_rollback.specs.declared.script.SessionOutcome.TheVariants.{Obeyed, Refused, OutOfMemory}
+use Rattle.debug_text.specs.declared.outcome.ScriptOutcome.{ScriptOutcome}
+use Rattle.debug_text.specs.declared.outcome.ScriptOutcome.TheVariants.{Obeyed, Refused, OutOfMemory}
 
 -- the outcome of the lines so far: the words that they gave of both players, how many frames were made, and
 -- with which words the machine made them
@@ -78,11 +78,6 @@ fault_of (inputs.Far last) = faults.Far
 fault_of (inputs.Given kept) = faults.Given
 fault_of inputs.Buttons = faults.Buttons
 
--- how a script ends at a line that is not obeyed
-abbrev pub session_outcome_at : ℕ → Option LineFault → SessionOutcome
-session_outcome_at number (Some fault) = Refused number fault
-session_outcome_at number None = OutOfMemory
-
 -- a line was obeyed
 abbrev pub ObeysLine : ℕ → List ℕ → Script → Script → Type 0
 ObeysLine window line old new = (asked : Line) × (line_of line ≡ Some asked) × Obeys window old asked new
@@ -93,7 +88,7 @@ RefusesFor window fault script line = IsRefused window script line fault
 
 -- how a script ends: each line was obeyed; or the line of a number, from 1 on, is the first that is refused, and
 -- those before it were obeyed; or memory ran out after lines that were obeyed
-abbrev pub Plays : ℕ → List (List ℕ) → Script → Script → SessionOutcome → Type 0
+abbrev pub Plays : ℕ → List (List ℕ) → Script → Script → ScriptOutcome LineFault → Type 0
 Plays window lines old new Obeyed = ObeysAll (ObeysLine window) lines old new
 Plays window lines old new (Refused number fault) = RefusesLine (ObeysLine window) (RefusesFor window fault) lines old new number
 Plays window lines old new OutOfMemory = ObeysSome (ObeysLine window) lines old new

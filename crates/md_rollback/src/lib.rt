@@ -34,6 +34,6 @@ pub use opening::session;
 pub use reading::read_line;
 pub use rolled::{Completion, Rolled};
 pub use running::run_script;
-pub use script::{SessionOutcome, play};
+pub use script::play;
 pub use sessions::Session;
 pub use words::MOST_FRAMES;

@@ -4,7 +4,8 @@ ghost use Rattle.md_rollback.specs.Rolls.{CompletesWith, IsRolled};
 
 use crate::opening::session;
 use crate::rolled::{Completion, Rolled};
-use crate::{Session, SessionOutcome, play};
+use crate::{Session, play};
+use debug_text::ScriptOutcome;
 use md_word::NoMemory;
 use rom_header::Cart;
 use save_state::write;
@@ -25,12 +26,12 @@ pub fn run_script(alloc: Global, cart: Arc<Cart>, window: u32, script: &[u8]) ->
         Err(NoMemory) => return Completion::NoMemory,
     };
     match play(&mut session, script) {
-        SessionOutcome::Obeyed => match last_frame(alloc, &session) {
+        ScriptOutcome::Obeyed => match last_frame(alloc, &session) {
             Ok(rolled) => Completion::Done(rolled),
             Err(NoMemory) => Completion::NoMemory,
         },
-        SessionOutcome::Refused(line, fault) => Completion::Refused(line, fault),
-        SessionOutcome::OutOfMemory => Completion::NoMemory,
+        ScriptOutcome::Refused(line, fault) => Completion::Refused(line, fault),
+        ScriptOutcome::OutOfMemory => Completion::NoMemory,
     }
 }
 

@@ -6,27 +6,17 @@ ghost use Rattle.md_rollback.specs.declared.line.Line.TheVariants as asked;
 ghost use Rattle.md_rollback.specs.declared.line.Player.TheVariants as players;
 ghost use Rattle.md_rollback.specs.Following.{Follows};
 ghost use Rattle.md_rollback.specs.Following as following;
-ghost use Rattle.md_rollback.specs.Scripts.{IsFault, IsRefusedInput, Obeys, Plays, Script, session_outcome_at};
+ghost use Rattle.md_rollback.specs.Scripts.{IsFault, IsRefusedInput, Obeys, Plays, Script};
 ghost use Rattle.md_rollback.specs.Scripts as scripts;
 
 use crate::line_fault::LineFault;
 use crate::{AdvanceFault, InputFault, Line, Player, Session, read_line};
+use debug_text::{ScriptOutcome, script_outcome_of};
 use state_laws::Replays;
 use text_lines::NumberedLines;
 
-/// The outcome of a script.
-#[derive(Clone, Copy)]
-pub enum SessionOutcome {
-    /// Each of its lines was obeyed.
-    Obeyed,
-    /// The line of this number, from 1 on, is refused.
-    Refused(u64, LineFault),
-    /// Memory ran out.
-    OutOfMemory,
-}
-
 /// Obeys the lines of a script one after another, up to the first one that is refused.
-pub fn play<R: Replays>(session: &mut Session<R>, script: &[u8]) -> SessionOutcome
+pub fn play<R: Replays>(session: &mut Session<R>, script: &[u8]) -> ScriptOutcome<LineFault>
     ensures { (cart : List ℕ) (old : Script) → Follows cart session.old old
         → (new : Script) × Plays session.old.window (lines_of script.now) old new result × Follows cart session.new new }
 {
@@ -34,20 +24,10 @@ pub fn play<R: Replays>(session: &mut Session<R>, script: &[u8]) -> SessionOutco
     while let Some(line) = lines.next() {
         match obey(session, line) {
             Ok(()) => {}
-            Err(fault) => return session_outcome_of(lines.number, fault),
+            Err(fault) => return script_outcome_of(lines.number, fault),
         }
     }
-    SessionOutcome::Obeyed
-}
-
-/// The outcome of a script at a line that is not obeyed.
-fn session_outcome_of(number: u64, fault: Option<LineFault>) -> SessionOutcome
-    ensures { result ≡ session_outcome_at number fault }
-{
-    match fault {
-        Some(fault) => SessionOutcome::Refused(number, fault),
-        None => SessionOutcome::OutOfMemory,
-    }
+    ScriptOutcome::Obeyed
 }
 
 /// Obeys a line. It fails with the fault for which the line is refused, or with `None` when memory runs out.

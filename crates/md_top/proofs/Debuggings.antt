@@ -5,8 +5,9 @@ use Rattle.md_debug.specs.Sessions.{reply_to}
 use Rattle.md_outer.specs.Outside.{DepotState, Files, Rose, SinkState}
 use Rattle.md_args.specs.Words.{Debug, Debugging}
 use Rattle.md_args.specs.declared.files.Input.TheVariants.{Script}
-use Rattle.md_debug.specs.declared.script.SessionOutcome.{SessionOutcome as ScriptOutcome}
-use Rattle.md_debug.specs.declared.script.SessionOutcome.TheVariants.{Obeyed, OutOfMemory, Refused}
+use Rattle.md_debug.specs.declared.fault.DebugFault.{DebugFault}
+use Rattle.debug_text.specs.declared.outcome.ScriptOutcome.{ScriptOutcome}
+use Rattle.debug_text.specs.declared.outcome.ScriptOutcome.TheVariants.{Obeyed, OutOfMemory, Refused}
 use Rattle.md_debug.specs.Opened.{PlaysScript, PutsScript, StopsScript}
 use Rattle.md_debug.proofs.PlayedScripts.{one_script}
 use Rattle.md_top.specs.Debuggings.{CanDebug, DebugEnds, IsPlayed, IsScripted, Scripted, ShowsReplies, played_outcome, script_limit}
@@ -55,18 +56,18 @@ script_long : (file : Option (List ℕ)) (script : Scripted) → IsSomeAnd file 
 script_long file script long = read_long Script script_limit file (λ bytes. played_outcome script.command_outcome) long
 
 -- the script that is played
-script_played : (file : Option (List ℕ)) (cart replies : List ℕ) (command_outcome : ScriptOutcome) → IsSomeAnd file (λ script. (length script ≤ script_limit) × PlaysScript cart script replies command_outcome)
+script_played : (file : Option (List ℕ)) (cart replies : List ℕ) (command_outcome : ScriptOutcome DebugFault) → IsSomeAnd file (λ script. (length script ≤ script_limit) × PlaysScript cart script replies command_outcome)
     → (script_outcome file (record { replies = replies; command_outcome = command_outcome }) ≡ played_outcome command_outcome) × PlaysScript cart (unwrap_or file []) replies command_outcome
 script_played None cart replies command_outcome played = absurd played
 script_played (Some bytes) cart replies command_outcome (within, plays) =
     (read_within Script script_limit bytes (λ held. played_outcome command_outcome) within, plays)
 
-debug_played : (words : Debugging) (files : Files) (replies : List ℕ) (command_outcome : ScriptOutcome) → IsPlayed words files replies command_outcome
+debug_played : (words : Debugging) (files : Files) (replies : List ℕ) (command_outcome : ScriptOutcome DebugFault) → IsPlayed words files replies command_outcome
     → debug_command_outcome words files (record { replies = replies; command_outcome = command_outcome }) ≡ played_outcome command_outcome
 debug_played words files replies command_outcome (accepted, played) =
     right_accepted (files words.rom) _ accepted ∙ (script_played (files words.script) (cart_of words.rom files) replies command_outcome played).0
 
-debug_with : (words : Debugging) (files : Files) (replies : List ℕ) (command_outcome : ScriptOutcome) → IsPlayed words files replies command_outcome → command_outcome ≢ OutOfMemory
+debug_with : (words : Debugging) (files : Files) (replies : List ℕ) (command_outcome : ScriptOutcome DebugFault) → IsPlayed words files replies command_outcome → command_outcome ≢ OutOfMemory
     → IsDebugRight words files (status_of (played_outcome command_outcome))
 debug_with words files replies command_outcome played memory = (
   record { replies = replies; command_outcome = command_outcome },
@@ -74,10 +75,10 @@ debug_with words files replies command_outcome played memory = (
   sym (ap status_of (debug_played words files replies command_outcome played)),
 )
 
-not_obeyed : ◌≡◌ {A = ScriptOutcome} Obeyed OutOfMemory → ⊥
+not_obeyed : ◌≡◌ {A = ScriptOutcome DebugFault} Obeyed OutOfMemory → ⊥
 not_obeyed same = cc
 
-not_refused : (line : ℕ) (fault : _) → ◌≡◌ {A = ScriptOutcome} (Refused line fault) OutOfMemory → ⊥
+not_refused : (line : ℕ) (fault : _) → ◌≡◌ {A = ScriptOutcome DebugFault} (Refused line fault) OutOfMemory → ⊥
 not_refused line fault same = cc
 
 debug_cart : (observable : Type 0) (words : Debugging) (old new : DepotState) (command_outcome : CommandOutcome) → CartCause observable words.rom old new command_outcome
@@ -137,14 +138,14 @@ played_files observable words files cart script P found is within plays t = (
       (within, subst (λ (c : List ℕ). P c script) (found t).1 plays),
 )
 
-pub played_cause : (observable sink : Type 0) (words : Debugging) (old new : DepotState) (cart script : List ℕ) (out out' : SinkState) (command_outcome : ScriptOutcome)
+pub played_cause : (observable sink : Type 0) (words : Debugging) (old new : DepotState) (cart script : List ℕ) (out out' : SinkState) (command_outcome : ScriptOutcome DebugFault)
     → (observable → IsAccepted (old.files words.rom) × (cart ≡ cart_of words.rom old.files)) → (observable → old.files words.script ≡ Some script) → length script ≤ script_limit
     → PutsScript sink cart script out out' command_outcome
     → DebugEnds observable words old new (played_outcome command_outcome) × ShowsReplies observable sink words old.files (played_outcome command_outcome) out out'
 played_cause observable sink words old new cart script out out' command_outcome found is within put =
     by command_outcome (played_files observable words old.files cart script (λ c s. PlaysScript c s put.replies command_outcome) found is within put.plays)
   where
-    by : (e : ScriptOutcome) → (observable → IsPlayed words old.files put.replies e) → DebugEnds observable words old new (played_outcome e) × ShowsReplies observable sink words old.files (played_outcome e) out out'
+    by : (e : ScriptOutcome DebugFault) → (observable → IsPlayed words old.files put.replies e) → DebugEnds observable words old new (played_outcome e) × ShowsReplies observable sink words old.files (played_outcome e) out out'
     by Obeyed played = ((put.replies, played), (put.replies, played, put.puts))
     by (Refused line fault) played = ((put.replies, played), (put.replies, played, put.puts))
     by OutOfMemory played = ((put.replies, played), (put.replies, played, put.puts))

@@ -14,7 +14,7 @@ use Rattle.md_args.specs.Words.{Command, Debug, Debugging, Rollback, Rolling, Ru
 use Rattle.md_args.specs.declared.files.Output.{Output}
 use Rattle.md_args.specs.declared.files.Output.TheVariants.{Frames, Journal, Save, Sound}
 use Rattle.md_top.specs.Debuggings.{Scripted}
-use Rattle.md_debug.specs.declared.script.SessionOutcome.TheVariants.{Obeyed}
+use Rattle.debug_text.specs.declared.outcome.ScriptOutcome.TheVariants.{Obeyed}
 use Rattle.md_rollback.specs.declared.rolled.Completion.TheVariants as completion
 use Rattle.md_top.specs.declared.command_outcome.CommandOutcome.{CommandOutcome}
 use Rattle.md_top.specs.declared.command_outcome.CommandOutcome.TheVariants.{Done, WriteFault, Memory, ReplyFault}

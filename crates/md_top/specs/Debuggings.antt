@@ -5,8 +5,8 @@ use Rattle.md_args.specs.Words.{Debugging}
 use Rattle.md_args.specs.declared.files.Input.TheVariants.{Script}
 use Rattle.md_debug.specs.declared.fault.DebugFault.{DebugFault}
 use Rattle.md_debug.specs.declared.fault.DebugFault.TheVariants.{BadNumber, NoMemory, NotKept, UnknownWord}
-use Rattle.md_debug.specs.declared.script.SessionOutcome.{SessionOutcome as ScriptOutcome}
-use Rattle.md_debug.specs.declared.script.SessionOutcome.TheVariants.{Obeyed, OutOfMemory, Refused}
+use Rattle.debug_text.specs.declared.outcome.ScriptOutcome.{ScriptOutcome}
+use Rattle.debug_text.specs.declared.outcome.ScriptOutcome.TheVariants.{Obeyed, OutOfMemory, Refused}
 use Rattle.md_debug.specs.Scripts.{FailsWithin, PutsWhole}
 use Rattle.md_debug.specs.Opened.{PlaysScript, StopsScript}
 use Rattle.md_top.specs.Inputs.{CartCause, IsAccepted, IsTooLong, IsUnread, cart_of}
@@ -29,13 +29,13 @@ abbrev pub script_line : ℕ → DebugFault → List ℕ
 script_line line fault = (codes "refused: script line " ++ decimal line) ++ fault_text fault
 
 -- what a script results in, as an outcome
-abbrev pub played_outcome : ScriptOutcome → CommandOutcome
+abbrev pub played_outcome : ScriptOutcome DebugFault → CommandOutcome
 played_outcome Obeyed = Played
 played_outcome (Refused line fault) = ScriptRefused line fault
 played_outcome OutOfMemory = ScriptMemory
 
 -- the cartridge is accepted and the script held, within its limit; its lines result in these replies and this outcome
-abbrev pub IsPlayed : Debugging → Files → List ℕ → ScriptOutcome → Type 0
+abbrev pub IsPlayed : Debugging → Files → List ℕ → ScriptOutcome DebugFault → Type 0
 IsPlayed words held replies command_outcome =
     IsAccepted (held words.rom) × IsSomeAnd (held words.script) (λ script. (length script ≤ script_limit) × PlaysScript (cart_of words.rom held) script replies command_outcome)
 
@@ -76,7 +76,7 @@ IsRefusedScript observable words held = (replies : List ℕ) × (line : ℕ) × 
 -- what the lines of a script result in: the replies and the outcome
 pub record Scripted : Type 0 where
   pub replies : List ℕ
-  pub command_outcome : ScriptOutcome
+  pub command_outcome : ScriptOutcome DebugFault
 
 -- the lines of the script of a session result in this, if one is asked for, with memory for all of them
 abbrev pub IsScripted : Option Debugging → Files → Scripted → Type 0

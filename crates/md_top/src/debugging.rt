@@ -7,9 +7,10 @@ use crate::command_outcome::CommandOutcome;
 use crate::put::put_two;
 use crate::reading::read_cart;
 use crate::report::put_number;
+use debug_text::ScriptOutcome;
 use itoa::Buffer;
 use md_args::{DebugWords, Input};
-use md_debug::{DebugFault, SessionOutcome as ScriptOutcome, play_script};
+use md_debug::{DebugFault, play_script};
 use md_outer::{Depot, Failed, Fetch, Sink};
 use std::alloc::Global;
 
@@ -45,7 +46,7 @@ pub(crate) fn debug_cart<D: Depot, S: Sink>(
 }
 
 /// What a script results in, as an outcome.
-fn ended(command_outcome: ScriptOutcome) -> CommandOutcome
+fn ended(command_outcome: ScriptOutcome<DebugFault>) -> CommandOutcome
     ensures { result ≡ played_outcome command_outcome }
 {
     match command_outcome {

@@ -1,7 +1,7 @@
 use Rattle.std.proofs.Common.{◌+◌, ◌++◌, ◌∷◌, [], List, ℕ, length, refl, sym, ap, subst, ◌∙◌, length-append, arith}
 use Rattle.md_debug.specs.Sessions.{reply_to}
 use Rattle.text_lines.specs.Lines.{lines_of}
-use Rattle.debug_text.specs.Scripts.{ObeysFirst}
+use Rattle.debug_text.specs.Scripts.{ObeysFirst, script_outcome_at}
 use Rattle.debug_text.proofs.Scripts.{all_obeyed, first_more, first_none}
 use Rattle.md_debug.specs.Scripts.{ObeysLine, replied}
 use Rattle.md_debug.proofs.Scripts.{fails_within, plays_stopped, puts_more, puts_none, puts_whole}
@@ -58,8 +58,9 @@ returns-in-Err-clause-ends g c =
     record {
       replies = replies;
       plays =
-          plays_stopped g.I.Images.size g.I.Images.spelling g.I.Images.keeps lines so_far.0 (lines_of after) line c.args.session.now c.loop-line.session c.obey.new.session replies c.session_outcome_of.result c.next.new.self.number c.in-Err.fault
-          stands (omega (arith, number, taken.1)) c.session_outcome_of.ensures.memory c.session_outcome_of.ensures.refused (λ other. (c.in-Err.ensures.refused other, c.in-Err.ensures.fault));
+          plays_stopped g.I.Images.size g.I.Images.spelling g.I.Images.keeps lines so_far.0 (lines_of after) line c.args.session.now c.loop-line.session c.obey.new.session replies c.script_outcome_of.result c.next.new.self.number c.in-Err.fault
+          stands (omega (arith, number, taken.1)) (λ is. c.script_outcome_of.ensures ∙ ap (script_outcome_at c.next.new.self.number) (c.refusal_of.ensures.memory is))
+          (λ other. c.script_outcome_of.ensures ∙ ap (script_outcome_at c.next.new.self.number) (c.refusal_of.ensures.refused other)) (λ other. (c.in-Err.ensures.refused other, c.in-Err.ensures.fault));
       puts = so_far.3;
     }
 

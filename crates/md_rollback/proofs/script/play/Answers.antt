@@ -57,7 +57,7 @@ returns-in-Err g c = λ cart old follows.
     let was = i.so_far cart old follows in
     let refused = c.in-Err.ensures.refused in (
       was.1,
-      subst (Plays window lines old was.1) (sym c.session_outcome_of.ensures)
+      subst (Plays window lines old was.1) (sym c.script_outcome_of.ensures)
           (plays_stopped window lines was.0 (lines_of after) line old was.1 c.next.new.self.number c.in-Err.fault
           (subst (λ (l : List (List ℕ)). ObeysFirst (ObeysLine window) lines was.0 l old was.1) taken.0 was.2)
           (omega (arith, was.4, taken.1)) (subst (λ (w : ℕ). IsFault w was.1 line c.in-Err.fault) i.window_is (refused.1 cart was.1 was.3))),

@@ -105,8 +105,7 @@ invariant_of-self-2 g c =
     let found = found-by inputs run.played expected c.played-played.result.now c.as_slice.result.now (length c.played-played.result.now) right
     many c.in_ok-expected.ensures c.played-played.ensures c.as_slice.ensures.value
     c.same_frames-right.ensures.within c.same_frames-right.ensures.same c.same_frames-right.ensures.differs in
-    subst (λ (r : RunImagesValue). IsSession r.cart c.self.inside.window inputs r.played c.replay.new.machine × (r.most ≡ c.self.inside.window + 1)) (sym c.in_ok-replay.ensures.played)
-    (
+    subst (λ (r : RunImagesValue). IsSession r.cart c.self.inside.window inputs r.played c.replay.new.machine × (r.most ≡ c.self.inside.window + 1)) (sym c.in_ok-replay.ensures.played) (
       session-next run c.self.inside.window inputs expected c.self.inside.machine right was c.self.invariant.1 found c.replay.new.machine c.known.ensures
           (omega (arith, c.if-frames-eq-MOST_FRAMES.false, was.few, many))
           (omega (arith, c.if-frames-confirmed.false, c.confirmed-confirmed.ensures.confirmed, many)) c.in_ok-replay.ensures.machine,
