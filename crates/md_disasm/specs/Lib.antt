@@ -1,5 +1,7 @@
 pub mod Appends
 pub mod Digits
+pub mod Groups68
+pub mod Groups80
 pub mod Listed68
 pub mod Names68
 pub mod Names80

@@ -1,4 +1,5 @@
-ghost use Rattle.std.specs.Prelude.{◌≡◌};
+ghost use Rattle.std.specs.Prelude.{ℕ, ◌≡◌};
+ghost use Rattle.md_disasm.specs.Groups80 as groups;
 ghost use Rattle.md_disasm.specs.Rows80 as rows;
 ghost use Rattle.md_disasm.specs.Shown80.{shown80};
 
@@ -78,9 +79,10 @@ fn lone_prefix(index: Index) -> Operand80
     }
 }
 
-/// The name and the operands of an instruction at an address.
-pub(crate) fn row_of(op: Op80, at: u16) -> Syntax80
-    ensures { shown80 result ≡ rows.row_of op at }
+/// Loads of bytes and of pairs.
+fn loads(op: Op80) -> Syntax80
+    requires { groups.IsLoad op }
+    ensures { (at : ℕ) → shown80 result ≡ rows.row_of op at }
 {
     match op {
         Op80::Load(target, source) => two("ld", Place(target), Place(source)),
@@ -94,21 +96,38 @@ pub(crate) fn row_of(op: Op80, at: u16) -> Syntax80
         Op80::LoadStackPointer(index) => two("ld", Register(Pair::Sp), Register(register(index))),
         Op80::Push(pair) => one("push", Register(pair)),
         Op80::Pop(pair) => one("pop", Register(pair)),
+        _ => unreachable!(),
+    }
+}
+
+/// Exchanges, and the instructions that go on over a block.
+fn exchanges(op: Op80) -> Syntax80
+    requires { groups.IsExchange op }
+    ensures { (at : ℕ) → shown80 result ≡ rows.row_of op at }
+{
+    match op {
         Op80::ExchangeDeHl => two("ex", Register(Pair::De), Register(Pair::Hl)),
         Op80::ExchangeAf => two("ex", Register(Pair::Af), OtherAf),
         Op80::ExchangeAll => none("exx"),
         Op80::ExchangeStack(index) => two("ex", AtRegister(Pair::Sp), Register(register(index))),
         Op80::BlockLoad(steps) => none(block_load(steps)),
         Op80::BlockCompare(steps) => none(block_compare(steps)),
+        Op80::BlockInput(steps) => none(block_input(steps)),
+        Op80::BlockOutput(steps) => none(block_output(steps)),
+        _ => unreachable!(),
+    }
+}
+
+/// Operations on bytes and on pairs.
+fn sums(op: Op80) -> Syntax80
+    requires { groups.IsSum op }
+    ensures { (at : ℕ) → shown80 result ≡ rows.row_of op at }
+{
+    match op {
         Op80::Arithmetic(task, source) => arithmetic(task, source),
         Op80::Step(task, place) => one(task_name(task), Place(place)),
         Op80::Accumulator(task) => none(task_name(task)),
         Op80::Negate => none("neg"),
-        Op80::Nop => none("nop"),
-        Op80::Halt => none("halt"),
-        Op80::DisableInterrupts => none("di"),
-        Op80::EnableInterrupts => none("ei"),
-        Op80::SetInterruptMode(mode) => one("im", Mode(mode)),
         Op80::AddPair(index, pair) => two("add", Register(register(index)), Register(pair)),
         Op80::AddPairWithCarry(pair) => two("adc", Register(Pair::Hl), Register(pair)),
         Op80::SubtractPairWithCarry(pair) => two("sbc", Register(Pair::Hl), Register(pair)),
@@ -118,6 +137,16 @@ pub(crate) fn row_of(op: Op80, at: u16) -> Syntax80
         Op80::TestBit(bit, place) => two("bit", Bit(bit), Place(place)),
         Op80::RotateDigitsLeft => none("rld"),
         Op80::RotateDigitsRight => none("rrd"),
+        _ => unreachable!(),
+    }
+}
+
+/// Jumps, calls and returns, at an address.
+fn jumps(op: Op80, at: u16) -> Syntax80
+    requires { groups.IsJump op }
+    ensures { shown80 result ≡ rows.row_of op at }
+{
+    match op {
         Op80::Jump(address) => one("jp", Word(address)),
         Op80::JumpIf(condition, address) => two("jp", Condition(condition), Word(address)),
         Op80::JumpRelative(distance) => one("jr", Word(target(at, distance))),
@@ -135,13 +164,91 @@ pub(crate) fn row_of(op: Op80, at: u16) -> Syntax80
         Op80::ReturnFromInterrupt => none("reti"),
         Op80::ReturnFromNonMaskable => none("retn"),
         Op80::Restart(address) => one("rst", Byte(address)),
+        _ => unreachable!(),
+    }
+}
+
+/// Instructions on the processor and on ports, and what is no instruction.
+fn control(op: Op80) -> Syntax80
+    requires { groups.IsControl op }
+    ensures { (at : ℕ) → shown80 result ≡ rows.row_of op at }
+{
+    match op {
+        Op80::Nop => none("nop"),
+        Op80::Halt => none("halt"),
+        Op80::DisableInterrupts => none("di"),
+        Op80::EnableInterrupts => none("ei"),
+        Op80::SetInterruptMode(mode) => one("im", Mode(mode)),
         Op80::InputAtNumber(port) => two("in", Place(Place8::A), Port(port)),
         Op80::Input(place) => two("in", Place(place), PortC),
-        Op80::BlockInput(steps) => none(block_input(steps)),
         Op80::OutputAtNumber(port) => two("out", Port(port), Place(Place8::A)),
         Op80::Output(place) => two("out", PortC, Place(place)),
-        Op80::BlockOutput(steps) => none(block_output(steps)),
         Op80::LonePrefix(index) => one("db", lone_prefix(index)),
         Op80::Undefined(opcode) => two("db", Byte(0xed), Byte(opcode)),
+        _ => unreachable!(),
+    }
+}
+
+/// The name and the operands of an instruction at an address.
+pub(crate) fn row_of(op: Op80, at: u16) -> Syntax80
+    ensures { shown80 result ≡ rows.row_of op at }
+{
+    match op {
+        Op80::Load(..)
+        | Op80::LoadFromSpecial(..)
+        | Op80::LoadToSpecial(..)
+        | Op80::LoadPair(..)
+        | Op80::LoadIndex(..)
+        | Op80::LoadPairExtended(..)
+        | Op80::StoreIndex(..)
+        | Op80::StorePairExtended(..)
+        | Op80::LoadStackPointer(..)
+        | Op80::Push(..)
+        | Op80::Pop(..) => loads(op),
+        Op80::ExchangeDeHl
+        | Op80::ExchangeAf
+        | Op80::ExchangeAll
+        | Op80::ExchangeStack(..)
+        | Op80::BlockLoad(..)
+        | Op80::BlockCompare(..)
+        | Op80::BlockInput(..)
+        | Op80::BlockOutput(..) => exchanges(op),
+        Op80::Arithmetic(..)
+        | Op80::Step(..)
+        | Op80::Accumulator(..)
+        | Op80::Negate
+        | Op80::AddPair(..)
+        | Op80::AddPairWithCarry(..)
+        | Op80::SubtractPairWithCarry(..)
+        | Op80::IncrementPair(..)
+        | Op80::DecrementPair(..)
+        | Op80::Change(..)
+        | Op80::TestBit(..)
+        | Op80::RotateDigitsLeft
+        | Op80::RotateDigitsRight => sums(op),
+        Op80::Jump(..)
+        | Op80::JumpIf(..)
+        | Op80::JumpRelative(..)
+        | Op80::JumpRelativeIf(..)
+        | Op80::JumpIndex(..)
+        | Op80::DecrementAndJump(..)
+        | Op80::Call(..)
+        | Op80::CallIf(..)
+        | Op80::Return
+        | Op80::ReturnIf(..)
+        | Op80::ReturnFromInterrupt
+        | Op80::ReturnFromNonMaskable
+        | Op80::Restart(..) => jumps(op, at),
+        Op80::Nop
+        | Op80::Halt
+        | Op80::DisableInterrupts
+        | Op80::EnableInterrupts
+        | Op80::SetInterruptMode(..)
+        | Op80::InputAtNumber(..)
+        | Op80::Input(..)
+        | Op80::OutputAtNumber(..)
+        | Op80::Output(..)
+        | Op80::LonePrefix(..)
+        | Op80::Undefined(..) => control(op),
     }
 }
