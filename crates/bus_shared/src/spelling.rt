@@ -1,4 +1,4 @@
-ghost use Rattle.std.specs.Prelude.{◌≡◌, ◌≢◌, ◌⊎◌, ◌+◌, ◌≤◌, ◌++◌, ℕ, length, is_some, option_map, vec_len, vec_capacity, IfOk, IfSome, IsErrOf, Ok, Err, Some};
+ghost use Rattle.std.specs.Prelude.{◌≡◌, ◌≢◌, ◌⊎◌, ◌+◌, ◌≤◌, ◌++◌, ℕ, true, length, is_some, option_map, vec_len, vec_capacity, IfOk, IfSome, IsErrOf, Ok, Err, Some};
 ghost use Rattle.md_word.specs.Coding.{flag_number};
 ghost use Rattle.z80_parcel.specs.Parcels.{IsStore, store_of};
 ghost use Rattle.psg_sound.specs.Port.{IsPort};
