@@ -26,15 +26,6 @@ expected_after-requires-clause-known g c =
 pub same_frames-right-requires-clause-shorter : goal.same_frames-right-requires-clause-shorter
 same_frames-right-requires-clause-shorter g c =
     let inputs = c.self.inside.inputs in
-    let run = c.self.inside.images in
-    let expected = c.in_ok-expected.expected.items in
-    let right = c.same_frames-right.result in
-    let was = c.self.invariant.0 in
-    let many : length c.played-played.result.now ≡ length run.played = ap length c.played-played.ensures in
-    let found = found-by inputs run.played expected c.played-played.result.now c.as_slice.result.now (length c.played-played.result.now) right
-    many c.in_ok-expected.ensures c.played-played.ensures c.as_slice.ensures.value
-    c.same_frames-right.ensures.within c.same_frames-right.ensures.same c.same_frames-right.ensures.differs in
-    let long = expected-long run c.self.inside.window inputs expected c.self.inside.machine right was c.self.invariant.1 found in
     omega (arith, ap length (c.as_slice.ensures.value ∙ c.in_ok-expected.ensures), frames-long inputs.local inputs.remote (length c.played-played.result.now + 1))
 
 pub same_frames-right-requires-clause-known : goal.same_frames-right-requires-clause-known
