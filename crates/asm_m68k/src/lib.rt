@@ -12,6 +12,7 @@ mod first;
 mod form;
 mod form_values;
 mod mnemonic;
+mod opcode;
 mod reader;
 mod reading;
 pub mod reading_laws;
