@@ -1,11 +1,11 @@
 use chip_core::Event;
-use row_lines::{RowError, push};
+use row_lines::{RowError, parted, push, readable};
 use std::alloc::{AllocError, Global};
 
 /// The event that a text names: `announce 0`, `access 2` or `sample 1`.
 pub(crate) fn event_of(text: &str) -> Result<Event, RowError> {
-    let (kind, chip) = text.split_once(' ').ok_or(RowError::NoSuchLine)?;
-    let chip = chip.parse::<u8>().map_err(|_| RowError::NoSuchLine)?;
+    let (kind, chip) = parted(text, ' ')?;
+    let chip = readable(chip.parse::<u8>())?;
     match kind {
         "announce" => Ok(Event::Announce(chip)),
         "access" => Ok(Event::Perform(chip)),

@@ -4,7 +4,7 @@ use crate::events::{event_of, event_text, events_of};
 use crate::records::{keys_text, record_text};
 use chip_core::{ChipSet, Core, Event};
 use md_word::Entry;
-use row_lines::{RowError, byte, number, place_of};
+use row_lines::{RowError, byte, first_word, number, parted, place_of};
 use std::alloc::{AllocError, Global};
 
 /// The greatest cycle below which a core looks for events.
@@ -52,7 +52,7 @@ fn act<C: ChipSet>(core: &mut Core<C>, event: Event) -> bool
 
 /// A number, and what comes after it.
 fn front_of(text: &str) -> Result<(u64, &str), RowError> {
-    let (front, rest) = text.split_once(' ').unwrap_or((text, ""));
+    let (front, rest) = first_word(text);
     Ok((number(front)?, rest))
 }
 
@@ -63,7 +63,7 @@ fn yes_or_no(alloc: Global, is_so: bool) -> Result<String, RowError> {
 
 /// Whether a chip writes the pins of another.
 fn writes<C: ChipSet>(alloc: Global, text: &str) -> Result<String, RowError> {
-    let (writer, chip) = text.split_once(' ').ok_or(RowError::NoSuchLine)?;
+    let (writer, chip) = parted(text, ' ')?;
     let (writer, chip) = (byte(writer)?, byte(chip)?);
     yes_or_no(alloc, C::writes(writer, chip))
 }
@@ -97,7 +97,7 @@ impl<C: ChipSet> CoreFixture<C> {
     /// the last events, and `journal K` one of them. `writes I J` is whether a chip writes another's pins, and
     /// `count` the number of chips. It fails where the text is no such question, or when memory is out.
     pub fn ask(&mut self, alloc: Global, asked: &str) -> Result<String, RowError> {
-        let (verb, rest) = asked.split_once(' ').unwrap_or((asked, ""));
+        let (verb, rest) = first_word(asked);
         match verb {
             "events" => self.happen(alloc, rest),
             "do" => self.make_one(alloc, rest),

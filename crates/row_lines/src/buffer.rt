@@ -2,6 +2,7 @@ use crate::answer::Answer;
 use crate::kinds::arguments;
 use crate::piece::{compared, pieces};
 use crate::row_error::RowError;
+use crate::words::first_word;
 use std::alloc::Global;
 
 /// Bytes that a row makes, as those of a saved state or of a picture, and those that it holds aside.
@@ -82,7 +83,7 @@ impl Buffer {
     /// The cycle of a state, whose bytes are made of what follows it, if anything does.
     /// `NoSuchLine` where the text is none.
     pub fn cycle_of(&mut self, alloc: Global, rest: &str) -> Result<u32, RowError> {
-        let (cycle, bytes) = rest.split_once(' ').unwrap_or((rest, ""));
+        let (cycle, bytes) = first_word(rest);
         if !bytes.is_empty() {
             self.make(alloc, bytes)?;
         }

@@ -11,14 +11,16 @@ mod piece;
 mod repeat;
 mod row_error;
 mod tally;
+mod words;
 
 pub use answer::Answer;
 pub use buffer::Buffer;
 pub use fixture::{Fixture, take_files};
 pub use kinds::arguments;
 pub use line::{Line, is_wanted, line_of};
-pub use numbers::{byte, bytes, hexadecimal, long, number, word};
+pub use numbers::{byte, bytes, hexadecimal, long, number, readable, word};
 pub use piece::{compared, pieces, put};
 pub use repeat::{place_of, push, repeated, repeats};
 pub use row_error::RowError;
 pub use tally::Tally;
+pub use words::{first_word, parted};

@@ -1,6 +1,7 @@
-use crate::numbers::number;
+use crate::numbers::{number, readable};
 use crate::repeat::repeats;
 use crate::row_error::RowError;
+use crate::words::{first_word, parted};
 use std::alloc::Global;
 
 /// More bytes than this are none of the language.
@@ -8,7 +9,7 @@ const MOST: u64 = 0x100_0000;
 
 /// Puts bytes over those from a place on.
 fn put_bytes(into: &mut [u8], place: u64, values: &[u8]) -> Result<(), RowError> {
-    let place = usize::try_from(place).map_err(|_| RowError::NoSuchLine)?;
+    let place = readable(usize::try_from(place))?;
     let rest = into.get_mut(place..).ok_or(RowError::NoSuchLine)?;
     let part = rest.get_mut(..values.len()).ok_or(RowError::NoSuchLine)?;
     part.copy_from_slice(values);
@@ -24,14 +25,14 @@ pub fn put(alloc: Global, into: &mut [u8], place: u64, text: &str) -> Result<(),
 
 /// Puts a piece.
 fn put_piece(alloc: Global, into: &mut [u8], piece: &str) -> Result<(), RowError> {
-    let (place, text) = piece.split_once(':').ok_or(RowError::NoSuchLine)?;
+    let (place, text) = parted(piece, ':')?;
     put(alloc, into, number(place)?, text)
 }
 
 /// The bytes `LENGTH PLACE:BYTES ..`, or with `N*BYTES` for a piece: so many, of 0 where no piece is; a later piece
 /// overwrites an earlier one. `NoSuchLine` where the text is none, or the length is above 16 MiB.
 pub fn pieces(alloc: Global, text: &str) -> Result<Vec<u8>, RowError> {
-    let (length, places) = text.split_once(' ').unwrap_or((text, ""));
+    let (length, places) = first_word(text);
     let length = number(length)?;
     if length > MOST {
         return Err(RowError::NoSuchLine);

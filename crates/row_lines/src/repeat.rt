@@ -1,11 +1,11 @@
-use crate::numbers::{bytes, number};
+use crate::numbers::{bytes, number, readable};
 use crate::piece::compared;
 use crate::row_error::RowError;
 use std::alloc::{AllocError, Global};
 
 /// A number that places something in a list; `NoSuchLine` where the text is none.
 pub fn place_of(text: &str) -> Result<usize, RowError> {
-    usize::try_from(number(text)?).map_err(|_| RowError::NoSuchLine)
+    readable(usize::try_from(number(text)?))
 }
 
 /// Appends an item to those of a list. It fails where there is no memory for it.

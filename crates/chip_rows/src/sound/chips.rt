@@ -4,7 +4,7 @@ use fm_port::{FmList, FmPort};
 use md_word::Key;
 use md_word::clock::BATCH;
 use psg_sound::{PsgList, PsgPort, PsgSynth};
-use row_lines::{RowError, byte, number};
+use row_lines::{RowError, byte, number, parted};
 use std::alloc::{AllocError, Global};
 use std::fmt::Write;
 
@@ -78,8 +78,8 @@ impl Sound {
 
     /// Writes bytes to the PSG: `CYCLE PROCESSOR BYTE..`.
     pub fn write_psg(&mut self, words: &str) -> Result<(), RowError> {
-        let (cycle, words) = words.split_once(' ').ok_or(RowError::NoSuchLine)?;
-        let (chip, bytes) = words.split_once(' ').ok_or(RowError::NoSuchLine)?;
+        let (cycle, words) = parted(words, ' ')?;
+        let (chip, bytes) = parted(words, ' ')?;
         let key = key_of(number(cycle)?, chip)?;
         for value in bytes.split(' ') {
             self.write_psg_byte(key, byte(value)?)?;
@@ -97,8 +97,8 @@ impl Sound {
 
     /// Writes bytes to the FM chip: `CYCLE PROCESSOR ADDRESS=BYTE..`, or the same at each cycle `FROM..TO`.
     pub fn write_fm(&mut self, words: &str) -> Result<(), RowError> {
-        let (cycles, words) = words.split_once(' ').ok_or(RowError::NoSuchLine)?;
-        let (chip, writes) = words.split_once(' ').ok_or(RowError::NoSuchLine)?;
+        let (cycles, words) = parted(words, ' ')?;
+        let (chip, writes) = parted(words, ' ')?;
         let (from, to) = cycles.split_once("..").unwrap_or((cycles, cycles));
         for cycle in number(from)?..=number(to)? {
             let key = key_of(cycle, chip)?;
@@ -110,7 +110,7 @@ impl Sound {
     }
 
     fn write_fm_byte(&mut self, key: Key, write: &str) -> Result<(), RowError> {
-        let (address, value) = write.split_once('=').ok_or(RowError::NoSuchLine)?;
+        let (address, value) = parted(write, '=')?;
         let (address, value) = (byte(address)?, byte(value)?);
         if address > 3 || key.chip > 1 || key.cycle > FAR {
             return Err(RowError::NoSuchLine);

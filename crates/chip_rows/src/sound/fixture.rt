@@ -1,7 +1,7 @@
 use crate::sound::chips::Sound;
 use crate::sound::vgm::{body, head, play};
 use crate::sound::voices::{key, mixed, phase_step, sample, tick, voice};
-use row_lines::{Fixture, RowError};
+use row_lines::{Fixture, RowError, first_word};
 
 impl Fixture for Sound {
     fn begin(&mut self) -> Result<(), RowError> {
@@ -11,7 +11,7 @@ impl Fixture for Sound {
     }
 
     fn obey(&mut self, line: &str) -> Result<(), RowError> {
-        let (verb, words) = line.split_once(' ').unwrap_or((line, ""));
+        let (verb, words) = first_word(line);
         match verb {
             "psg" => self.write_psg(words),
             "fm" => self.write_fm(words),
@@ -23,7 +23,7 @@ impl Fixture for Sound {
     }
 
     fn answer(&mut self, asked: &str, wanted: &str) -> Result<String, RowError> {
-        let (verb, words) = asked.split_once(' ').unwrap_or((asked, ""));
+        let (verb, words) = first_word(asked);
         match verb {
             "wave" => sample(self.alloc, words),
             "step" => phase_step(self.alloc, words),

@@ -4,11 +4,11 @@ use fm_chip::FmSynth;
 use fm_port::{FmPort, PORT_SIZE};
 use md_word::Unspell;
 use psg_sound::{PsgPort, PsgSynth};
-use row_lines::{RowError, compared, number, pieces};
+use row_lines::{RowError, compared, number, parted, pieces};
 
 /// A chip, and a cycle.
 fn chip_and_cycle(words: &str) -> Result<(&str, u64), RowError> {
-    let (chip, cycle) = words.split_once(' ').ok_or(RowError::NoSuchLine)?;
+    let (chip, cycle) = parted(words, ' ')?;
     Ok((chip, number(cycle)?))
 }
 
@@ -71,8 +71,8 @@ impl Sound {
 
     /// The same of the bytes of a line.
     pub fn state(&mut self, words: &str) -> Result<String, RowError> {
-        let (chip, words) = words.split_once(' ').ok_or(RowError::NoSuchLine)?;
-        let (at, text) = words.split_once(' ').ok_or(RowError::NoSuchLine)?;
+        let (chip, words) = parted(words, ' ')?;
+        let (at, text) = parted(words, ' ')?;
         let bytes = pieces(self.alloc, text)?;
         self.read_again(chip, &bytes, number(at)?)
     }

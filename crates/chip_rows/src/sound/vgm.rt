@@ -2,7 +2,7 @@
 use md_files::put_entry;
 use md_vgm::{VgmFault, from_journal};
 use md_word::{Entry, Key};
-use row_lines::{RowError, byte, bytes, long, number, word};
+use row_lines::{RowError, byte, bytes, first_word, long, number, parted, word};
 use std::alloc::Global;
 
 /// The longest journal or file.
@@ -12,16 +12,12 @@ const MOST: usize = 67_108_864;
 static HEAD: [u8; 64] =
     *b"Vgm \0\0\0\0\x50\x01\0\0\0\0\0\0\0\0\0\0\0\0\0\0\0\0\0\0\0\0\0\0\0\0\0\0\0\0\0\0\0\0\0\0\0\0\0\0\0\0\0\0\x0c\0\0\0\0\0\0\0\0\0\0\0";
 
-fn cut(text: &str) -> Result<(&str, &str), RowError> {
-    text.split_once(':').ok_or(RowError::NoSuchLine)
-}
-
 /// The entry `CYCLE:CHIP:KIND:ADDRESS:VALUE`.
 fn entry_of(text: &str) -> Result<Entry, RowError> {
-    let (cycle, rest) = cut(text)?;
-    let (chip, rest) = cut(rest)?;
-    let (kind, rest) = cut(rest)?;
-    let (address, value) = cut(rest)?;
+    let (cycle, rest) = parted(text, ':')?;
+    let (chip, rest) = parted(rest, ':')?;
+    let (kind, rest) = parted(rest, ':')?;
+    let (address, value) = parted(rest, ':')?;
     Ok(Entry {
         key: Key {
             cycle: number(cycle)?,
@@ -53,7 +49,7 @@ fn append_bytes(alloc: Global, into: &mut Vec<u8>, text: &str) -> Result<(), Row
 /// Whether it is PAL, and the bytes of entries, of bytes and of the word `head`.
 fn build(alloc: Global, words: &str) -> Result<(bool, Vec<u8>), RowError> {
     let mut built = Vec::new(alloc);
-    let (region, words) = words.split_once(' ').unwrap_or((words, ""));
+    let (region, words) = first_word(words);
     for word in words.split_whitespace() {
         if word == "head" {
             built.extend_from_slice(&HEAD)?;

@@ -4,7 +4,7 @@ ghost use Rattle.std.specs.Prelude.{◌<◌, IfOk};
 use fm_env::{Envelope, EnvelopeState};
 use fm_voice::{channel, step_of, wave};
 use md_files::mix;
-use row_lines::RowError;
+use row_lines::{RowError, parted, readable};
 use std::alloc::Global;
 use std::fmt::Write;
 
@@ -14,7 +14,7 @@ fn numbers<const N: usize>(words: &str) -> Result<[i32; N], RowError> {
     let mut rest = words.split(' ');
     for value in values.iter_mut() {
         let word = rest.next().ok_or(RowError::NoSuchLine)?;
-        *value = word.parse::<i32>().map_err(|_| RowError::NoSuchLine)?;
+        *value = readable(word.parse::<i32>())?;
     }
     match rest.next() {
         None => Ok(values),
@@ -89,7 +89,7 @@ fn name_of(state: EnvelopeState) -> &'static str {
 /// The attenuation after each of four ticks, and the state: the state before them, the attenuation, the rate, the
 /// level at which decay ends, and four counters.
 pub fn tick(alloc: Global, words: &str) -> Result<String, RowError> {
-    let (state, words) = words.split_once(' ').ok_or(RowError::NoSuchLine)?;
+    let (state, words) = parted(words, ' ')?;
     let [v, rate, level, one, two, three, four] = numbers::<7>(words)?;
     let mut envelope = Envelope {
         v: below(v, 1024)? as u16,

@@ -1,6 +1,6 @@
 // The ports, and what is in progress.
 use crate::vdp::video::Video;
-use row_lines::{Answer, RowError, arguments, byte, word};
+use row_lines::{Answer, RowError, arguments, byte, parted, word};
 use vdp_dma::{busy, settle, transfer_word};
 
 /// A cycle.
@@ -26,7 +26,7 @@ impl Video {
         rest: &str,
         answer: &mut Answer,
     ) -> Result<(), RowError> {
-        let (cycle, words) = rest.split_once(' ').ok_or(RowError::NoSuchLine)?;
+        let (cycle, words) = parted(rest, ' ')?;
         let cycle = cycle_of(cycle)?;
         let mut started = None;
         for text in words.split_whitespace() {
@@ -37,7 +37,7 @@ impl Video {
 
     /// Words at the data port at a cycle.
     pub(crate) fn write_data(&mut self, rest: &str) -> Result<(), RowError> {
-        let (cycle, words) = rest.split_once(' ').ok_or(RowError::NoSuchLine)?;
+        let (cycle, words) = parted(rest, ' ')?;
         let cycle = cycle_of(cycle)?;
         for text in words.split_whitespace() {
             self.vdp.data_write(u64::from(cycle), word(text)?);

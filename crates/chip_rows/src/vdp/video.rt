@@ -1,4 +1,4 @@
-use row_lines::{Answer, Buffer, Fixture, RowError, arguments};
+use row_lines::{Answer, Buffer, Fixture, RowError, arguments, first_word};
 use std::alloc::{AllocError, Global};
 use vdp_ahead::LineBuffer;
 use vdp_chip::ChipVdp;
@@ -60,7 +60,7 @@ impl Video {
     /// Carries out a line, and puts the answer together that it asks for.
     fn carry_out(&mut self, said: &str, answer: &mut Answer) -> Result<(), RowError> {
         let alloc = self.alloc;
-        let (verb, rest) = said.split_once(' ').unwrap_or((said, ""));
+        let (verb, rest) = first_word(said);
         if verb.contains("=") {
             return self.set_all(said);
         }

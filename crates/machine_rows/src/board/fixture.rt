@@ -1,7 +1,7 @@
 use bus_shared::{Shared, pins68, pins80};
 use md_pads::Recording;
 use md_word::{Entry, Key, Parcel};
-use row_lines::{Answer, Buffer, Fixture, RowError, arguments, bytes};
+use row_lines::{Answer, Buffer, Fixture, RowError, arguments, bytes, first_word};
 use std::alloc::{AllocError, Global};
 use std::sync::Arc;
 use vdp_ahead::LineBuffer;
@@ -112,7 +112,7 @@ impl Board {
     /// Carries out a line, and puts the answer together that it asks for.
     fn carry_out(&mut self, said: &str, answer: &mut Answer) -> Result<(), RowError> {
         let alloc = self.alloc;
-        let (verb, rest) = said.split_once(' ').unwrap_or((said, ""));
+        let (verb, rest) = first_word(said);
         match verb {
             "ntsc" => self.restart(alloc, false, rest),
             "pal" => self.restart(alloc, true, rest),

@@ -2,7 +2,7 @@
 use crate::board::fixture::Board;
 use bus_shared::{Request, carry_out};
 use md_word::{Answer68, Answer80, Key, Parcel, Request68, Request80};
-use row_lines::{Answer, RowError, arguments, byte, long, word};
+use row_lines::{Answer, RowError, arguments, byte, long, parted, word};
 use std::alloc::Global;
 use z80_parcel::first;
 
@@ -125,7 +125,7 @@ impl Board {
         if let Some(address) = text.strip_prefix("r:") {
             return Ok(Request80::Read(word(address)?));
         }
-        let (place, value) = text.split_once('=').ok_or(RowError::NoSuchLine)?;
+        let (place, value) = parted(text, '=')?;
         let address = place.strip_prefix("w:").ok_or(RowError::NoSuchLine)?;
         Ok(Request80::Write(word(address)?, byte(value)?))
     }

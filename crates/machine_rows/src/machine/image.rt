@@ -1,5 +1,5 @@
 use rom_header::Cart;
-use row_lines::{RowError, bytes, hexadecimal};
+use row_lines::{RowError, bytes, hexadecimal, parted, readable};
 use std::alloc::{AllocError, Global};
 use std::sync::Arc;
 
@@ -18,8 +18,8 @@ pub(crate) fn put(image: &mut Vec<u8>, place: usize, piece: &[u8]) -> Result<(),
 
 /// Writes bytes at the offset that a text says, `OFFSET BYTES`, both in hexadecimal; answers the offset.
 pub(crate) fn put_text(alloc: Global, image: &mut Vec<u8>, text: &str) -> Result<usize, RowError> {
-    let (place, piece) = text.split_once(' ').ok_or(RowError::NoSuchLine)?;
-    let place = usize::try_from(hexadecimal(place)?).map_err(|_| RowError::NoSuchLine)?;
+    let (place, piece) = parted(text, ' ')?;
+    let place = readable(usize::try_from(hexadecimal(place)?))?;
     put(image, place, &bytes(alloc, piece)?)?;
     Ok(place)
 }

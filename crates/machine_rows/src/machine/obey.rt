@@ -2,7 +2,7 @@ use crate::machine::made::sounding;
 use crate::machine::records::{count, entry, reported, words_read};
 use crate::machine::state::State;
 use core_rows::{chip_of, line_of_five, run_by_least_key, run_by_workers};
-use row_lines::{RowError, hexadecimal, place_of, repeated};
+use row_lines::{RowError, first_word, hexadecimal, parted, place_of, readable, repeated};
 use std::alloc::{AllocError, Global};
 use std::sync::Wait;
 use std::thread::Threads;
@@ -14,7 +14,7 @@ pub(crate) fn obey<R: Threads + Wait + Sync>(
     state: &mut State,
     step: &str,
 ) -> Result<(), RowError> {
-    let (verb, rest) = step.split_once(' ').unwrap_or((step, ""));
+    let (verb, rest) = first_word(step);
     match verb {
         "cart" => state.set_cart(alloc, rest),
         "put" => state.put(alloc, rest),
@@ -48,7 +48,7 @@ fn run_five<R: Threads + Wait + Sync>(
     state: &mut State,
     how: &str,
 ) -> Result<(), RowError> {
-    let workers = how.parse::<u32>().map_err(|_| RowError::NoSuchLine)?;
+    let workers = readable(how.parse::<u32>())?;
     if workers < 1 || workers > 5 {
         return Err(RowError::NoSuchLine);
     }
@@ -63,7 +63,7 @@ pub(crate) fn answer<R: Threads + Wait + Sync>(
     asked: &str,
     wanted: &str,
 ) -> Result<String, RowError> {
-    let (verb, rest) = asked.split_once(' ').unwrap_or((asked, ""));
+    let (verb, rest) = first_word(asked);
     match verb {
         "entries" => count(alloc, &state.made.entries, rest),
         "entry" => entry(alloc, &state.made.entries, rest),
@@ -84,7 +84,7 @@ fn answer_of_machine(
     asked: &str,
     wanted: &str,
 ) -> Result<String, RowError> {
-    let (verb, rest) = asked.split_once(' ').unwrap_or((asked, ""));
+    let (verb, rest) = first_word(asked);
     match verb {
         "ram" => ram(alloc, state, rest, wanted),
         "at" => Ok(format!(in alloc; "{}", state.machine()?.at())?),
@@ -100,7 +100,7 @@ fn answer_of_core(alloc: Global, state: &mut State, asked: &str) -> Result<Strin
     if state.chips.is_begun() {
         return state.chips.ask(alloc, asked);
     }
-    match asked.split_once(' ').unwrap_or((asked, "")) {
+    match first_word(asked) {
         ("line", _) => line_of_five(alloc, state.five.core()?),
         ("chip", number) => chip_of(alloc, state.five.core()?, number),
         _ => state.five.ask(alloc, asked),
@@ -142,7 +142,7 @@ fn frame(alloc: Global, frame: &[u8], wanted: &str) -> Result<String, RowError> 
 
 /// So many bytes of work RAM from an address on.
 fn ram(alloc: Global, state: &State, asked: &str, wanted: &str) -> Result<String, RowError> {
-    let (address, count) = asked.split_once(' ').ok_or(RowError::NoSuchLine)?;
+    let (address, count) = parted(asked, ' ')?;
     let place = (hexadecimal(address)? % 0x1_0000) as usize;
     let ram = state.machine()?.main_chip().ram();
     let rest = ram.get(place..).ok_or(RowError::NoSuchName)?;

@@ -1,6 +1,6 @@
 use core_rows::record_text;
 use md_word::{Entry, Key};
-use row_lines::{RowError, hexadecimal, number, place_of, push};
+use row_lines::{RowError, first_word, hexadecimal, number, place_of, push};
 use std::alloc::Global;
 
 /// The entry of a record of 16 bytes.
@@ -95,7 +95,7 @@ pub(crate) fn count(alloc: Global, records: &[u8], pattern: &str) -> Result<Stri
 
 /// The record of a number among those that are like a pattern, of `NUMBER PATTERN`.
 pub(crate) fn entry(alloc: Global, records: &[u8], asked: &str) -> Result<String, RowError> {
-    let (number, pattern) = asked.split_once(' ').unwrap_or((asked, ""));
+    let (number, pattern) = first_word(asked);
     let found = find(alloc, records, pattern)?;
     match found.get(place_of(number)?) {
         Some(entry) => Ok(record_text(alloc, entry)?),

@@ -4,7 +4,7 @@ use crate::machine::runs::{is_made_by, power_on, recording_of, run_to};
 use core_rows::CoreFixture;
 use core_rows::five::{self, Five};
 use md_machine::{Machine, MdChips, first_core};
-use row_lines::{RowError, bytes, number};
+use row_lines::{RowError, bytes, number, readable};
 use std::alloc::Global;
 use std::sync::Wait;
 use std::thread::Threads;
@@ -23,7 +23,7 @@ pub(crate) struct State {
 
 /// A cycle of a machine.
 fn cycle_of(text: &str) -> Result<u32, RowError> {
-    u32::try_from(number(text)?).map_err(|_| RowError::NoSuchLine)
+    readable(u32::try_from(number(text)?))
 }
 
 impl State {

@@ -1,6 +1,6 @@
 use m68k_alu::{Quotient, compute, divide};
 use md_word::{Flags, Size, Task};
-use row_lines::{RowError, long, word};
+use row_lines::{RowError, long, parted, readable, word};
 use std::alloc::{AllocError, Global};
 
 static TASKS: [(&str, Task); 33] = [
@@ -50,7 +50,7 @@ fn task_of(name: &str) -> Result<Task, RowError> {
 
 /// The condition codes as the status register has them: X, N, Z, V, C.
 fn codes(text: &str) -> Result<Flags, RowError> {
-    let bits = u8::from_str_radix(text, 2).map_err(|_| RowError::NoSuchLine)?;
+    let bits = readable(u8::from_str_radix(text, 2))?;
     if bits > 0b11111 {
         return Err(RowError::NoSuchLine);
     }
@@ -71,8 +71,8 @@ fn codes_reported(alloc: Global, flags: Flags) -> Result<String, AllocError> {
 /// The result of an operation, and its condition codes.
 pub fn computed(alloc: Global, name: &str, size: Size, rest: &str) -> Result<String, RowError> {
     let task = task_of(name)?;
-    let (source, rest) = rest.split_once(' ').ok_or(RowError::NoSuchLine)?;
-    let (target, before) = rest.split_once(' ').ok_or(RowError::NoSuchLine)?;
+    let (source, rest) = parted(rest, ' ')?;
+    let (target, before) = parted(rest, ' ')?;
     let source = long(source)?;
     let target = long(target)?;
     let most = size.modulus();
@@ -86,7 +86,7 @@ pub fn computed(alloc: Global, name: &str, size: Size, rest: &str) -> Result<Str
 
 /// What a division by a word gives: the remainder and the quotient, or that it is by 0 or overflows.
 pub fn divided(alloc: Global, signed: bool, rest: &str) -> Result<String, RowError> {
-    let (source, target) = rest.split_once(' ').ok_or(RowError::NoSuchLine)?;
+    let (source, target) = parted(rest, ' ')?;
     match divide(signed, word(source)?, long(target)?) {
         Quotient::Value(value) => Ok(format!(in alloc; "{value:08X}")?),
         Quotient::Zero => Ok(String::from_str(alloc, "by zero")?),
@@ -96,7 +96,7 @@ pub fn divided(alloc: Global, signed: bool, rest: &str) -> Result<String, RowErr
 
 /// The condition codes after a division that gave this.
 pub fn flags_of(alloc: Global, rest: &str) -> Result<String, RowError> {
-    let (gave, before) = rest.split_once(' ').ok_or(RowError::NoSuchLine)?;
+    let (gave, before) = parted(rest, ' ')?;
     let quotient = match gave {
         "zero" => Quotient::Zero,
         "overflow" => Quotient::Overflow,

@@ -1,6 +1,6 @@
 use crate::m68k::registers::set;
 use md_word::{Regs, Spent};
-use row_lines::{RowError, long, word};
+use row_lines::{RowError, long, readable, word};
 
 /// What a question says: the words of an instruction, the registers, and what is beside them.
 #[derive(Clone, Copy)]
@@ -17,7 +17,7 @@ pub struct Asked {
 }
 
 fn low_byte(value: u32) -> Result<u8, RowError> {
-    u8::try_from(value).map_err(|_| RowError::NoSuchLine)
+    readable(u8::try_from(value))
 }
 
 impl Asked {

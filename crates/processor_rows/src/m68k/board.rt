@@ -6,7 +6,7 @@ use crate::m68k::requests::put_access;
 use m68k_chip::{CHIP_SIZE, Chip68};
 use md_word::{Request68, Unspell};
 use rom_header::Cart;
-use row_lines::{RowError, hexadecimal, number, word};
+use row_lines::{RowError, first_word, hexadecimal, number, parted, word};
 use std::alloc::Global;
 use std::sync::Arc;
 
@@ -77,7 +77,7 @@ impl Board {
 
     /// `ahead LEVEL END`
     pub fn ahead(&mut self, alloc: Global, rest: &str) -> Result<String, RowError> {
-        let (level, end) = rest.split_once(' ').ok_or(RowError::NoSuchLine)?;
+        let (level, end) = parted(rest, ' ')?;
         let pins = pins(level)?;
         let end = number(end)?;
         match ahead(self.chip()?, pins, end) {
@@ -120,7 +120,7 @@ impl Board {
 
     /// `ram ADDRESS COUNT`
     pub fn ram(&mut self, alloc: Global, rest: &str) -> Result<String, RowError> {
-        let (at, count) = rest.split_once(' ').ok_or(RowError::NoSuchLine)?;
+        let (at, count) = parted(rest, ' ')?;
         let at = hexadecimal(at)? % 0x1_0000;
         let count = number(count)? % 0x1_0000;
         piece(alloc, self.chip()?.ram(), at as usize, count as usize)
@@ -133,7 +133,7 @@ impl Board {
 
     /// `state CYCLE PLACE COUNT`: bytes that keep the 68000
     pub fn state(&mut self, alloc: Global, rest: &str) -> Result<String, RowError> {
-        let (cycle, rest) = rest.split_once(' ').ok_or(RowError::NoSuchLine)?;
+        let (cycle, rest) = parted(rest, ' ')?;
         let (from, count) = range_of(rest)?;
         let bytes = self.bytes_at(alloc, cycle)?;
         piece(alloc, bytes.as_slice(), from, count)
@@ -179,7 +179,7 @@ impl Board {
 
     /// `read CYCLE CHANGES`: whether the bytes with these changes keep a 68000 at a cycle
     pub fn read(&mut self, alloc: Global, rest: &str) -> Result<String, RowError> {
-        let (cycle, changes) = rest.split_once(' ').unwrap_or((rest, ""));
+        let (cycle, changes) = first_word(rest);
         let mut bytes = self.bytes.as_slice().to_vec(alloc)?;
         change(alloc, &mut bytes, changes)?;
         self.unspell(alloc, bytes.as_slice(), cycle)

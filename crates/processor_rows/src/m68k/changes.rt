@@ -1,4 +1,4 @@
-use row_lines::{RowError, bytes, number};
+use row_lines::{RowError, bytes, number, parted};
 use std::alloc::Global;
 
 /// Puts bytes at a place, where all have room.
@@ -11,7 +11,7 @@ fn put(bytes: &mut [u8], place: usize, values: &[u8]) -> Result<(), RowError> {
 
 /// A place and a length in decimal, in a text.
 pub fn range_of(text: &str) -> Result<(usize, usize), RowError> {
-    let (from, count) = text.split_once(' ').ok_or(RowError::NoSuchLine)?;
+    let (from, count) = parted(text, ' ')?;
     let from = number(from)? % 0x1_0000_0000;
     let count = number(count)? % 0x1_0000_0000;
     Ok((from as usize, count as usize))
@@ -27,7 +27,7 @@ pub fn piece(alloc: Global, bytes: &[u8], from: usize, count: usize) -> Result<S
 /// Carries out changes of bytes: `PLACE:BYTES` puts bytes at a place, and `length:N` cuts or fills with 0.
 pub fn change(alloc: Global, to: &mut Vec<u8>, changes: &str) -> Result<(), RowError> {
     for part in changes.split_whitespace() {
-        let (place, values) = part.split_once(':').ok_or(RowError::NoSuchLine)?;
+        let (place, values) = parted(part, ':')?;
         if place == "length" {
             resize(to, values)?;
         } else {

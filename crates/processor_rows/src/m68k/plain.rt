@@ -10,7 +10,7 @@ use m68k_ea::{Place, place, step, stepped};
 use m68k_except::{Frame, frame};
 use m68k_time::clocks;
 use md_word::{Mode, Regs, Size};
-use row_lines::RowError;
+use row_lines::{RowError, first_word, parted};
 use std::alloc::{AllocError, Global};
 
 /// The answer to a question that concerns no chip.
@@ -20,7 +20,7 @@ pub fn answer_of(
     asked: &str,
     wanted: &str,
 ) -> Result<String, RowError> {
-    let (verb, rest) = asked.split_once(' ').unwrap_or((asked, ""));
+    let (verb, rest) = first_word(asked);
     match verb {
         "clocks" => clocks_of(alloc, regs, rest),
         "decode" => kind_of(alloc, regs, rest),
@@ -128,7 +128,7 @@ fn place_of(alloc: Global, regs: &Regs, size: Size, rest: &str) -> Result<String
 
 /// A register after a step, by both functions.
 fn step_of(alloc: Global, regs: &Regs, size: Size, rest: &str) -> Result<String, RowError> {
-    let (name, rest) = rest.split_once(' ').ok_or(RowError::NoSuchLine)?;
+    let (name, rest) = parted(rest, ' ')?;
     let asked = Asked::of(regs, rest)?;
     let mode = source_of(&asked.words)?;
     let mut moved = asked.regs;

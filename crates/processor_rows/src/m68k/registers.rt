@@ -1,5 +1,5 @@
 use md_word::Regs;
-use row_lines::{RowError, long};
+use row_lines::{RowError, long, parted};
 
 /// The registers where nothing is said of them.
 pub fn registers() -> Regs {
@@ -47,7 +47,7 @@ fn set_numbered(regs: &mut Regs, name: &str, value: u32) -> Result<(), RowError>
 /// Sets each register of a list.
 pub fn set_all(regs: &mut Regs, text: &str) -> Result<(), RowError> {
     for token in text.split_whitespace() {
-        let (name, value) = token.split_once('=').ok_or(RowError::NoSuchLine)?;
+        let (name, value) = parted(token, '=')?;
         set(regs, name, long(value)?)?;
     }
     Ok(())

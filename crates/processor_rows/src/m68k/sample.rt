@@ -4,7 +4,7 @@ use arrayvec::ArrayVec;
 use m68k_exec::{Finish, Progress, Step, go};
 use md_word::{Regs, Request68, Spent};
 use rom_header::Cart;
-use row_lines::{RowError, long, word};
+use row_lines::{RowError, long, parted, word};
 use std::alloc::{AllocError, Global};
 
 /// A sample of the 68000: what is before it, and what came of it.
@@ -66,7 +66,7 @@ impl Sample {
     }
 
     fn take_memory(&mut self, memory: &str) -> Result<(), RowError> {
-        let (at, value) = memory.split_once('=').ok_or(RowError::NoSuchLine)?;
+        let (at, value) = parted(memory, '=')?;
         self.put_word(long(at)?, word(value)?);
         Ok(())
     }

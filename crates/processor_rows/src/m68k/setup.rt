@@ -2,7 +2,7 @@ use crate::m68k::board::Board;
 use crate::m68k::plain::answer_of;
 use crate::m68k::registers::{registers, set_all};
 use md_word::Regs;
-use row_lines::{Fixture, RowError};
+use row_lines::{Fixture, RowError, first_word};
 use std::alloc::Global;
 
 /// What the steps of a row have set up.
@@ -33,7 +33,7 @@ impl Fixture for Setup {
 
     fn obey(&mut self, said: &str) -> Result<(), RowError> {
         let alloc = self.alloc;
-        let (verb, rest) = said.split_once(' ').unwrap_or((said, ""));
+        let (verb, rest) = first_word(said);
         match verb {
             "power-on" => self.board.power_on(alloc, rest),
             "keep" => self.board.keep(alloc, rest),
@@ -44,7 +44,7 @@ impl Fixture for Setup {
 
     fn answer(&mut self, asked: &str, wanted: &str) -> Result<String, RowError> {
         let alloc = self.alloc;
-        let (verb, rest) = asked.split_once(' ').unwrap_or((asked, ""));
+        let (verb, rest) = first_word(asked);
         match verb {
             "sample" => self.board.sample(alloc, rest),
             "ahead" => self.board.ahead(alloc, rest),

@@ -2,7 +2,7 @@ use asm_m68k::words_of;
 use asm_z80::bytes_of;
 use md_asm_text::split;
 use md_disasm::{text68, text80};
-use row_lines::{RowError, long, word};
+use row_lines::{RowError, long, parted, word};
 use std::alloc::{AllocError, Global};
 
 /// An instruction of either processor at an address: its words, or its bytes, and how many of them are given.
@@ -22,8 +22,8 @@ fn low_bytes(values: [u16; 5]) -> [u8; 4] {
 
 /// `PROCESSOR ADDRESS`, and what follows it. It fails where there is none.
 pub fn begun(rest: &str) -> Result<(Coded, &str), RowError> {
-    let (processor, rest) = rest.split_once(' ').ok_or(RowError::NoSuchLine)?;
-    let (at, following) = rest.split_once(' ').ok_or(RowError::NoSuchLine)?;
+    let (processor, rest) = parted(rest, ' ')?;
+    let (at, following) = parted(rest, ' ')?;
     let is_z80 = match processor {
         "68000" => false,
         "Z80" => true,

@@ -1,7 +1,7 @@
 use crate::text::coded::{both, disassembled, encoded};
 use crate::text::ranges::ranged;
 use crate::text::sources::{assembled, fault_of, token};
-use row_lines::{Fixture, RowError};
+use row_lines::{Fixture, RowError, first_word};
 use std::alloc::Global;
 
 /// The image that the last source of a row was assembled to.
@@ -42,7 +42,7 @@ impl Fixture for Setup {
 
     fn answer(&mut self, asked: &str, wanted: &str) -> Result<String, RowError> {
         let alloc = self.alloc;
-        let (verb, rest) = asked.split_once(' ').unwrap_or((asked, ""));
+        let (verb, rest) = first_word(asked);
         match verb {
             "68000" | "Z80" => both(alloc, asked, wanted),
             "disassemble" => disassembled(alloc, rest),

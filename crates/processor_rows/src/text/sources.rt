@@ -1,5 +1,5 @@
 use md_asm::{AsmFault, assemble};
-use row_lines::{RowError, hexadecimal, number};
+use row_lines::{RowError, hexadecimal, number, parted};
 use std::alloc::{AllocError, Global};
 
 /// The byte of a letter after a backslash.
@@ -67,7 +67,7 @@ pub fn fault_of(alloc: Global, fault: (u32, u8)) -> Result<String, RowError> {
 
 /// `PLACE COUNT`: bytes of an image. It fails where it does not have them, or where memory runs out.
 pub fn token(alloc: Global, image: &[u8], rest: &str) -> Result<String, RowError> {
-    let (place, count) = rest.split_once(' ').ok_or(RowError::NoSuchLine)?;
+    let (place, count) = parted(rest, ' ')?;
     let place = hexadecimal(place)? % 0x1_0000_0000;
     let count = number(count)? % 0x1_0000_0000;
     let following = image.get(place as usize..).ok_or(RowError::NoSuchLine)?;

@@ -5,7 +5,7 @@ use crate::z80::fixture::Z80;
 use crate::z80::setting::cartridge;
 use md_word::{Pins80, Request80, Unspell};
 use rom_header::Cart;
-use row_lines::{RowError, compared, number, pieces};
+use row_lines::{RowError, compared, number, parted, pieces};
 use std::alloc::Global;
 use std::sync::Arc;
 use z80_chip::{Chip80, FULL_SIZE};
@@ -97,7 +97,7 @@ fn spelled(alloc: Global, chip: &Chip80, at: u64) -> Result<Vec<u8>, RowError> {
 /// `NoSuchLine` where the words are none.
 pub fn state(fixture: &mut Z80, words: &str) -> Result<String, RowError> {
     let alloc = fixture.alloc;
-    let (at, text) = words.split_once(' ').ok_or(RowError::NoSuchLine)?;
+    let (at, text) = parted(words, ' ')?;
     let at = number(at)?;
     let bytes = pieces(alloc, text)?;
     match Chip80::unspell(alloc, &bytes, at, shared(alloc)?) {

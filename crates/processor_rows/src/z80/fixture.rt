@@ -4,7 +4,7 @@ use crate::z80::memory::{input, reset, store};
 use crate::z80::samples;
 use crate::z80::setting::{Setting, cartridge};
 use rom_header::Cart;
-use row_lines::{Fixture, RowError};
+use row_lines::{Fixture, RowError, first_word};
 use std::alloc::Global;
 use z80_chip::Chip80;
 
@@ -51,7 +51,7 @@ impl Fixture for Z80 {
     }
 
     fn answer(&mut self, asked: &str, wanted: &str) -> Result<String, RowError> {
-        let (verb, words) = asked.split_once(' ').unwrap_or((asked, ""));
+        let (verb, words) = first_word(asked);
         match verb {
             "code" => instruction(self.alloc, words),
             "count" => count(self.alloc, words),

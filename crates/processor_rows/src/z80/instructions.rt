@@ -1,6 +1,6 @@
 // What bytes decode to.
 use md_disasm::text80;
-use row_lines::{RowError, byte, long};
+use row_lines::{RowError, byte, long, parted};
 use std::alloc::Global;
 use z80_decode::decode;
 
@@ -21,7 +21,7 @@ pub fn instruction(alloc: Global, digits: &str) -> Result<String, RowError> {
 /// For how many of the 256 opcodes after a prefix the text begins with these words.
 /// `NoSuchLine` where no prefix is given.
 pub fn count(alloc: Global, words: &str) -> Result<String, RowError> {
-    let (prefix, front) = words.split_once(' ').ok_or(RowError::NoSuchLine)?;
+    let (prefix, front) = parted(words, ' ')?;
     let prefix = byte(prefix)?;
     let mut count = 0u32;
     for opcode in 0..=255u8 {

@@ -2,7 +2,7 @@
 use crate::z80::registers::{registers_of, tell, values_of};
 use crate::z80::setting::Setting;
 use md_word::Parcel;
-use row_lines::{RowError, byte, word};
+use row_lines::{RowError, byte, parted, word};
 use std::alloc::{AllocError, Global};
 use std::fmt::Write;
 use z80_alu::{Task80, compute};
@@ -22,7 +22,7 @@ fn tell_memory(alloc: Global, parcel: &Parcel) -> Result<String, AllocError> {
 
 /// The write `.6000=01`.
 fn write_of(text: &str) -> Result<(u16, u8), RowError> {
-    let (at, value) = text.split_once('=').ok_or(RowError::NoSuchLine)?;
+    let (at, value) = parted(text, '=')?;
     let at = at.strip_prefix('.').ok_or(RowError::NoSuchLine)?;
     Ok((word(at)?, byte(value)?))
 }
@@ -30,7 +30,7 @@ fn write_of(text: &str) -> Result<(u16, u8), RowError> {
 /// RAM and the bank register after writes, each by itself, which follow what is set up.
 /// `NoSuchLine` where a word is none.
 pub fn store(alloc: Global, words: &str) -> Result<String, RowError> {
-    let (before, words) = words.split_once(' ').ok_or(RowError::NoSuchLine)?;
+    let (before, words) = parted(words, ' ')?;
     let mut parcel = Setting::read(alloc, before)?.parcel;
     let mut writes = Vec::new(alloc);
     for text in words.split(' ') {
@@ -53,7 +53,7 @@ pub fn reset(alloc: Global, words: &str) -> Result<String, RowError> {
 /// The byte that IN loads into a register and the flags after it, of the byte and the flags before it.
 /// `NoSuchLine` where a word is none.
 pub fn input(alloc: Global, words: &str) -> Result<String, RowError> {
-    let (value, flags) = words.split_once(' ').ok_or(RowError::NoSuchLine)?;
+    let (value, flags) = parted(words, ' ')?;
     let out = compute(Task80::In, 0xaa, byte(value)?, byte(flags)?);
     Ok(format!(in alloc; "{:02X} {:02X}", out.value, out.f)?)
 }

@@ -4,7 +4,7 @@ use crate::z80::setting::Setting;
 use arrayvec::ArrayVec;
 use md_word::Request80;
 use rom_header::Cart;
-use row_lines::{RowError, byte};
+use row_lines::{RowError, byte, parted};
 use std::alloc::{AllocError, Global};
 use std::fmt::Write;
 use z80_exec::{Finish80, Progress80, Regs80, Step80, go};
@@ -13,7 +13,7 @@ use z80_exec::{Finish80, Progress80, Regs80, Step80, go};
 fn read_in(wanted: &str, number: usize) -> Result<u8, RowError> {
     let mut reads = wanted.split(' ').filter(|word| word.starts_with("r:"));
     let read = reads.nth(number).ok_or(RowError::NoSuchName)?;
-    let (_, value) = read.split_once('=').ok_or(RowError::NoSuchLine)?;
+    let (_, value) = parted(read, '=')?;
     byte(value)
 }
 
