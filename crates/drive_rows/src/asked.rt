@@ -4,7 +4,7 @@ use crate::store::{Store, list_of};
 use crate::words::read;
 use md_outer::{FileDepot, FreeGate, MemDepot, MemSink};
 use md_top::{drive, drive_one};
-use row_lines::RowError;
+use row_lines::{RowError, parted};
 use std::alloc::{AllocError, Global};
 use std::rt::Files;
 use std::sync::Wait;
@@ -103,7 +103,7 @@ fn length(alloc: Global, store: &Store, name: &str) -> Result<String, RowError> 
 
 /// The bytes of a file from a place on; so many of them where as many are there.
 fn bytes_at(alloc: Global, store: &Store, text: &str, count: usize) -> Result<String, RowError> {
-    let (name, from) = text.split_once(' ').ok_or(RowError::NoSuchLine)?;
+    let (name, from) = parted(text, ' ')?;
     let rest = file(store, name)?
         .get(place(from)?..)
         .ok_or(RowError::NoSuchLine)?;

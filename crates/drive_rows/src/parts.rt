@@ -4,7 +4,7 @@ use md_outer::{Depot, FileDepot};
 use md_top::demo_cart;
 use rand_core::utils::NextWord;
 use rand_pcg::Lcg64Xsh32;
-use row_lines::{RowError, bytes, number};
+use row_lines::{RowError, bytes, number, parted, readable};
 use sha2::{Digest, Sha256};
 use std::alloc::{AllocError, Global};
 use std::rt::Files;
@@ -14,12 +14,7 @@ const MOST: u64 = 1 << 24;
 
 /// A number of bytes, or a place among them.
 pub(crate) fn place(text: &str) -> Result<usize, RowError> {
-    usize::try_from(number(text)?).map_err(|_| RowError::NoSuchLine)
-}
-
-/// What stands before and after the first colon.
-fn halves(text: &str) -> Result<(&str, &str), RowError> {
-    text.split_once(':').ok_or(RowError::NoSuchLine)
+    readable(usize::try_from(number(text)?))
 }
 
 /// What a file holds.
@@ -42,13 +37,13 @@ fn write_at(made: &mut Vec<u8>, place: usize, over: &[u8]) -> Result<(), RowErro
 
 /// `at:PLACE:BYTES` writes over what stands at a place.
 fn overwrite(alloc: Global, made: &mut Vec<u8>, text: &str) -> Result<(), RowError> {
-    let (at, over) = halves(text)?;
+    let (at, over) = parted(text, ':')?;
     write_at(made, place(at)?, &bytes(alloc, over)?)
 }
 
 /// `over:PLACE:FILE` does so with what a file holds.
 fn overwrite_by(made: &mut Vec<u8>, store: &Store, text: &str) -> Result<(), RowError> {
-    let (at, name) = halves(text)?;
+    let (at, name) = parted(text, ':')?;
     write_at(made, place(at)?, file(store, name)?)
 }
 
@@ -66,7 +61,7 @@ fn add_again(made: &mut Vec<u8>, piece: &[u8], times: usize) -> Result<(), Alloc
 
 /// Adds `N:BYTES`, bytes N times.
 fn add_times(alloc: Global, made: &mut Vec<u8>, text: &str) -> Result<(), RowError> {
-    let (times, piece) = halves(text)?;
+    let (times, piece) = parted(text, ':')?;
     Ok(add_again(made, &bytes(alloc, piece)?, place(times)?)?)
 }
 
@@ -84,7 +79,7 @@ fn add_text(made: &mut Vec<u8>, text: &str) -> Result<(), AllocError> {
 
 /// Adds `PLACE:FILE`, what stands in a file from a place on.
 fn add_from(made: &mut Vec<u8>, store: &Store, text: &str) -> Result<(), RowError> {
-    let (from, name) = halves(text)?;
+    let (from, name) = parted(text, ':')?;
     let rest = file(store, name)?
         .get(place(from)?..)
         .ok_or(RowError::NoSuchLine)?;
@@ -133,8 +128,8 @@ fn add_words(made: &mut Vec<u8>, words: &mut Lcg64Xsh32, count: usize) -> Result
 
 /// Adds `STATE:STREAM:COUNT`, so many 32-bit words of PCG's generator XSH RR, each its high byte first.
 fn add_random(made: &mut Vec<u8>, text: &str) -> Result<(), RowError> {
-    let (state, rest) = halves(text)?;
-    let (stream, count) = halves(rest)?;
+    let (state, rest) = parted(text, ':')?;
+    let (stream, count) = parted(rest, ':')?;
     let mut words = Lcg64Xsh32::new(number(state)?, number(stream)?);
     Ok(add_words(made, &mut words, place(count)?)?)
 }
@@ -220,7 +215,7 @@ pub(crate) fn build<R: Files + Drop>(
     let mut made = Vec::new(alloc);
     let (parts, text) = parts.split_once("text:").unwrap_or((parts, ""));
     for part in parts.split_whitespace() {
-        let (kind, rest) = halves(part)?;
+        let (kind, rest) = parted(part, ':')?;
         if kind == "data" {
             add_data(alloc, &mut made, folder, rest)?;
         } else {

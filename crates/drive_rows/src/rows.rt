@@ -3,7 +3,7 @@ use crate::asked::ask;
 use crate::parts::build;
 use crate::store::Store;
 use md_outer::FileDepot;
-use row_lines::{Line, RowError, Tally, line_of, number};
+use row_lines::{Line, RowError, Tally, line_of, number, parted};
 use std::alloc::{AllocError, Global};
 use std::io;
 use std::rt::Files;
@@ -21,7 +21,7 @@ pub(crate) struct Running<R: Files + Drop> {
 
 /// Has a fetch, a begin or append, or a print fail.
 fn fail(store: &mut Store, which: &str) -> Result<(), RowError> {
-    let (kind, count) = which.split_once(' ').ok_or(RowError::NoSuchLine)?;
+    let (kind, count) = parted(which, ' ')?;
     let count = Some(number(count)?);
     match kind {
         "fetch" => store.failing[0] = count,
@@ -39,7 +39,7 @@ fn take_file<R: Files + Drop>(
     rest: &str,
 ) -> Result<(), RowError> {
     let alloc = running.alloc;
-    let (name, parts) = rest.split_once(' ').ok_or(RowError::NoSuchLine)?;
+    let (name, parts) = parted(rest, ' ')?;
     let bytes = build(alloc, &mut running.folder, &running.store, parts)?;
     match verb {
         "file" => running.store.give(alloc, name, bytes),
@@ -50,7 +50,7 @@ fn take_file<R: Files + Drop>(
 
 /// Carries out a step that asks nothing.
 fn prepare<R: Files + Drop>(running: &mut Running<R>, step: &str) -> Result<(), RowError> {
-    let (verb, rest) = step.split_once(' ').ok_or(RowError::NoSuchLine)?;
+    let (verb, rest) = parted(step, ' ')?;
     if verb == "fail" {
         return fail(&mut running.store, rest);
     }

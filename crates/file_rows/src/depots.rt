@@ -2,9 +2,9 @@
 ghost use Rattle.std.specs.Prelude.{IsSome, IfOk};
 ghost use Rattle.md_outer.specs.MemDepot.{depot_state_of};
 
-use crate::fixture::{halves, reported, two, yes_or_no};
+use crate::fixture::{reported, yes_or_no};
 use md_outer::{Begin, Depot, Fetch, MemDepot, MemSink, Sink};
-use row_lines::{RowError, bytes, number, push};
+use row_lines::{RowError, bytes, first_word, number, parted, push};
 use std::alloc::{AllocError, Global};
 use std::mem;
 
@@ -23,7 +23,7 @@ pub(crate) struct Stores {
 
 /// What a file holds, or why it is not fetched.
 fn fetch(alloc: Global, depot: &mut MemDepot, text: &str) -> Result<String, RowError> {
-    let (name, limit) = two(text)?;
+    let (name, limit) = parted(text, ' ')?;
     match depot.fetch(alloc, name, number(limit)?) {
         Ok(bytes) => Ok(hex::encode_upper(alloc, &bytes)?),
         Err(Fetch::Failed) => reported(alloc, "failed"),
@@ -60,7 +60,7 @@ fn append(
 
 /// Begins a file and appends pieces, `NAME PIECE ..`: its number, and whether each piece is appended.
 fn write(alloc: Global, depot: &mut MemDepot, text: &str) -> Result<String, RowError> {
-    let (name, pieces) = two(text)?;
+    let (name, pieces) = parted(text, ' ')?;
     let Ok(number) = depot.begin(alloc, name) else {
         return reported(alloc, "failed");
     };
@@ -96,7 +96,7 @@ fn held(alloc: Global, depot: &MemDepot, name: &str) -> Result<String, RowError>
 
 /// What is answered where a store is asked.
 fn answer_of_depot(alloc: Global, depot: &mut MemDepot, text: &str) -> Result<String, RowError> {
-    let (verb, rest) = halves(text);
+    let (verb, rest) = first_word(text);
     match verb {
         "fetch" => fetch(alloc, depot, rest),
         "begin" => begin(alloc, depot, rest),
@@ -108,7 +108,7 @@ fn answer_of_depot(alloc: Global, depot: &mut MemDepot, text: &str) -> Result<St
 
 /// What is answered where a stream is asked: `put PIECE`, and `bytes` for all that was put.
 fn answer_of_sink(alloc: Global, sink: &mut MemSink, text: &str) -> Result<String, RowError> {
-    let (verb, rest) = halves(text);
+    let (verb, rest) = first_word(text);
     match verb {
         "put" => yes_or_no(alloc, sink.put(&bytes(alloc, rest)?).is_ok()),
         "bytes" => Ok(hex::encode_upper(alloc, sink.bytes())?),
@@ -129,7 +129,7 @@ impl Stores {
 
     /// Gives the store a file, `NAME BYTES`.
     fn give(&mut self, alloc: Global, text: &str) -> Result<(), RowError> {
-        let (name, digits) = two(text)?;
+        let (name, digits) = parted(text, ' ')?;
         let values = bytes(alloc, digits)?;
         Ok(self.add(alloc, name, values)?)
     }
@@ -149,7 +149,7 @@ impl Stores {
 
     /// `give NAME BYTES` is a file that the store holds; `fail read N` and `fail write N` have a call fail, from 0.
     pub(crate) fn obey(&mut self, alloc: Global, text: &str) -> Result<(), RowError> {
-        let (verb, rest) = halves(text);
+        let (verb, rest) = first_word(text);
         match verb {
             "give" => self.give(alloc, rest),
             "fail-read" => self.fail_read(rest),

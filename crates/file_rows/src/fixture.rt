@@ -2,7 +2,7 @@ use crate::depots::Stores;
 use crate::pads::Pads;
 use crate::players::Players;
 use crate::{cartridges, kept, lines, replies, rings};
-use row_lines::{Fixture, RowError, bytes, hexadecimal, repeats};
+use row_lines::{Fixture, RowError, bytes, first_word, hexadecimal, parted, readable, repeats};
 use std::alloc::Global;
 
 /// What a row is carried out on.
@@ -14,16 +14,6 @@ pub(crate) struct Parts {
     stores: Stores,
     pads: Pads,
     players: Players,
-}
-
-/// A step or a question: its first word, and what follows it.
-pub(crate) fn halves(text: &str) -> (&str, &str) {
-    text.split_once(' ').unwrap_or((text, ""))
-}
-
-/// Two words or more: the first, and what follows it.
-pub(crate) fn two(text: &str) -> Result<(&str, &str), RowError> {
-    text.split_once(' ').ok_or(RowError::NoSuchLine)
 }
 
 /// A text as an answer.
@@ -38,7 +28,7 @@ pub(crate) fn yes_or_no(alloc: Global, is_so: bool) -> Result<String, RowError> 
 
 /// Puts bytes over those from a place on, which is hexadecimal.
 fn put(into: &mut [u8], place: &str, values: &[u8]) -> Result<(), RowError> {
-    let place = usize::try_from(hexadecimal(place)?).map_err(|_| RowError::NoSuchLine)?;
+    let place = readable(usize::try_from(hexadecimal(place)?))?;
     let rest = into.get_mut(place..).ok_or(RowError::NoSuchLine)?;
     let part = rest.get_mut(..values.len()).ok_or(RowError::NoSuchLine)?;
     part.copy_from_slice(values);
@@ -64,14 +54,14 @@ impl Parts {
 
     /// Bytes of the row's file, and their place in hexadecimal.
     fn write(&mut self, text: &str) -> Result<(), RowError> {
-        let (place, digits) = two(text)?;
+        let (place, digits) = parted(text, ' ')?;
         let values = bytes(self.alloc, digits)?;
         put(&mut self.file, place, &values)
     }
 
     /// The same, of a text.
     fn write_text(&mut self, text: &str) -> Result<(), RowError> {
-        let (place, values) = two(text)?;
+        let (place, values) = parted(text, ' ')?;
         put(&mut self.file, place, values.as_bytes())
     }
 
@@ -116,7 +106,7 @@ impl Fixture for Parts {
 
     fn obey(&mut self, line: &str) -> Result<(), RowError> {
         let alloc = self.alloc;
-        let (verb, rest) = halves(line);
+        let (verb, rest) = first_word(line);
         match verb {
             "file" => self.make_file(rest),
             "write" => self.write(rest),
@@ -128,7 +118,7 @@ impl Fixture for Parts {
     }
 
     fn answer(&mut self, asked: &str, wanted: &str) -> Result<String, RowError> {
-        let (verb, rest) = halves(asked);
+        let (verb, rest) = first_word(asked);
         self.answer_of_part(verb, rest, wanted)
     }
 }

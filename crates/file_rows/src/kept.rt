@@ -1,11 +1,11 @@
 // States that the debugger keeps, of short images.
 use md_debug::KeptStates;
-use row_lines::{RowError, bytes, number};
+use row_lines::{RowError, bytes, number, parted, readable};
 use std::alloc::Global;
 
 /// Drops so many of the newest states.
 fn drop_newest(states: &mut KeptStates, count: &str) -> Result<(), RowError> {
-    let count = u32::try_from(number(count)?).map_err(|_| RowError::NoSuchLine)?;
+    let count = readable(u32::try_from(number(count)?))?;
     if count > states.count() {
         return Err(RowError::NoSuchLine);
     }
@@ -15,7 +15,7 @@ fn drop_newest(states: &mut KeptStates, count: &str) -> Result<(), RowError> {
 
 /// Keeps a state, of `CYCLE:BYTES`.
 fn push(alloc: Global, states: &mut KeptStates, word: &str) -> Result<(), RowError> {
-    let (cycle, image) = word.split_once(':').ok_or(RowError::NoSuchLine)?;
+    let (cycle, image) = parted(word, ':')?;
     let image = bytes(alloc, image)?;
     if image.len() > 64 {
         return Err(RowError::NoSuchLine);

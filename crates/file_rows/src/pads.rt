@@ -1,8 +1,8 @@
 // Recordings, and the port that a pad hangs on.
-use crate::fixture::{halves, reported, two, yes_or_no};
+use crate::fixture::{reported, yes_or_no};
 use bitflags::Flags;
 use md_pads::{Buttons, PadPort, RecFault, Recording};
-use row_lines::{RowError, byte, number, word};
+use row_lines::{RowError, byte, first_word, number, parted, word};
 use std::alloc::Global;
 
 /// The greatest cycle that a port takes.
@@ -80,7 +80,7 @@ fn is_buttons(alloc: Global, text: &str) -> Result<String, RowError> {
 }
 
 fn write_value(port: &mut PadPort, text: &str) -> Result<(), RowError> {
-    let (cycle, rest) = two(text)?;
+    let (cycle, rest) = parted(text, ' ')?;
     let (cycle, value) = (number(cycle)?, byte(rest)?);
     if cycle > MOST {
         return Err(RowError::NoSuchLine);
@@ -90,7 +90,7 @@ fn write_value(port: &mut PadPort, text: &str) -> Result<(), RowError> {
 }
 
 fn write_control(port: &mut PadPort, text: &str) -> Result<(), RowError> {
-    let (cycle, rest) = two(text)?;
+    let (cycle, rest) = parted(text, ' ')?;
     let (cycle, value) = (number(cycle)?, byte(rest)?);
     if cycle > MOST {
         return Err(RowError::NoSuchLine);
@@ -101,14 +101,14 @@ fn write_control(port: &mut PadPort, text: &str) -> Result<(), RowError> {
 
 /// What is read from a port at a cycle, with these buttons held on a pad of three or of six.
 fn read_port(alloc: Global, port: &PadPort, text: &str, six: bool) -> Result<String, RowError> {
-    let (cycle, buttons) = two(text)?;
+    let (cycle, buttons) = parted(text, ' ')?;
     let value = port.read(number(cycle)?, six, word(buttons)?);
     Ok(format!(in alloc; "{value:02X}")?)
 }
 
 /// What is answered where a port is asked.
 fn answer_of_port(alloc: Global, port: &PadPort, text: &str) -> Result<String, RowError> {
-    let (verb, rest) = halves(text);
+    let (verb, rest) = first_word(text);
     match verb {
         "three" => read_port(alloc, port, rest, false),
         "six" => read_port(alloc, port, rest, true),
@@ -128,7 +128,7 @@ impl Pads {
     /// `port on` and `port zero` are a port at power-on, and one whose value and control are 0; `port value CYCLE BYTE`
     /// and `port control CYCLE BYTE` write.
     pub(crate) fn obey(&mut self, text: &str) -> Result<(), RowError> {
-        let (verb, rest) = halves(text);
+        let (verb, rest) = first_word(text);
         match verb {
             "on" => self.take(PadPort::power_on()),
             "zero" => self.take(PadPort::with(0, 0, 0, 0)),

@@ -1,7 +1,7 @@
 // What two players press, and what is expected of them.
-use crate::fixture::{halves, reported, two};
+use crate::fixture::reported;
 use md_rollback::{InputFault, Inputs, MOST_FRAMES};
-use row_lines::{RowError, number, place_of, word};
+use row_lines::{RowError, first_word, number, parted, place_of, word};
 use std::alloc::Global;
 
 /// The inputs of a row, where there are any.
@@ -43,7 +43,7 @@ fn give(
     text: &str,
     is_local: bool,
 ) -> Result<String, RowError> {
-    let (frame, buttons) = two(text)?;
+    let (frame, buttons) = parted(text, ' ')?;
     let (frame, buttons) = (number(frame)?, word(buttons)?);
     let given = if is_local {
         inputs.local(frame, buttons)
@@ -55,7 +55,7 @@ fn give(
 
 /// What is answered where inputs are asked.
 fn answer_of(alloc: Global, inputs: &mut Inputs, text: &str) -> Result<String, RowError> {
-    let (verb, rest) = halves(text);
+    let (verb, rest) = first_word(text);
     match verb {
         "local" => give(alloc, inputs, rest, true),
         "remote" => give(alloc, inputs, rest, false),

@@ -1,9 +1,9 @@
 // Replies of the debugger, for the cartridge of 512 bytes that branches to itself at 1FCh.
 use crate::cartridges::in_one_line;
-use crate::fixture::{halves, reported, two};
+use crate::fixture::reported;
 use debug_text::{address_reply, byte_reply, instruction_reply, register_reply, report_reply};
 use md_word::{NoMemory, Regs};
-use row_lines::{RowError, long, number, push};
+use row_lines::{RowError, first_word, long, number, parted, push, readable};
 use std::alloc::Global;
 
 /// Empty work RAM.
@@ -44,8 +44,8 @@ fn line_of(alloc: Global, reply: Result<String, NoMemory>) -> Result<String, Row
 
 /// An address, and how many bytes or instructions from there on.
 fn place_of(text: &str) -> Result<(u32, u32), RowError> {
-    let (at, count) = two(text)?;
-    let count = u32::try_from(number(count)?).map_err(|_| RowError::NoSuchLine)?;
+    let (at, count) = parted(text, ' ')?;
+    let count = readable(u32::try_from(number(count)?))?;
     Ok((long(at)?, count))
 }
 
@@ -78,7 +78,7 @@ fn addresses(alloc: Global, text: &str) -> Result<String, RowError> {
 
 /// What is replied: `registers`, `report CYCLE`, `instructions ADDRESS N`, `bytes ADDRESS N`, `addresses ADDRESS ..`.
 pub(crate) fn reply(alloc: Global, text: &str) -> Result<String, RowError> {
-    let (verb, rest) = halves(text);
+    let (verb, rest) = first_word(text);
     match verb {
         "registers" => line_of(alloc, register_reply(alloc, &REGS)),
         "report" => line_of(alloc, report_reply(alloc, number(rest)?, &REGS)),

@@ -1,9 +1,8 @@
 // Rings of states of two pages, of which each is full of one letter.
 ghost use Rattle.std.specs.Prelude.{◌≡◌, ◌≤◌};
 
-use crate::fixture::two;
 use page_ring::{PAGE, PageRing};
-use row_lines::{RowError, number};
+use row_lines::{RowError, number, parted};
 use std::alloc::Global;
 
 /// The most states that are reported.
@@ -85,7 +84,7 @@ fn reported(alloc: Global, ring: &PageRing) -> Result<String, RowError>
 
 /// The states that a ring of so many pages keeps, the newest first, after all of `PAGES STATE ..`.
 pub(crate) fn kept(alloc: Global, text: &str) -> Result<String, RowError> {
-    let (pages, words) = two(text)?;
+    let (pages, words) = parted(text, ' ')?;
     let pages = number(pages)?;
     if pages < 2 || pages > 65536 {
         return Err(RowError::NoSuchLine);
