@@ -1,4 +1,4 @@
-use Rattle.std.proofs.Common.{◌≡◌, ◌∙◌, ◌+◌, ◌∷◌, [], ap, sym, subst, false, List, ℕ, length, arith}
+use Rattle.std.proofs.Common.{◌≡◌, ◌∙◌, ◌∷◌, [], ap, sym, subst, false, List, ℕ, length, arith}
 use Rattle.std.proofs.lemmas.List.Elements.{All-nil}
 use Rattle.md_pads.specs.Recording.{Frame, IsFrame, no_frames}
 use Rattle.md_chips.specs.Console.{power_on}
@@ -6,7 +6,7 @@ use Rattle.md_chips.specs.Machines.{MachineValue}
 use Rattle.machine_laws.specs.Reached.{IsReached}
 use Rattle.save_state.specs.States.{settled_console}
 use Rattle.md_rollback.specs.Images.{Kept}
-use Rattle.md_rollback.specs.Played.{AreRunImages, IsPlayed}
+use Rattle.md_rollback.specs.Played.{IsPlayed}
 use Rattle.md_rollback.proofs.Replayed.{first-images, first-played, one-pushed}
 use Rattle.md_rollback.proofs.Steps.{image-made}
 use Rattle.md_rollback.proofs.run_images.RunImages.make.Goals as goal
