@@ -7,6 +7,7 @@ ghost use Rattle.fm_chip.specs.SynthSpelling as fm;
 ghost use Rattle.psg_sound.specs.SynthSpelling as psg;
 ghost use Rattle.z80_chip.specs.Validity.{IsChip80};
 ghost use Rattle.z80_chip.specs.Spelling as sub;
+ghost use Rattle.z80_chip.specs.Spelling.{ram_offset};
 ghost use Rattle.vdp_ports.specs.Spelling.{vdp_bytes};
 ghost use Rattle.md_chips.specs.Owners.{HasOneOwner};
 ghost use Rattle.md_chips.specs.Starts as starts;
@@ -165,8 +166,8 @@ fn spell_sub(machine: &Machine, apart: &mut Vec<u8>)
 
 /// RAM and bank register in what the Z80 keeps, where the bus has none.
 fn own_of(has: bool, sub: &[u8]) -> &[u8]
-    requires { sub.ram_offset ≤ length sub.now }
-    ensures { result.now ≡ (if has then [] else drop sub.ram_offset sub.now) }
+    requires { ram_offset ≤ length sub.now }
+    ensures { result.now ≡ (if has then [] else drop ram_offset sub.now) }
 {
     if has { &[] } else { &sub[SUB.size..] }
 }
