@@ -10,7 +10,7 @@ use Rattle.text_lines.specs.Lines.{lines_of}
 use Rattle.md_rollback.specs.Inputs.{IsConfirmed, no_words}
 use Rattle.md_rollback.proofs.Expected.{no-words-known}
 use Rattle.md_rollback.specs.Sessions.{SessionValue}
-use Rattle.md_rollback.proofs.Advances.{first-machine}
+use Rattle.md_rollback.proofs.Replayed.{first-machine}
 use Rattle.md_rollback.specs.Following.{Follows}
 use Rattle.md_rollback.specs.Scripts.{Plays, Script, begun}
 use Rattle.md_rollback.specs.declared.line_fault.LineFault.{LineFault}
