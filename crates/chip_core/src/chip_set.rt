@@ -8,22 +8,24 @@ use std::sync::Wait;
 ///
 /// Each chip waits at an event to come: an access to the shared state, or a sample of its input
 /// pins. An event has a key, its cycle of the master clock and the chip's number.
-pub trait ChipSet: Send + Sync {
+///
+/// What moves chips between threads asks that the set and its types may go there.
+pub trait ChipSet {
     ghost use Rattle.chip_core.specs.Chips.{IsDue, IsPerformed, Lawful, Rules, SamplesBelow, SamplesTo};
     ghost use Rattle.chip_core.specs.Cores.{CoreValue, IsCoded};
 
     /// A chip, at its next event.
-    type Chip: Send + Drop;
+    type Chip: Drop;
 
     /// What the chips share.
-    type Shared: Send + Drop;
+    type Shared: Drop;
 
     /// The input pins of one chip.
-    type Pins: Send + Drop;
+    type Pins: Drop;
 
     /// Where a chip queues speculative jobs: work that it asks for ahead of its events, and goes without where nobody does
     /// it. What contracts see depends on none.
-    type Jobs: Send + Sync + Drop;
+    type Jobs: Drop;
 
     /// What the calls compute.
     ghost rules: { Rules Self.Chip Self.Shared Self.Pins };

@@ -2,9 +2,10 @@ pub mod Answered
 pub mod Booking
 pub mod Books
 pub mod CoreSteps
-pub mod WorkQueues
+pub mod Leads
 pub mod Gathers
 pub mod Keeping
+pub mod Idle
 pub mod KeyOrder
 pub mod Leasts
 pub mod Makes

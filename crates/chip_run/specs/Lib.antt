@@ -1,5 +1,5 @@
 pub mod CoreSteps
-pub mod WorkQueues
+pub mod Leads
 pub mod Gathering
 pub mod Held
 pub mod Locked

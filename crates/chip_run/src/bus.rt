@@ -1,15 +1,14 @@
-ghost use Rattle.std.specs.Prelude.{◌≡◌, ◌↔◌, ℕ, ◌<◌, IsSome};
-ghost use Rattle.chip_run.specs.WorkQueues.{IsLed};
-ghost use Rattle.chip_run.specs.Places.{AllFree, AreOnPaths, place};
+ghost use Rattle.std.specs.Prelude.{◌≡◌, ◌↔◌};
+ghost use Rattle.chip_run.specs.Leads.{IsLed};
+ghost use Rattle.chip_run.specs.Places.{AllFree, AreOnPaths};
 ghost use Rattle.chip_run.specs.Rounds.{IsEnded, IsRound, IsSwept, Keeps};
 
-use crate::leading::{Led, lead};
+use crate::leading::lead;
 use crate::sweep::{Swept, look};
-use crate::work_queue::WorkQueue;
-use crate::{Helds, Locked, Named, Round};
+use crate::{Helds, Locked, Named, Passage, Round};
 use chip_core::ChipSet;
-use md_outer::Gate;
 use std::sync::{Condvar, Mutex, Wait};
+use work_sharing::Led;
 
 /// The bus lock of a run: what the chips share behind one lock, and where workers wait for it to
 /// change. With it the queue of the chips' speculative jobs, if any chip has some.
@@ -17,8 +16,8 @@ use std::sync::{Condvar, Mutex, Wait};
 pub struct Bus<C: ChipSet, N: Named> {
     lock: Mutex<Locked<C, N>>,
     moved: Condvar,
-    end: u64,
-    jobs: Option<C::Jobs>,
+    pub(crate) end: u64,
+    pub(crate) jobs: Option<C::Jobs>,
     ghost ends: { end ≡ N.end },
 }
 
@@ -33,11 +32,6 @@ impl<C: ChipSet, N: Named> Bus<C, N> {
             end,
             jobs,
         }
-    }
-
-    /// The queue of the chips' speculative jobs; none where no chip has any.
-    fn jobs(&self) -> &Option<C::Jobs> {
-        &self.jobs
     }
 
     /// One look at the held chips under one lock. It ends with a wait where none of them can move
@@ -69,7 +63,7 @@ impl<C: ChipSet, N: Named> Bus<C, N> {
     ///
     /// It goes by rounds, each with one look under the lock. Before each it passes the gate for
     /// each held chip that is not finished.
-    pub fn wait_turn<R: Wait, G: Gate>(&self, rt: &R, helds: &mut Helds<C, N>, gate: &G) -> Round
+    pub fn wait_turn<R: Wait, G: Passage>(&self, rt: &R, helds: &mut Helds<C, N>, gate: &G) -> Round
         requires free { AllFree helds.old }
         requires whole { (N.L0.parts ≡ 1) × (N.L1.parts ≡ 1) × (N.L2.parts ≡ 1) × (N.L3.parts ≡ 1) × (N.L4.parts ≡ 1) }
         ensures round { IsRound C.rules N.end helds.old result helds.new }
@@ -81,7 +75,7 @@ impl<C: ChipSet, N: Named> Bus<C, N> {
             helds.pass_all(self.end, gate);
             match self.round(rt, helds) {
                 Swept::Moved(chip) => {
-                    helds.settle(chip);
+                    helds.settle_chip(chip);
                     helds.known();
                     return Round::Moved(chip);
                 }
@@ -97,7 +91,7 @@ impl<C: ChipSet, N: Named> Bus<C, N> {
 
     /// Takes the turns of the held chips under one lock, as far as `lead` does. `reports`: whether it notifies
     /// workers that may wait for a bound to change.
-    fn turns<R: Wait>(&self, rt: &R, helds: &mut Helds<C, N>, reports: bool) -> Led
+    pub(crate) fn turns<R: Wait>(&self, rt: &R, helds: &mut Helds<C, N>, reports: bool) -> Led
         requires free { AllFree helds.old }
         requires whole { (N.L0.parts ≡ 1) × (N.L1.parts ≡ 1) × (N.L2.parts ≡ 1) × (N.L3.parts ≡ 1) × (N.L4.parts ≡ 1) }
         ensures { IsLed result helds.new }
@@ -110,103 +104,8 @@ impl<C: ChipSet, N: Named> Bus<C, N> {
         led
     }
 
-    /// Takes the turns of all chips, of which others come to the work queue, until all are held and finished. Private
-    /// work that is worth offloading goes to the work queue.
-    fn take_turns<R: Wait, G: Gate>(
-        &self,
-        rt: &R,
-        work_queue: &WorkQueue<C, N>,
-        helds: &mut Helds<C, N>,
-        gate: &G,
-    )
-        requires free { AllFree helds.old }
-        requires whole { (N.L0.parts ≡ 1) × (N.L1.parts ≡ 1) × (N.L2.parts ≡ 1) × (N.L3.parts ≡ 1) × (N.L4.parts ≡ 1) }
-        ensures free { AllFree helds.new }
-        ensures held { (i : ℕ) → i < C.rules.count → IsSome (place helds.new i) }
-    {
-        // A worker waits for a bound in the first turn of its chip alone, which it then lays in the work queue.
-        let mut met = false;
-        for _ in rt.forever() {
-            if !met && helds.has_all() {
-                met = true;
-                work_queue.close_without(rt, helds);
-            }
-            helds.pass_all(self.end, gate);
-            match self.turns(rt, helds, !met) {
-                Led::WorthOffloading(chip) => work_queue.lay_due(rt, helds, chip),
-                Led::Away(chip) => work_queue.fetch(rt, helds, chip),
-                Led::Ended => match helds.missing() {
-                    Some(chip) => work_queue.fetch(rt, helds, chip),
-                    None => return,
-                },
-            }
-        }
-        unreachable!()
-    }
-
-    /// The same, and then signals to the helpers in the work queue that the run has ended, and sees them off.
-    pub(crate) fn take_all_turns<R: Wait, G: Gate>(
-        &self,
-        rt: &R,
-        work_queue: &WorkQueue<C, N>,
-        helds: &mut Helds<C, N>,
-        gate: &G,
-        helpers: u8,
-    )
-        requires free { AllFree helds.old }
-        requires whole { (N.L0.parts ≡ 1) × (N.L1.parts ≡ 1) × (N.L2.parts ≡ 1) × (N.L3.parts ≡ 1) × (N.L4.parts ≡ 1) }
-        ensures free { AllFree helds.new }
-        ensures held { (i : ℕ) → i < C.rules.count → IsSome (place helds.new i) }
-    {
-        self.take_turns(rt, work_queue, helds, gate);
-        work_queue.end(rt);
-        work_queue.see_off(helpers);
-    }
-
-    /// Does the work of a helper: makes the next event of its chip with its private work, unless the leader has
-    /// reached that chip before, then helps, and runs jobs where there is nothing to help with.
-    pub(crate) fn help<R: Wait, G: Gate>(
-        &self,
-        rt: &R,
-        work_queue: &WorkQueue<C, N>,
-        worker: u8,
-        gate: &G,
-    )
-        requires { (N.L0.parts ≡ 1) × (N.L1.parts ≡ 1) × (N.L2.parts ≡ 1) × (N.L3.parts ≡ 1) × (N.L4.parts ≡ 1) }
-    {
-        self.begin(rt, work_queue, worker, gate);
-        work_queue.help(rt, self.jobs());
-        work_queue.leave();
-    }
-
-    /// Makes the next event of a worker's chip, with its private work, unless another has taken that chip.
-    fn begin<R: Wait, G: Gate>(&self, rt: &R, work_queue: &WorkQueue<C, N>, worker: u8, gate: &G)
-        requires whole { (N.L0.parts ≡ 1) × (N.L1.parts ≡ 1) × (N.L2.parts ≡ 1) × (N.L3.parts ≡ 1) × (N.L4.parts ≡ 1) }
-    {
-        let mut one = Helds::none();
-        self.begin_with(rt, work_queue, &mut one, worker, gate);
-    }
-
-    /// The same with a holder in which no work is due.
-    fn begin_with<R: Wait, G: Gate>(
-        &self,
-        rt: &R,
-        work_queue: &WorkQueue<C, N>,
-        one: &mut Helds<C, N>,
-        worker: u8,
-        gate: &G,
-    )
-        requires free { AllFree one.old }
-        requires whole { (N.L0.parts ≡ 1) × (N.L1.parts ≡ 1) × (N.L2.parts ≡ 1) × (N.L3.parts ≡ 1) × (N.L4.parts ≡ 1) }
-    {
-        if work_queue.take_waiting(rt, one, worker) {
-            self.wait_turn(rt, one, gate);
-            work_queue.lay_done(rt, one, worker);
-        }
-    }
-
     /// Takes turns until all held chips are finished.
-    pub(crate) fn serve<R: Wait, G: Gate>(&self, rt: &R, helds: &mut Helds<C, N>, gate: &G)
+    pub(crate) fn serve<R: Wait, G: Passage>(&self, rt: &R, helds: &mut Helds<C, N>, gate: &G)
         requires free { AllFree helds.old }
         requires whole { (N.L0.parts ≡ 1) × (N.L1.parts ≡ 1) × (N.L2.parts ≡ 1) × (N.L3.parts ≡ 1) × (N.L4.parts ≡ 1) }
         ensures keeps { Keeps helds.old helds.new }

@@ -2,9 +2,8 @@ ghost use Rattle.std.specs.Prelude.{◌≡◌, ◌+◌, ◌-◌, ◌^◌, if◌t
 ghost use Rattle.chip_run.specs.Held.{HeldValue, IsAhead, IsHeld};
 ghost use Rattle.chip_run.specs.Rounds.{Settles, bare};
 
-use crate::Named;
+use crate::{Named, Passage};
 use chip_core::{ChipSet, run};
-use md_outer::Gate;
 use md_word::Key;
 use std::marker::{Model, PhantomData};
 use std::sync::ledger::{Ledger, Share};
@@ -76,12 +75,12 @@ impl<C: ChipSet, N: Named, L: Ledger> Held<C, N, L> {
 
     /// Passes the gate for the chip where it is not finished, with the number of earlier passes,
     /// which stays at its greatest value.
-    pub(crate) fn pass<G: Gate>(&mut self, end: u64, gate: &G)
+    pub(crate) fn pass<G: Passage>(&mut self, end: u64, gate: &G)
         ensures same { bare self.new ≡ bare self.old }
         ensures passes { self.new.passes ≡ (if nat_lt (C.rules.next self.old.chip).key.cycle end then min (self.old.passes + 1) (2 ^ 64 - 1) else self.old.passes) }
     {
         if C::next(&self.chip).key.cycle < end {
-            gate.pass(self.number, self.passes);
+            gate.let_pass(self.number, self.passes);
             self.passes = self.passes.saturating_add(1);
         }
     }

@@ -1,12 +1,11 @@
 ghost use Rattle.std.specs.Option.{option_map};
-ghost use Rattle.std.specs.Prelude.{◌≡◌, ℕ, ◌<◌, ◌≤◌, ◌↔◌, IsTrue, IsSome, IfNone, IfSome, List, [], ◌∷◌, Option, None, length, slice_set};
+ghost use Rattle.std.specs.Prelude.{◌≡◌, ℕ, ◌↔◌, IsTrue, IsSome, IfSome, List, [], ◌∷◌, Option, None, length, slice_set};
 ghost use Rattle.chip_run.specs.Held.{HeldValue, IsHeld};
-ghost use Rattle.chip_run.specs.Places.{AllFree, AreOnPaths, HasNumber, place};
+ghost use Rattle.chip_run.specs.Places.{AreOnPaths, HasNumber, place};
 ghost use Rattle.chip_run.specs.Rounds.{SettlesAt, bare, bares};
 
-use crate::{Held, Named};
+use crate::{Held, Named, Passage};
 use chip_core::ChipSet;
-use md_outer::Gate;
 use md_word::Key;
 use std::marker::Model;
 use std::sync::ledger::Ledger;
@@ -33,19 +32,6 @@ impl<C: ChipSet, N: Named> Model for Helds<C, N> {
 }
 
 impl<C: ChipSet, N: Named> Helds<C, N> {
-    /// No chip.
-    pub(crate) fn none() -> Self
-        ensures { result ≡ None ∷ None ∷ None ∷ None ∷ None ∷ [] }
-    {
-        Helds {
-            place0: None,
-            place1: None,
-            place2: None,
-            place3: None,
-            place4: None,
-        }
-    }
-
     /// How many places there are.
     pub(crate) fn place_count(&self) -> u8
         ensures value { result ≡ 5 }
@@ -69,34 +55,6 @@ impl<C: ChipSet, N: Named> Helds<C, N> {
         }
     }
 
-    /// The first number of a chip that is not held.
-    pub(crate) fn missing(&self) -> Option<u8>
-        ensures { IfNone result ((i : ℕ) → i < C.rules.count → IsSome (place self.now i)) }
-    {
-        for chip in 0..C::count() {
-            if !self.has(chip) {
-                return Some(chip);
-            }
-        }
-        None
-    }
-
-    /// Whether all chips of the set are held.
-    pub(crate) fn has_all(&self) -> bool {
-        self.missing().is_none()
-    }
-
-    /// Of how many held chips the next private work is worth offloading.
-    pub(crate) fn worth_offloading(&self) -> u8
-        ensures { result ≤ 5 }
-    {
-        worth_offloading_in(&self.place0)
-            + worth_offloading_in(&self.place1)
-            + worth_offloading_in(&self.place2)
-            + worth_offloading_in(&self.place3)
-            + worth_offloading_in(&self.place4)
-    }
-
     /// Moves the chip of this number to the same place of another holder.
     pub(crate) fn move_to(&mut self, other: &mut Self, chip: u8)
         ensures left { self.new ≡ slice_set self.old chip None }
@@ -110,16 +68,6 @@ impl<C: ChipSet, N: Named> Helds<C, N> {
             4 => move_place(&mut self.place4, &mut other.place4),
             _ => {}
         }
-    }
-
-    /// The same between two of whose chips no work is due.
-    pub(crate) fn move_free(&mut self, other: &mut Self, chip: u8)
-        requires here { AllFree self.old }
-        requires there { AllFree other.old }
-        ensures left { AllFree self.new }
-        ensures moved { AllFree other.new }
-    {
-        self.move_to(other, chip);
     }
 
     /// Where the held chips are.
@@ -148,7 +96,7 @@ impl<C: ChipSet, N: Named> Helds<C, N> {
     }
 
     /// Does the private work that is due for the chip of this number.
-    pub(crate) fn settle(&mut self, chip: u8)
+    pub(crate) fn settle_chip(&mut self, chip: u8)
         ensures settled { SettlesAt C.rules (place self.old chip) (place self.new chip) }
         ensures others { self.new ≡ slice_set self.old chip (place self.new chip) }
     {
@@ -163,7 +111,7 @@ impl<C: ChipSet, N: Named> Helds<C, N> {
     }
 
     /// Passes the gate for each held chip that is not finished.
-    pub(crate) fn pass_all<G: Gate>(&mut self, end: u64, gate: &G)
+    pub(crate) fn pass_all<G: Passage>(&mut self, end: u64, gate: &G)
         ensures { bares self.new ≡ bares self.old }
     {
         pass_place(&mut self.place0, end, gate);
@@ -172,17 +120,6 @@ impl<C: ChipSet, N: Named> Helds<C, N> {
         pass_place(&mut self.place3, end, gate);
         pass_place(&mut self.place4, end, gate);
     }
-}
-
-fn worth_offloading_in<C: ChipSet, N: Named, L: Ledger>(held: &Option<Held<C, N, L>>) -> u8
-    ensures { result ≤ 1 }
-{
-    if let Some(held) = held
-        && C::is_worth_offloading(&held.chip)
-    {
-        return 1;
-    }
-    0
 }
 
 fn know_place<C: ChipSet, N: Named, L: Ledger>(held: &Option<Held<C, N, L>>)
@@ -225,7 +162,7 @@ fn settle_place<C: ChipSet, N: Named, L: Ledger>(held: &mut Option<Held<C, N, L>
     }
 }
 
-fn pass_place<C: ChipSet, N: Named, L: Ledger, G: Gate>(
+fn pass_place<C: ChipSet, N: Named, L: Ledger, G: Passage>(
     held: &mut Option<Held<C, N, L>>,
     end: u64,
     gate: &G,

@@ -1,5 +1,5 @@
 ghost use Rattle.std.specs.Prelude.{◌≡◌, IfSome};
-ghost use Rattle.chip_run.specs.WorkQueues.{IsLed, IsTurned, IsTurnedPlace};
+ghost use Rattle.chip_run.specs.Leads.{IsLed, IsTurned, IsTurnedPlace};
 ghost use Rattle.chip_run.specs.Places.{AllFree, HasNumber};
 ghost use Rattle.chip_run.specs.Sections.{IsLockedAt, KeepsLocked};
 ghost use Rattle.chip_run.specs.Steps.{IsLeastBound};
@@ -10,17 +10,7 @@ use crate::{Due, Held, Helds, Locked, Named, Parts, Turn};
 use chip_core::ChipSet;
 use std::sync::Wait;
 use std::sync::ledger::{Book, Ledger};
-
-/// Why the turns of the held chips stop.
-#[derive(Clone, Copy)]
-pub(crate) enum Led {
-    /// The chip of this number made its event, but for its private work, which is worth offloading.
-    WorthOffloading(u8),
-    /// The chip of this number, that of least bound, is not held.
-    Away(u8),
-    /// No bound lies below the run's end.
-    Ended,
-}
+use work_sharing::Led;
 
 /// What became of the turn of the chip of least bound.
 #[derive(Clone, Copy)]

@@ -14,8 +14,8 @@ use std::thread::Threads;
 
 /// Runs a core under a name for the run and one for each ledger.
 fn run_named<
-    C: ChipSet,
-    N: RunName,
+    C: ChipSet + Send + Sync,
+    N: RunName + Send + Sync,
     L0: Ledger + Send + Sync,
     L1: Ledger + Send + Sync,
     L2: Ledger + Send + Sync,
@@ -24,6 +24,11 @@ fn run_named<
     R: Threads + Wait + Sync,
     G: Gate,
 >(rt: &R, core: Core<C>, t: u64, workers: u32, gate: &G, blanks: Blanks) -> Core<C>
+where
+    C::Chip: Send,
+    C::Shared: Send,
+    C::Pins: Send,
+    C::Jobs: Send + Sync,
     requires base { C.core_of N.base ≡ record core { room = 0 } }
     requires end { N.end ≡ t }
     requires places { N.room ≡ core.room }
@@ -48,13 +53,18 @@ fn run_named<
 ///
 /// After it, all events below `t` and no other have been made, and the journal has their accesses and the
 /// room that it had. So it is whatever threads there are and however they take turns.
-pub fn run_core<C: ChipSet, R: Threads + Wait + Sync, G: Gate>(
+pub fn run_core<C: ChipSet + Send + Sync, R: Threads + Wait + Sync, G: Gate>(
     rt: &R,
     core: Core<C>,
     t: u64,
     workers: u32,
     gate: &G,
 ) -> Core<C>
+where
+    C::Chip: Send,
+    C::Shared: Send,
+    C::Pins: Send,
+    C::Jobs: Send + Sync,
     requires time { t ≤ cycle_limit }
     requires empty { core.journal ≡ [] }
     requires room { all_moves_left C.rules t (machine_of C.rules core) ≤ core.room }

@@ -18,11 +18,11 @@ use std::test::Fail;
 fn first_section<
     C: ChipSet,
     N: RunName,
-    L0: Ledger + Send + Sync,
-    L1: Ledger + Send + Sync,
-    L2: Ledger + Send + Sync,
-    L3: Ledger + Send + Sync,
-    L4: Ledger + Send + Sync,
+    L0: Ledger,
+    L1: Ledger,
+    L2: Ledger,
+    L3: Ledger,
+    L4: Ledger,
 >(core: Core<C>, t: u64, blanks: Blanks) -> Option<(Turn, Option<Key>)>
     requires base { C.core_of N.base ≡ record core { room = 0 } }
     requires end { N.end ≡ t }
@@ -60,11 +60,11 @@ fn answer_of<C: ChipSet, N: Named>(
 fn moves_alone<
     C: ChipSet,
     N: RunName,
-    L0: Ledger + Send + Sync,
-    L1: Ledger + Send + Sync,
-    L2: Ledger + Send + Sync,
-    L3: Ledger + Send + Sync,
-    L4: Ledger + Send + Sync,
+    L0: Ledger,
+    L1: Ledger,
+    L2: Ledger,
+    L3: Ledger,
+    L4: Ledger,
     R: Wait,
 >(rt: &R, core: Core<C>, t: u64, blanks: Blanks) -> Option<[u32; 5]>
     requires base { C.core_of N.base ≡ record core { room = 0 } }

@@ -5,7 +5,7 @@ use Rattle.chip_core.proofs.ahead.run.Given.{Over}
 use Rattle.chip_core.proofs.ahead.run.Goals as goal
 
 lawful : (g : Over) → Lawful g.C.ChipSet.rules g.C.ChipSet.chip_ok g.C.ChipSet.shared_ok
-lawful g = (g.met.C.ChipSet g.world.𝓛 g.world.𝓜 g.world.𝓡 ((λ s x. x), (λ x. x), (λ x. x), (λ x. x))).lawful
+lawful g = g.met.C.ChipSet.lawful
 
 pub overflow_add-samples : goal.overflow_add-samples
 overflow_add-samples g c =

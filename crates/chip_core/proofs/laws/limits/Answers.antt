@@ -3,17 +3,17 @@ use Rattle.chip_core.proofs.Works.{moves-spread, moves-few, entries-few, moves-w
 use Rattle.chip_core.proofs.laws.limits.Goals as goal
 
 pub returns-clause-spread : goal.returns-clause-spread
-returns-clause-spread g c = λ m t n i small ok below h. moves-spread g.C.ChipSet.rules g.C.ChipSet.chip_ok g.C.ChipSet.shared_ok (g.met.C.ChipSet g.world.𝓛 g.world.𝓜 g.world.𝓡 ((λ s x. x), (λ x. x), (λ x. x), (λ x. x))).lawful t small m ok n below i h
+returns-clause-spread g c = λ m t n i small ok below h. moves-spread g.C.ChipSet.rules g.C.ChipSet.chip_ok g.C.ChipSet.shared_ok g.met.C.ChipSet.lawful t small m ok n below i h
 
 pub returns-clause-made : goal.returns-clause-made
 returns-clause-made g c = λ m t n i small ok below h.
-    let few = moves-few g.C.ChipSet.rules g.C.ChipSet.chip_ok g.C.ChipSet.shared_ok (g.met.C.ChipSet g.world.𝓛 g.world.𝓜 g.world.𝓡 ((λ s x. x), (λ x. x), (λ x. x), (λ x. x))).lawful t small m ok n below i h in
+    let few = moves-few g.C.ChipSet.rules g.C.ChipSet.chip_ok g.C.ChipSet.shared_ok g.met.C.ChipSet.lawful t small m ok n below i h in
     omega arith
 
 pub returns-clause-entered : goal.returns-clause-entered
 returns-clause-entered g c = λ m t n small ok below.
-    let few = entries-few g.C.ChipSet.rules g.C.ChipSet.chip_ok g.C.ChipSet.shared_ok (g.met.C.ChipSet g.world.𝓛 g.world.𝓜 g.world.𝓡 ((λ s x. x), (λ x. x), (λ x. x), (λ x. x))).lawful t small m ok n below in
+    let few = entries-few g.C.ChipSet.rules g.C.ChipSet.chip_ok g.C.ChipSet.shared_ok g.met.C.ChipSet.lawful t small m ok n below in
     omega arith
 
 pub returns-clause-within : goal.returns-clause-within
-returns-clause-within g c = λ m from t small quiet. moves-within g.C.ChipSet.rules g.C.ChipSet.chip_ok g.C.ChipSet.shared_ok (g.met.C.ChipSet g.world.𝓛 g.world.𝓜 g.world.𝓡 ((λ s x. x), (λ x. x), (λ x. x), (λ x. x))).lawful t small m from quiet
+returns-clause-within g c = λ m from t small quiet. moves-within g.C.ChipSet.rules g.C.ChipSet.chip_ok g.C.ChipSet.shared_ok g.met.C.ChipSet.lawful t small m from quiet

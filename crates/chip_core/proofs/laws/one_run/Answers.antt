@@ -2,4 +2,4 @@ use Rattle.chip_core.proofs.Joins.{same-run}
 use Rattle.chip_core.proofs.laws.one_run.Goals as goal
 
 pub returns : goal.returns
-returns g c = same-run g.C.ChipSet.rules g.C.ChipSet.chip_ok g.C.ChipSet.shared_ok (g.met.C.ChipSet g.world.𝓛 g.world.𝓜 g.world.𝓡 ((λ s x. x), (λ x. x), (λ x. x), (λ x. x))).lawful
+returns g c = same-run g.C.ChipSet.rules g.C.ChipSet.chip_ok g.C.ChipSet.shared_ok g.met.C.ChipSet.lawful

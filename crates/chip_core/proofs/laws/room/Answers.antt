@@ -5,6 +5,6 @@ use Rattle.chip_core.proofs.laws.room.Goals as goal
 
 pub returns : goal.returns
 returns g c =
-    has_room g.C.ChipSet.rules g.C.ChipSet.chip_ok g.C.ChipSet.shared_ok (g.met.C.ChipSet g.world.𝓛 g.world.𝓜 g.world.𝓡 ((λ s x. x), (λ x. x), (λ x. x), (λ x. x))).lawful
+    has_room g.C.ChipSet.rules g.C.ChipSet.chip_ok g.C.ChipSet.shared_ok g.met.C.ChipSet.lawful
     c.args.t c.requires.time (seen g.C.ChipSet.rules c.args.core.now)
     (tidy-core g.C.ChipSet.rules g.C.ChipSet.chip_ok g.C.ChipSet.shared_ok c.args.core.now c.known.ensures) c.args.core.now.room c.requires.room

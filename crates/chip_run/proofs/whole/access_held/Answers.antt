@@ -10,7 +10,7 @@ use Rattle.chip_run.proofs.whole.access_held.Given.{Over}
 use Rattle.chip_run.proofs.whole.access_held.Goals as goal
 
 lawful : (g : Over) → Lawful g.C.ChipSet.rules g.C.ChipSet.chip_ok g.C.ChipSet.shared_ok
-lawful g = (g.met.C.ChipSet g.world.𝓛 g.world.𝓜 g.world.𝓡 ((λ s x. x), (λ x. x), (λ x. x), (λ x. x))).lawful
+lawful g = g.met.C.ChipSet.lawful
 
 -- the samples beyond the counted moves, of which the event count has the number
 on-total : (g : Over) (n : ℕ) (due : Due g.row.C-Pins.Denot) {booked total : ℕ} (ahead : ℕ) → booked ≡ total → IsAhead g.C.ChipSet.rules g.C.ChipSet.chip_ok g.C.ChipSet.shared_ok (g.C.ChipSet.core_of g.N.Named.base) g.N.Named.end n due booked ahead
@@ -24,10 +24,10 @@ number : {Chip Pins : Type 0} {h k : HeldValue Chip Pins} {n : ℕ} → h ≡ k 
 number {Chip = Chip} {Pins = Pins} e q = ap (λ (x : HeldValue Chip Pins). x.number) e ∙ q
 
 pub access-requires-clause-turn : goal.access-requires-clause-turn
-access-requires-clause-turn g c κs within = turn-least g.C.ChipSet.rules g.C.ChipSet.chip_ok g.C.ChipSet.shared_ok (lawful g) c.args.parts.now c.args.number c.args.book.now.total _ (found-at g.C.ChipSet.rules g.C.ChipSet.chip_ok g.C.ChipSet.shared_ok (lawful g) (g.C.ChipSet.core_of g.N.Named.base) g.N.Named.end c.args.parts.now c.args.number _ c.held.invariant.1 (free c.held.view_is c.requires.free) (number c.held.view_is c.requires.number) c.args.book.now.total c.held.inside.ahead (ap (λ n. n + c.held.inside.ahead) (c.audit.ensures.whole (c.held.invariant.0 ∙ sym c.requires.whole))) (on-total g c.held.inside.number c.held.inside.due c.held.inside.ahead (c.audit.ensures.whole (c.held.invariant.0 ∙ sym c.requires.whole)) c.held.invariant.2) c.requires.locked _ refl) c.requires.least
+access-requires-clause-turn g c = turn-least g.C.ChipSet.rules g.C.ChipSet.chip_ok g.C.ChipSet.shared_ok (lawful g) c.args.parts.now c.args.number c.args.book.now.total _ (found-at g.C.ChipSet.rules g.C.ChipSet.chip_ok g.C.ChipSet.shared_ok (lawful g) (g.C.ChipSet.core_of g.N.Named.base) g.N.Named.end c.args.parts.now c.args.number _ c.held.invariant.1 (free c.held.view_is c.requires.free) (number c.held.view_is c.requires.number) c.args.book.now.total c.held.inside.ahead (ap (λ n. n + c.held.inside.ahead) (c.audit.ensures.whole (c.held.invariant.0 ∙ sym c.requires.whole))) (on-total g c.held.inside.number c.held.inside.due c.held.inside.ahead (c.audit.ensures.whole (c.held.invariant.0 ∙ sym c.requires.whole)) c.held.invariant.2) c.requires.locked _ refl) c.requires.least
 
 pub access-requires-clause-place : goal.access-requires-clause-place
-access-requires-clause-place g c κs within = place-at g.C.ChipSet.rules g.C.ChipSet.chip_ok g.C.ChipSet.shared_ok (lawful g) (g.C.ChipSet.core_of g.N.Named.base) g.N.Named.end c.args.parts.now c.args.number _ c.held.invariant.1 (free c.held.view_is c.requires.free) (number c.held.view_is c.requires.number) c.args.book.now.total c.held.inside.ahead (ap (λ n. n + c.held.inside.ahead) (c.audit.ensures.whole (c.held.invariant.0 ∙ sym c.requires.whole))) (on-total g c.held.inside.number c.held.inside.due c.held.inside.ahead (c.audit.ensures.whole (c.held.invariant.0 ∙ sym c.requires.whole)) c.held.invariant.2) c.requires.locked
+access-requires-clause-place g c = place-at g.C.ChipSet.rules g.C.ChipSet.chip_ok g.C.ChipSet.shared_ok (lawful g) (g.C.ChipSet.core_of g.N.Named.base) g.N.Named.end c.args.parts.now c.args.number _ c.held.invariant.1 (free c.held.view_is c.requires.free) (number c.held.view_is c.requires.number) c.args.book.now.total c.held.inside.ahead (ap (λ n. n + c.held.inside.ahead) (c.audit.ensures.whole (c.held.invariant.0 ∙ sym c.requires.whole))) (on-total g c.held.inside.number c.held.inside.due c.held.inside.ahead (c.audit.ensures.whole (c.held.invariant.0 ∙ sym c.requires.whole)) c.held.invariant.2) c.requires.locked
 
 pub invariant_of-held : goal.invariant_of-held
 invariant_of-held g c = (

@@ -8,7 +8,7 @@ use Rattle.chip_run.proofs.whole.announce_held.Given.{Over}
 use Rattle.chip_run.proofs.whole.announce_held.Goals as goal
 
 lawful : (g : Over) → Lawful g.C.ChipSet.rules g.C.ChipSet.chip_ok g.C.ChipSet.shared_ok
-lawful g = (g.met.C.ChipSet g.world.𝓛 g.world.𝓜 g.world.𝓡 ((λ s x. x), (λ x. x), (λ x. x), (λ x. x))).lawful
+lawful g = g.met.C.ChipSet.lawful
 
 -- the samples beyond the counted moves, of which the event count has the number
 on-total : (g : Over) (n : ℕ) (due : Due g.row.C-Pins.Denot) {booked total : ℕ} (ahead : ℕ) → booked ≡ total → IsAhead g.C.ChipSet.rules g.C.ChipSet.chip_ok g.C.ChipSet.shared_ok (g.C.ChipSet.core_of g.N.Named.base) g.N.Named.end n due booked ahead

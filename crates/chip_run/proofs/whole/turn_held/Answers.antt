@@ -2,11 +2,11 @@ use Rattle.chip_run.proofs.Wholes.{locked-next, locked-twice}
 use Rattle.chip_run.proofs.whole.turn_held.Goals as goal
 
 pub sample_held-requires-clause-locked : goal.sample_held-requires-clause-locked
-sample_held-requires-clause-locked g c κs within =
+sample_held-requires-clause-locked g c =
     locked-next g.C.ChipSet.rules g.C.ChipSet.chip_ok g.C.ChipSet.shared_ok (g.C.ChipSet.core_of g.N.Named.base) g.N.Named.end c.args.number c.args.parts.now c.args.book.now.total c.access_held.new.parts c.access_held.new.book.total c.requires.locked c.access_held.ensures.locked
 
 pub announce_held-requires-clause-locked : goal.announce_held-requires-clause-locked
-announce_held-requires-clause-locked g c κs within =
+announce_held-requires-clause-locked g c =
     locked-next g.C.ChipSet.rules g.C.ChipSet.chip_ok g.C.ChipSet.shared_ok (g.C.ChipSet.core_of g.N.Named.base) g.N.Named.end c.args.number c.access_held.new.parts c.access_held.new.book.total c.sample_held.new.parts c.sample_held.new.book.total
     (locked-next g.C.ChipSet.rules g.C.ChipSet.chip_ok g.C.ChipSet.shared_ok (g.C.ChipSet.core_of g.N.Named.base) g.N.Named.end c.args.number c.args.parts.now c.args.book.now.total c.access_held.new.parts c.access_held.new.book.total c.requires.locked c.access_held.ensures.locked)
     c.sample_held.ensures.locked

@@ -26,5 +26,5 @@ returns-clause-after g c = at-value g.C.ChipSet.rules (before g c) c.args.self.n
 
 pub returns-clause-stands : goal.returns-clause-stands
 returns-clause-stands g c =
-    stands-core g.C.ChipSet.rules g.C.ChipSet.chip_ok g.C.ChipSet.shared_ok (g.met.C.ChipSet g.world.𝓛 g.world.𝓜 g.world.𝓡 ((λ s x. x), (λ x. x), (λ x. x), (λ x. x))).lawful
+    stands-core g.C.ChipSet.rules g.C.ChipSet.chip_ok g.C.ChipSet.shared_ok g.met.C.ChipSet.lawful
     (before g c) c.args.self.now (now g c) c.self.view_is c.self.invariant (Announce c.args.chip) (left g c)

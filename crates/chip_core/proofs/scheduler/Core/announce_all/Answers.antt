@@ -9,7 +9,7 @@ pub loop-chip-preserved : goal.loop-chip-preserved
 loop-chip-preserved g c = record {
   led = λ t. reaches-on g.C.ChipSet.rules t (seen g.C.ChipSet.rules c.args.self.now) (seen g.C.ChipSet.rules c.loop-chip.self) (seen g.C.ChipSet.rules c.set_bound.new.self) (c.loop-chip.invariant.led t)
       (subst (λ s. Reaches g.C.ChipSet.rules t (seen g.C.ChipSet.rules c.loop-chip.self) s) (sym c.set_bound.ensures.after)
-      (announced-reaches g.C.ChipSet.rules g.C.ChipSet.chip_ok g.C.ChipSet.shared_ok (g.met.C.ChipSet g.world.𝓛 g.world.𝓜 g.world.𝓡 ((λ s x. x), (λ x. x), (λ x. x), (λ x. x))).lawful
+      (announced-reaches g.C.ChipSet.rules g.C.ChipSet.chip_ok g.C.ChipSet.shared_ok g.met.C.ChipSet.lawful
       t (seen g.C.ChipSet.rules c.loop-chip.self) (tidy-core g.C.ChipSet.rules g.C.ChipSet.chip_ok g.C.ChipSet.shared_ok c.loop-chip.self c.loop-chip.invariant.core) c.loop-chip.chip (subst (λ n. c.loop-chip.chip < n) c.count-chip-end.ensures c.loop-chip-test.true)));
   keys = subst (λ s. AreKeys g.C.ChipSet.rules s (c.loop-chip.chip + 1)) (sym c.set_bound.ensures.after)
       (keys-announced g.C.ChipSet.rules (seen g.C.ChipSet.rules c.loop-chip.self) c.loop-chip.chip c.loop-chip.invariant.keys);

@@ -28,7 +28,7 @@ left g c =
 
 pub invariant_of-self : goal.invariant_of-self
 invariant_of-self g c =
-    core-after g.C.ChipSet.rules g.C.ChipSet.chip_ok g.C.ChipSet.shared_ok (g.met.C.ChipSet g.world.𝓛 g.world.𝓜 g.world.𝓡 ((λ s x. x), (λ x. x), (λ x. x), (λ x. x))).lawful
+    core-after g.C.ChipSet.rules g.C.ChipSet.chip_ok g.C.ChipSet.shared_ok g.met.C.ChipSet.lawful
     (before g c) (now g c) c.self.invariant (Perform c.args.chip) (enabled g c)
     (length-set c.self.inside.chips.items c.args.chip c.access-entry.new.chip ∙ c.self.invariant.shape.chip_count)
     (length-set c.self.inside.bounds.items c.args.chip c.bound_after.result ∙ c.self.invariant.shape.bound_count)
@@ -39,5 +39,5 @@ returns-clause-after g c = at-value g.C.ChipSet.rules (before g c) c.args.self.n
 
 pub returns-clause-stands : goal.returns-clause-stands
 returns-clause-stands g c =
-    stands-core g.C.ChipSet.rules g.C.ChipSet.chip_ok g.C.ChipSet.shared_ok (g.met.C.ChipSet g.world.𝓛 g.world.𝓜 g.world.𝓡 ((λ s x. x), (λ x. x), (λ x. x), (λ x. x))).lawful
+    stands-core g.C.ChipSet.rules g.C.ChipSet.chip_ok g.C.ChipSet.shared_ok g.met.C.ChipSet.lawful
     (before g c) c.args.self.now (now g c) c.self.view_is c.self.invariant (Perform c.args.chip) (left g c)

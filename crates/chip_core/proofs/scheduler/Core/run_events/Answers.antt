@@ -7,12 +7,12 @@ use Rattle.chip_core.proofs.scheduler.Core.run_events.Goals as goal
 
 pub returns-then-not-enabled-clause-stands : goal.returns-then-not-enabled-clause-stands
 returns-then-not-enabled-clause-stands g c =
-    led-stands g.C.ChipSet.rules g.C.ChipSet.chip_ok g.C.ChipSet.shared_ok (g.met.C.ChipSet g.world.𝓛 g.world.𝓜 g.world.𝓡 ((λ s x. x), (λ x. x), (λ x. x), (λ x. x))).lawful
+    led-stands g.C.ChipSet.rules g.C.ChipSet.chip_ok g.C.ChipSet.shared_ok g.met.C.ChipSet.lawful
     c.args.self.now c.known.ensures c.args.t c.requires.time c.args.list.now c.loop-i.i c.loop-i.auto.i-end (seen g.C.ChipSet.rules c.loop-i.self) c.loop-i.invariant.led
 
 pub returns-then-not-enabled-clause-few : goal.returns-then-not-enabled-clause-few
 returns-then-not-enabled-clause-few g c =
-    led-few g.C.ChipSet.rules g.C.ChipSet.chip_ok g.C.ChipSet.shared_ok (g.met.C.ChipSet g.world.𝓛 g.world.𝓜 g.world.𝓡 ((λ s x. x), (λ x. x), (λ x. x), (λ x. x))).lawful
+    led-few g.C.ChipSet.rules g.C.ChipSet.chip_ok g.C.ChipSet.shared_ok g.met.C.ChipSet.lawful
     c.args.self.now c.known.ensures c.args.t c.requires.time c.args.list.now c.loop-i.i c.loop-i.auto.i-end (seen g.C.ChipSet.rules c.loop-i.self) c.loop-i.invariant.led
 
 pub returns-then-not-enabled-clause-entered : goal.returns-then-not-enabled-clause-entered
@@ -20,7 +20,7 @@ returns-then-not-enabled-clause-entered g c =
     led-entered g.C.ChipSet.rules c.args.t (seen g.C.ChipSet.rules c.args.self.now) c.args.list.now c.loop-i.i (seen g.C.ChipSet.rules c.loop-i.self) c.loop-i.auto.i-end c.loop-i.invariant.led
 
 pub carry_out-requires-clause-room : goal.carry_out-requires-clause-room
-carry_out-requires-clause-room g c = λ κs b.
+carry_out-requires-clause-room g c =
     let entered = led-entered g.C.ChipSet.rules c.args.t (seen g.C.ChipSet.rules c.args.self.now) c.args.list.now c.loop-i.i (seen g.C.ChipSet.rules c.loop-i.self) c.loop-i.auto.i-end c.loop-i.invariant.led in
     let room = c.requires.room in
     let same = c.loop-i.invariant.room in
@@ -42,12 +42,12 @@ returns-clause-stopped g c = λ e found enabled.
 
 pub returns-clause-stands : goal.returns-clause-stands
 returns-clause-stands g c =
-    led-stands g.C.ChipSet.rules g.C.ChipSet.chip_ok g.C.ChipSet.shared_ok (g.met.C.ChipSet g.world.𝓛 g.world.𝓜 g.world.𝓡 ((λ s x. x), (λ x. x), (λ x. x), (λ x. x))).lawful
+    led-stands g.C.ChipSet.rules g.C.ChipSet.chip_ok g.C.ChipSet.shared_ok g.met.C.ChipSet.lawful
     c.args.self.now c.known.ensures c.args.t c.requires.time c.args.list.now c.loop-i.i c.loop-i.auto.i-end (seen g.C.ChipSet.rules c.loop-i.self) c.loop-i.invariant.led
 
 pub returns-clause-few : goal.returns-clause-few
 returns-clause-few g c = λ from quiet.
-    let few = led-few g.C.ChipSet.rules g.C.ChipSet.chip_ok g.C.ChipSet.shared_ok (g.met.C.ChipSet g.world.𝓛 g.world.𝓜 g.world.𝓡 ((λ s x. x), (λ x. x), (λ x. x), (λ x. x))).lawful
+    let few = led-few g.C.ChipSet.rules g.C.ChipSet.chip_ok g.C.ChipSet.shared_ok g.met.C.ChipSet.lawful
     c.args.self.now c.known.ensures c.args.t c.requires.time c.args.list.now c.loop-i.i c.loop-i.auto.i-end (seen g.C.ChipSet.rules c.loop-i.self) c.loop-i.invariant.led from quiet in
     let ended = c.loop-i-test.false in
     omega arith

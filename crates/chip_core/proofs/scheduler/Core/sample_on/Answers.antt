@@ -8,13 +8,13 @@ use Rattle.chip_core.proofs.scheduler.Core.sample_on.Given.{Over}
 use Rattle.chip_core.proofs.scheduler.Core.sample_on.Goals as goal
 
 pub turn_samples-requires-clause-limit : goal.turn_samples-requires-clause-limit
-turn_samples-requires-clause-limit g c κs within =
+turn_samples-requires-clause-limit g c =
     limit-wider g.C.ChipSet.rules c.args.t cycle_limit c.requires.time (seen g.C.ChipSet.rules c.loop-end.self).bound g.C.ChipSet.rules.count c.args.chip c.limit-end.result c.loop-end.invariant.limit
 
 came : (g : Over) (c : goal.After-turn_samples g)
-    → Sampled g.C.ChipSet.rules g.C.ChipSet.chip_ok g.C.ChipSet.shared_ok (g.met.C.ChipSet g.world.𝓛 g.world.𝓜 g.world.𝓡 ((λ s x. x), (λ x. x), (λ x. x), (λ x. x))).lawful c.args.t c.limit-end.result c.args.chip c.turn_samples.ensures.on.samples (seen g.C.ChipSet.rules c.loop-end.self) (seen g.C.ChipSet.rules c.turn_samples.new.self)
+    → Sampled g.C.ChipSet.rules g.C.ChipSet.chip_ok g.C.ChipSet.shared_ok g.met.C.ChipSet.lawful c.args.t c.limit-end.result c.args.chip c.turn_samples.ensures.on.samples (seen g.C.ChipSet.rules c.loop-end.self) (seen g.C.ChipSet.rules c.turn_samples.new.self)
 came g c =
-    sampled-on g.C.ChipSet.rules g.C.ChipSet.chip_ok g.C.ChipSet.shared_ok (g.met.C.ChipSet g.world.𝓛 g.world.𝓜 g.world.𝓡 ((λ s x. x), (λ x. x), (λ x. x), (λ x. x))).lawful c.args.t c.requires.time (seen g.C.ChipSet.rules c.loop-end.self)
+    sampled-on g.C.ChipSet.rules g.C.ChipSet.chip_ok g.C.ChipSet.shared_ok g.met.C.ChipSet.lawful c.args.t c.requires.time (seen g.C.ChipSet.rules c.loop-end.self)
     (tidy-core g.C.ChipSet.rules g.C.ChipSet.chip_ok g.C.ChipSet.shared_ok c.loop-end.self c.loop-end.invariant.core) c.args.chip c.requires.chip c.limit-end.result c.loop-end.invariant.limit
     (seen g.C.ChipSet.rules c.turn_samples.new.self) c.turn_samples.ensures.on
 

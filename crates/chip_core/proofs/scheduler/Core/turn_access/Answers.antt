@@ -33,7 +33,7 @@ left g c =
 
 pub invariant_of-self : goal.invariant_of-self
 invariant_of-self g c =
-    core-turned g.C.ChipSet.rules g.C.ChipSet.chip_ok g.C.ChipSet.shared_ok (g.met.C.ChipSet g.world.𝓛 g.world.𝓜 g.world.𝓡 ((λ s x. x), (λ x. x), (λ x. x), (λ x. x))).lawful
+    core-turned g.C.ChipSet.rules g.C.ChipSet.chip_ok g.C.ChipSet.shared_ok g.met.C.ChipSet.lawful
     (before g c) (now g c) c.self.invariant (Perform c.args.chip) (enabled g c) c.args.chip c.requires.enabled.0
     (length-set c.self.inside.chips.items c.args.chip c.access-entry.new.chip ∙ c.self.invariant.shape.chip_count)
     (length-set c.self.inside.bounds.items c.args.chip c.next-next.result.key ∙ c.self.invariant.shape.bound_count)

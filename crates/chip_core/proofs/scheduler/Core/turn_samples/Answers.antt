@@ -36,7 +36,7 @@ on g c =
 
 core : (g : Over) (c : goal.After-self-2-1 g) → IsCore g.C.ChipSet.rules g.C.ChipSet.chip_ok g.C.ChipSet.shared_ok (now g c)
 core g c =
-    core-sampled g.C.ChipSet.rules g.C.ChipSet.chip_ok g.C.ChipSet.shared_ok (g.met.C.ChipSet g.world.𝓛 g.world.𝓜 g.world.𝓡 ((λ s x. x), (λ x. x), (λ x. x), (λ x. x))).lawful (before g c) (now g c) c.self.invariant c.args.chip c.requires.chip c.args.end.now
+    core-sampled g.C.ChipSet.rules g.C.ChipSet.chip_ok g.C.ChipSet.shared_ok g.met.C.ChipSet.lawful (before g c) (now g c) c.self.invariant c.args.chip c.requires.chip c.args.end.now
     (subst (λ (v : CoreValue g.row.C-Chip.Denot g.row.C-Shared.Denot). IsLimit g.C.ChipSet.rules cycle_limit (seen g.C.ChipSet.rules v).bound g.C.ChipSet.rules.count c.args.chip c.args.end.now) (sym c.self.view_is) c.requires.limit)
     (on g c) (length-set c.self.inside.chips.items c.args.chip c.sample_ahead.new.chip ∙ c.self.invariant.shape.chip_count)
     (length-set c.self.inside.bounds.items c.args.chip c.next-next.result.key ∙ c.self.invariant.shape.bound_count)

@@ -6,7 +6,7 @@ use Rattle.chip_run.proofs.locked.Locked.make.Given.{Over}
 use Rattle.chip_run.proofs.locked.Locked.make.Goals as goal
 
 lawful : (g : Over) → Lawful g.C.ChipSet.rules g.C.ChipSet.chip_ok g.C.ChipSet.shared_ok
-lawful g = (g.met.C.ChipSet g.world.𝓛 g.world.𝓜 g.world.𝓡 ((λ s x. x), (λ x. x), (λ x. x), (λ x. x))).lawful
+lawful g = g.met.C.ChipSet.lawful
 
 pub invariant_of-locked : goal.invariant_of-locked
 invariant_of-locked g c = (
