@@ -28,11 +28,11 @@ use Rattle.m68k_chip.proofs.Laws.{IsLevel, begun-ok, of}
 
 -- ---- a state so many cycles later
 
-abbrev shifted : ℕ → Option ℕ → Option ℕ
+abbrev pub shifted : ℕ → Option ℕ → Option ℕ
 shifted n None = None
 shifted n (Some cycle) = Some (cycle + n)
 
-abbrev later : ℕ → State68 → State68
+abbrev pub later : ℕ → State68 → State68
 later n state = record state { next = state.next + n; start = state.start + n; halted = shifted n state.halted }
 
 rested-shifted : (n end : ℕ) (state : State68) (none : Bool)
@@ -91,7 +91,7 @@ unfolding begun
 begun-shifted cart n state level =
     ap (λ c. begun_with cart (later n state) (cause_of c)) (case-shifted n state level) ∙ with-shifted cart n state (cause_of (case_of state level))
 
-ahead-shifted : (count : ℕ) (cart : List ℕ) (n : ℕ) (state : State68) (level : ℕ) → begun_after count cart (later n state) level ≡ later n (begun_after count cart state level)
+pub ahead-shifted : (count : ℕ) (cart : List ℕ) (n : ℕ) (state : State68) (level : ℕ) → begun_after count cart (later n state) level ≡ later n (begun_after count cart state level)
 unfolding begun_after
 ahead-shifted zero cart n state level = refl
 ahead-shifted (suc count) cart n state level =

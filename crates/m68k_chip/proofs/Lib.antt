@@ -4,6 +4,7 @@ pub mod Kept
 pub mod Iterations
 pub mod Laws
 pub mod Recent
+pub mod Repetitions
 pub mod Rested
 pub mod Resting
 pub mod RuleLaws

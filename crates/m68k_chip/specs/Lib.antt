@@ -3,6 +3,7 @@ pub mod Events
 pub mod Held
 pub mod Iterations
 pub mod Numbers
+pub mod Repetitions
 pub mod Resuming
 pub mod Rules
 pub mod Saved

@@ -3,6 +3,7 @@ ghost use Rattle.md_word.specs.Clock.{cycle_limit};
 
 use crate::case::Case;
 use crate::iteration::{Iteration, Place};
+use crate::repetition::Patience;
 use crate::sequencer::Sequencer;
 use crate::stage::Stage;
 use m68k_exec::{DecodeCache, Progress};
@@ -27,6 +28,8 @@ pub struct Chip68 {
     pub(crate) iteration: Iteration,
     /// A second one, with another answer to the same read.
     pub(crate) other: Iteration,
+    /// When it is looked for whether samples repeat.
+    pub(crate) patience: Patience,
 }
 
 impl Model for Chip68 {
@@ -62,6 +65,7 @@ impl Chip68 {
         let cache = DecodeCache::empty(alloc)?;
         let ram = zeroed(alloc)?;
         let none = Iteration::none();
+        let patience = Patience::new();
         let sequencer = Sequencer::power_on(cart.bytes());
         Ok(Chip68 {
             cart,
@@ -71,6 +75,7 @@ impl Chip68 {
             cache,
             iteration: none,
             other: none,
+            patience,
         })
     }
 

@@ -51,7 +51,7 @@ pub struct Iteration {
     pub rest: u32,
 }
 
-const NO_REGISTERS: Regs = Regs {
+pub const NO_REGISTERS: Regs = Regs {
     d: [0; 8],
     a: [0; 7],
     usp: 0,
@@ -72,7 +72,7 @@ fn cycles_between(from: u64, to: u64) -> Option<u32>
 }
 
 /// Whether registers are the same.
-fn are_same(a: &Regs, b: &Regs) -> bool
+pub fn are_same(a: &Regs, b: &Regs) -> bool
     ensures { IsTrue result → a.now ≡ b.now }
 {
     a.pc == b.pc && a.sr == b.sr && a.usp == b.usp && a.ssp == b.ssp && a.d == b.d && a.a == b.a

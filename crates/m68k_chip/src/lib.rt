@@ -10,6 +10,7 @@ mod iteration;
 mod known;
 mod numbers;
 mod reading;
+mod repetition;
 mod resuming;
 mod sample_ahead;
 mod samples;

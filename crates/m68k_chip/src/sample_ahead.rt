@@ -68,6 +68,9 @@ impl Chip68 {
         self.sample(pins);
         let mut samples = 1;
         while self.samples_below(end) {
+            if self.looks(samples) {
+                return self.sample_repeating(samples, pins, end);
+            }
             self.sample(pins);
             samples += 1;
         }
@@ -117,7 +120,7 @@ impl Chip68 {
 
     /// Whether the next event is a sample below a cycle.
     #[tactic(auto, unfolding(crate::specs::States::next_of))]
-    fn samples_below(&self, end: u64) -> bool
+    pub(crate) fn samples_below(&self, end: u64) -> bool
         ensures value { IsTrue result ↔ ((next_of self.now.state).sample ≡ true) × (self.now.state.next < end) }
         ensures valid { IsChip68 self.now }
     {

@@ -6,6 +6,7 @@ ghost use Rattle.m68k_chip.specs.States.{State68};
 use crate::chip::Chip68;
 use crate::iteration::Iteration;
 use crate::known::{known_next, known_regs};
+use crate::repetition::Patience;
 use crate::saved::{CHIP_SIZE, RAM, Saved68};
 use m68k_exec::{DecodeCache, Progress};
 use md_fields::put;
@@ -61,6 +62,7 @@ impl Chip68 {
                 let cache = DecodeCache::empty(alloc)?;
                 let ram = copied(alloc, bytes)?;
                 let none = Iteration::none();
+                let patience = Patience::new();
                 Ok(Chip68 {
                     cart,
                     ram,
@@ -69,6 +71,7 @@ impl Chip68 {
                     cache,
                     iteration: none,
                     other: none,
+                    patience,
                 })
             }
             Err(place) => Err(Unspell::Rule {
