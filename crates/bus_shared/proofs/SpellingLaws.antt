@@ -28,7 +28,7 @@ use Rattle.vdp_ports.specs.Spelling as vdp_spelling
 use Rattle.vdp_ports.specs.Spelling.{vdp_size}
 use Rattle.vdp_ports.specs.Vdp.{Vdp}
 use Rattle.vdp_ports.proofs.SavedLaws as vdp_laws
-use Rattle.z80_parcel.specs.Parcels.{IsStore, Store}
+use Rattle.z80_parcel.specs.Parcels.{IsStore, Store, ram_size}
 use Rattle.z80_parcel.specs.Spelling.{store_fields}
 use Rattle.bus_shared.specs.Board.{Board}
 use Rattle.bus_shared.specs.Saved.{board_from, lines_fields, lines_of}
@@ -355,21 +355,21 @@ ports_after at far fm psg lines =
     (moved_from (0 + lines_offset) far (far + lines_offset) (omega arith) (LinesInvalidAt at lines) (λ n. ⊥) (λ n. ⊥) (λ place no. no)))
 
 -- RAM and bank register
-pub held_found : (bytes ram : List ℕ) (bank : ℕ) (store : Store) → IsBytes bytes → length bytes ≡ store_size true → ram ≡ take 8192 bytes → bank ≡ number_at w16 8192 bytes → bank < 512
+pub held_found : (bytes ram : List ℕ) (bank : ℕ) (store : Store) → IsBytes bytes → length bytes ≡ store_size true → ram ≡ take ram_size bytes → bank ≡ number_at w16 ram_size bytes → bank < 512
     → store ≡ record { ram = ram; bank = bank } → (bytes ≡ store_bytes (Some store)) × IsStore store
 unfolding Stand
 held_found bytes ram bank store fits long front back nine is =
-    let parts : store ≡ record { ram = take 8192 bytes; bank = number_at w16 8192 bytes } = is ∙ (λ i. record { ram = front i; bank = back i }) in
-    let there : Stand 0 (store_fields true (Some (record { ram = take 8192 bytes; bank = number_at w16 8192 bytes }))) bytes = (refl, (refl, long)) in (
-      sym (spelled (store_fields true (Some (record { ram = take 8192 bytes; bank = number_at w16 8192 bytes }))) bytes fits there)
+    let parts : store ≡ record { ram = take ram_size bytes; bank = number_at w16 ram_size bytes } = is ∙ (λ i. record { ram = front i; bank = back i }) in
+    let there : Stand 0 (store_fields true (Some (record { ram = take ram_size bytes; bank = number_at w16 ram_size bytes }))) bytes = (refl, (refl, long)) in (
+      sym (spelled (store_fields true (Some (record { ram = take ram_size bytes; bank = number_at w16 ram_size bytes }))) bytes fits there)
           ∙ ap (λ (s : Store). store_bytes (Some s)) (sym parts),
-      subst IsStore (sym parts) (record { ram = omega (arith, length-take 8192 bytes, long); bank = omega (arith, back, nine) }),
+      subst IsStore (sym parts) (record { ram = omega (arith, length-take ram_size bytes, long); bank = omega (arith, back, nine) }),
     )
 
-pub held_right : (bytes : List ℕ) (bank : ℕ) → bank ≡ number_at w16 8192 bytes → bank < 512 → (place : ℕ) → StoreInvalidAt bytes place → ⊥
+pub held_right : (bytes : List ℕ) (bank : ℕ) → bank ≡ number_at w16 ram_size bytes → bank < 512 → (place : ℕ) → StoreInvalidAt bytes place → ⊥
 held_right bytes bank back nine place invalid = absurd (omega (arith, back, nine, invalid.1))
 
-pub held_invalid : (bytes : List ℕ) (bank place : ℕ) → length bytes ≡ store_size true → bank ≡ number_at w16 8192 bytes → 512 ≤ bank → place ≡ 8192 → StoreInvalidAt bytes place
+pub held_invalid : (bytes : List ℕ) (bank place : ℕ) → length bytes ≡ store_size true → bank ≡ number_at w16 ram_size bytes → 512 ≤ bank → place ≡ ram_size → StoreInvalidAt bytes place
 held_invalid bytes bank place long back more e = (omega (arith, long), omega (arith, back, more), e)
 
 -- no bytes keep no RAM

@@ -6,6 +6,7 @@ use Rattle.md_fields.specs.Places.{IsBytes, Stand}
 use Rattle.md_fields.proofs.Items.{kept, not_both, one_place, same}
 use Rattle.md_fields.proofs.Standing.{long_as}
 use Rattle.rom_header.specs.Cartridge.{IsImage}
+use Rattle.m68k_access.specs.Memory.{ram_size}
 use Rattle.m68k_chip.specs.Numbers.{Numbers68, numbers_of, state_from}
 use Rattle.m68k_chip.specs.Resuming.{asks_more}
 use Rattle.m68k_chip.specs.Saved.{chip_fields, fields_by, number_fields}
@@ -63,7 +64,7 @@ module _ (cart : List ℕ) (at : ℕ) (bytes : List ℕ) (n : Numbers68) (fits :
 
   -- a rule fails
   pub breaks : (place : ℕ) → first_invalid 0 (fields_by at true n) ≡ Some place → InvalidAt cart at bytes place
-  breaks place e = inr (record { saved = n; keeps = keeps; first = early 0 place 0x1_0000 n.ram (asks_more cart (state_from n)) (number_fields at n) e })
+  breaks place e = inr (record { saved = n; keeps = keeps; first = early 0 place ram_size n.ram (asks_more cart (state_from n)) (number_fields at n) e })
 
   -- that of work RAM fails, and no other
   pub breaks_ram : first_invalid 0 (fields_by at true n) ≡ None → asks_more cart (state_from n) ≡ false → InvalidAt cart at bytes 178
@@ -72,7 +73,7 @@ module _ (cart : List ℕ) (at : ℕ) (bytes : List ℕ) (n : Numbers68) (fits :
         saved = n;
         keeps = keeps;
         first = subst (λ (b : Bool). first_invalid 0 (fields_by at b n) ≡ Some 178) (sym asks)
-            (last 0 0x1_0000 n.ram (number_fields at n) e ∙ ap (λ (p : ℕ). Some (0 + p)) (numbers_size at n));
+            (last 0 ram_size n.ram (number_fields at n) e ∙ ap (λ (p : ℕ). Some (0 + p)) (numbers_size at n));
       })
 
   pub right : first_invalid 0 (fields_by at true n) ≡ None → asks_more cart (state_from n) ≡ true → IsRight (chip_fields cart at) n
@@ -84,7 +85,7 @@ pub answers_long : (cart : List ℕ) (at : ℕ) (bytes : List ℕ) (n : Numbers6
 unfolding AreWithin
 answers_long cart at bytes n keeps = keeps.within.1.1.1.1.1.1.1.1.1.1.1.1.1.1.1.1.1.1.1.1.1.1.1.1.1.1.1.1.0.0
 
-pub ram_long : (cart : List ℕ) (at : ℕ) (bytes : List ℕ) (n : Numbers68) → Keeps (chip_fields cart at) bytes n → length n.ram ≡ 0x1_0000
+pub ram_long : (cart : List ℕ) (at : ℕ) (bytes : List ℕ) (n : Numbers68) → Keeps (chip_fields cart at) bytes n → length n.ram ≡ ram_size
 unfolding AreWithin
 ram_long cart at bytes n keeps = keeps.within.1.1.1.1.1.1.1.1.1.1.1.1.1.1.1.1.1.1.1.1.1.1.1.1.1.1.1.1.1.1.1.1.0
 

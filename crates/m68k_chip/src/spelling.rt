@@ -7,6 +7,7 @@ use crate::chip::Chip68;
 use crate::iteration::Iteration;
 use crate::known::{known_next, known_regs};
 use crate::saved::{CHIP_SIZE, RAM, Saved68};
+use m68k_access::memory::RAM_SIZE;
 use m68k_exec::{DecodeCache, Progress};
 use md_fields::put;
 use md_word::{NoMemory, Unspell};
@@ -79,11 +80,11 @@ impl Chip68 {
 }
 
 /// Work RAM as it is in the bytes.
-fn copied(alloc: Global, bytes: &[u8]) -> Result<Box<[u8; 65536]>, NoMemory>
+fn copied(alloc: Global, bytes: &[u8]) -> Result<Box<[u8; RAM_SIZE]>, NoMemory>
     requires { length bytes.now ≡ chip_size }
     ensures { IfOk result (λ ram. ram.value ≡ ram_in bytes.now) }
 {
-    let mut ram = Box::new(alloc, [0; 65536])?;
+    let mut ram = Box::new(alloc, [0; RAM_SIZE])?;
     ram.copy_from_slice(&bytes[RAM..CHIP_SIZE]);
     Ok(ram)
 }

@@ -17,7 +17,7 @@ use Rattle.m68k_chip.proofs.SpellingLaws as main_laws
 use Rattle.z80_chip.specs.Saved as saved80
 use Rattle.z80_chip.specs.Spelling as sub
 use Rattle.z80_chip.proofs.SpellingLaws as sub_laws
-use Rattle.z80_parcel.specs.Parcels.{IsStore, Store}
+use Rattle.z80_parcel.specs.Parcels.{IsStore, Store, ram_size}
 use Rattle.vdp_ports.specs.Numbers.{numbers_of, vdp_of}
 use Rattle.vdp_ports.specs.Saved.{vdp_fields}
 use Rattle.vdp_ports.specs.Spelling as video
@@ -150,12 +150,12 @@ store_verdict bytes fits (inl empty) = inl (
     right = λ place invalid. omega (arith, empty, invalid.0);
   },
 )
-store_verdict bytes fits (inr long) = elim (cases_lt (number_at w16 8192 bytes) 512) [
+store_verdict bytes fits (inr long) = elim (cases_lt (number_at w16 ram_size bytes) 512) [
   | inl nine ↦ (
-      let store : Store = record { ram = take 8192 bytes; bank = number_at w16 8192 bytes } in
-      let found = shared_laws.held_found bytes (take 8192 bytes) (number_at w16 8192 bytes) store fits long refl refl nine refl in
-      inl (Some store, record { is = found.0; fits = found.1; right = shared_laws.held_right bytes (number_at w16 8192 bytes) refl nine }))
-  | inr more ↦ inr (8192, shared_laws.held_invalid bytes (number_at w16 8192 bytes) 8192 long refl more refl)
+      let store : Store = record { ram = take ram_size bytes; bank = number_at w16 ram_size bytes } in
+      let found = shared_laws.held_found bytes (take ram_size bytes) (number_at w16 ram_size bytes) store fits long refl refl nine refl in
+      inl (Some store, record { is = found.0; fits = found.1; right = shared_laws.held_right bytes (number_at w16 ram_size bytes) refl nine }))
+  | inr more ↦ inr (ram_size, shared_laws.held_invalid bytes (number_at w16 ram_size bytes) ram_size long refl more refl)
 ]
 
 store_long : (bytes : List ℕ) → shared.IsLength bytes → (length (take (shared.store_length bytes) bytes) ≡ 0) ⊎ (length (take (shared.store_length bytes) bytes) ≡ shared.store_size true)

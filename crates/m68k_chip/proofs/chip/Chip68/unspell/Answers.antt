@@ -2,6 +2,7 @@ use Rattle.std.proofs.Common.{◌≡◌, ℕ, List, drop, arith, Ok, Err, ap, su
 use Rattle.std.specs.Arc.{arc_value}
 use Rattle.std.proofs.lemmas.Result.{err_from_is_err_and}
 use Rattle.md_word.specs.declared.unspell.Unspell.TheVariants.{Rule}
+use Rattle.m68k_access.specs.Memory.{ram_size}
 use Rattle.rom_header.specs.Cartridge.{IsImage}
 use Rattle.m68k_chip.specs.Held.{WaitsFor}
 use Rattle.m68k_chip.specs.Rules.{HasRules}
@@ -57,7 +58,7 @@ returns-in_ok-ram-in-Ok-clause-found c = (refl, subst (Spells (arc_value c.args.
 pub returns-in_ok-ram-in-Ok-clause-recent : goal.returns-in_ok-ram-in-Ok-clause-recent
 returns-in_ok-ram-in-Ok-clause-recent c =
     subst (HasRules c.args.at) (sym (made c)) (record {
-      ram = IsBytes-take 0x1_0000 (drop 178 c.args.bytes.now) (IsBytes-drop 178 c.args.bytes.now (λ i. omega (arith, c.type_inv.bytes i)));
+      ram = IsBytes-take ram_size (drop 178 c.args.bytes.now) (IsBytes-drop 178 c.args.bytes.now (λ i. omega (arith, c.type_inv.bytes i)));
       recent = recent_from (arc_value c.args.cart) c.args.at c.args.bytes.now _ (kept c).spelled;
     })
 
