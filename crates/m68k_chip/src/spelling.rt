@@ -27,8 +27,7 @@ impl Chip68 {
         ensures room { vec_capacity into.old ≤ vec_capacity into.new }
         ensures kept { at ≤ self.now.state.next → HasRules at self.now.state → Spells self.now.cart at (chip_bytes self.now.state) self.now.state }
     {
-        known_regs(&self.sequencer.regs);
-        known_next(&self.sequencer);
+        self.is_read_again();
         put(
             &Saved68::of(&self.sequencer, &self.ram).fields(at, true),
             into,
