@@ -34,7 +34,7 @@ settled_board at board = record board { vdp = settled at board.vdp; fm = fm_spel
 -- how many bytes keep RAM and bank register, by whether the bus has them
 abbrev pub store_size : Bool → ℕ
 store_size false = 0
-store_size true = 8194
+store_size true = ram_size + 2
 
 -- how many bytes keep the lines and the pads
 abbrev pub lines_size : ℕ

@@ -1,5 +1,5 @@
 -- The bytes of a saved state that keep the 68000. This project's profile.
-use Rattle.std.specs.Prelude.{◌≡◌, ℕ, false, true, List, take, drop, Option}
+use Rattle.std.specs.Prelude.{◌≡◌, ℕ, ◌+◌, false, true, List, take, drop, Option}
 use Rattle.md_fields.specs.Fields.{spelling}
 use Rattle.md_fields.specs.Items.{IsRefused, IsRight, Keeps}
 use Rattle.md_word.specs.declared.main_bus.Request68.{Request68}
@@ -12,7 +12,7 @@ use Rattle.m68k_chip.specs.States.{State68}
 
 -- how many bytes there are
 abbrev pub chip_size : ℕ
-chip_size = 65714
+chip_size = 178 + ram_size
 
 -- the bytes that keep a state; the rules, and so the cartridge and the cycle, have no part in them
 abbrev pub chip_bytes : State68 → List ℕ

@@ -18,7 +18,7 @@ use rom_header::Cart;
 use std::marker::Model;
 
 /// How many bytes of a saved state keep a 68000.
-pub const CHIP_SIZE: usize = 65_714;
+pub const CHIP_SIZE: usize = RAM + RAM_SIZE;
 
 /// Where work RAM is among them.
 pub const RAM: usize = 178;
