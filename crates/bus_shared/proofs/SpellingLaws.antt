@@ -13,7 +13,7 @@ use Rattle.md_fields.proofs.Items.{refused_within}
 use Rattle.md_fields.proofs.Flags.{flag_again, flag_back}
 use Rattle.md_fields.proofs.Refusals.{failed}
 use Rattle.md_fields.proofs.Standing.{long_as, long_as_sized, spelled, spelled_stand}
-use Rattle.md_fields.proofs.Values.{refused_once}
+use Rattle.md_fields.proofs.Values.{not_refused, one_saved, refused_once}
 use Rattle.md_word.specs.Coding.{flag_number}
 use Rattle.md_word.specs.declared.unspell.Unspell.{Unspell}
 use Rattle.md_word.specs.declared.unspell.Unspell.TheVariants.{Rule, NoMemory}
@@ -28,13 +28,15 @@ use Rattle.vdp_ports.specs.Spelling as vdp_spelling
 use Rattle.vdp_ports.specs.Spelling.{vdp_size}
 use Rattle.vdp_ports.specs.Vdp.{Vdp}
 use Rattle.vdp_ports.proofs.SavedLaws as vdp_laws
-use Rattle.z80_parcel.specs.Parcels.{IsStore, Store}
+use Rattle.vdp_ports.proofs.SavedLaws.{table as vdp_table}
+use Rattle.z80_parcel.specs.Parcels.{IsStore, Store, ram_size}
 use Rattle.z80_parcel.specs.Spelling.{store_fields}
 use Rattle.bus_shared.specs.Board.{Board}
 use Rattle.bus_shared.specs.Saved.{board_from, lines_fields, lines_of}
 use Rattle.bus_shared.specs.Spelling.{InvalidAt, InvalidFrom, IsLength, LinesInvalidAt, Parts, PartsInvalidAt, PortsInvalidAt, Spells, StoreInvalidAt, board_size, cut, following, lines_bytes, lines_offset, lines_size, ports_size, store_bytes, store_length, store_size}
 use Rattle.bus_shared.specs.declared.saved_lines.SavedLines.{SavedLines}
 use Rattle.bus_shared.proofs.SavedLaws as lines_laws
+use Rattle.bus_shared.proofs.SavedLaws.{table as lines_table}
 use Rattle.fm_port.specs.PortSpelling.{port_size as fm_size}
 use Rattle.psg_sound.specs.PortSpelling.{port_size as psg_size}
 
@@ -165,12 +167,12 @@ store_right (Some store) ok p invalid =
 none_here : (at : ℕ) (pal : Bool) (start : ℕ) (bytes : List ℕ) (board : Board) (place : ℕ) → Spells at pal bytes board → PartsInvalidAt at pal start (own board) place → ⊥
 none_here at pal start bytes board place p (inl w) = store_right board.store p.store w.0 w.1
 none_here at pal start bytes board place p (inr (none, inl w)) =
-    vdp_laws.right_not_refused at pal (vdp_spelling.vdp_bytes board.vdp) (numbers_of board.vdp) w.0 p.vdp.keeps p.vdp.right w.1
+    not_refused (vdp_table at pal) (vdp_spelling.vdp_bytes board.vdp) (numbers_of board.vdp) p.vdp.keeps p.vdp.right w.0 w.1
 none_here at pal start bytes board place p (inr (none, inr (no_vdp, inl w))) = fm_laws.right_nowhere at (fm_spelling.port_bytes board.fm) board.fm p.fm w.0 w.1
 none_here at pal start bytes board place p (inr (none, inr (no_vdp, inr (no_fm, inl w)))) =
     psg_laws.right_nowhere at (psg_spelling.port_bytes board.psg) board.psg p.psg w.0 w.1
 none_here at pal start bytes board place p (inr (none, inr (no_vdp, inr (no_fm, inr (no_psg, inl w))))) =
-    lines_laws.lines_right at (lines_bytes (lines_of board)) (lines_of board) w.0 p.lines p.right w.1
+    not_refused (lines_table at) (lines_bytes (lines_of board)) (lines_of board) p.lines p.right w.0 w.1
 none_here at pal start bytes board place p (inr (none, inr (no_vdp, inr (no_fm, inr (no_psg, inr w))))) = w.1
 
 pub right_nowhere : (at : ℕ) (pal : Bool) (bytes : List ℕ) (board : Board) → Spells at pal bytes board → (place : ℕ) → InvalidAt at pal bytes place → ⊥
@@ -193,10 +195,10 @@ store_once bytes p q a b = a.2 ∙ sym b.2
 parts_once : (at : ℕ) (pal : Bool) (start : ℕ) (parts : Parts) (p q : ℕ) → PartsInvalidAt at pal start parts p → PartsInvalidAt at pal start parts q → p ≡ q
 parts_once at pal start parts =
     from_once 0 _ _ (store_once parts.store)
-    (from_once start _ _ (vdp_laws.only_place at pal parts.vdp)
+    (from_once start _ _ (refused_once (vdp_table at pal) parts.vdp)
     (from_once (start + vdp_size) _ _ (refused_once (fm_table at) parts.fm)
     (from_once (start + vdp_size + fm_size) _ _ (refused_once (psg_table at) parts.psg)
-    (from_once (start + vdp_size + lines_offset) _ _ (lines_laws.lines_once at parts.lines) (λ p q a b. absurd a)))))
+    (from_once (start + vdp_size + lines_offset) _ _ (refused_once (lines_table at) parts.lines) (λ p q a b. absurd a)))))
 
 pub invalid_once : (at : ℕ) (pal : Bool) (bytes : List ℕ) (p q : ℕ) → InvalidAt at pal bytes p → InvalidAt at pal bytes q → p ≡ q
 invalid_once at pal bytes p q (inl a) (inl b) = a.1 ∙ sym b.1
@@ -233,7 +235,7 @@ spelled_once at pal bytes s t p q recording =
     let psg = psg_laws.spelled_once at _ s.psg t.psg p.psg (subst (λ (l : List ℕ). psg_spelling.SpellsPort at l t.psg) (sym (ap (λ (x : Parts). x.psg) parts)) q.psg) in
     let store = store_same s.store t.store p.store q.store (ap (λ (x : Parts). x.store) parts) in
     let lines : lines_of s ≡ lines_of t =
-    lines_laws.one_lines at _ (lines_of s) (lines_of t) p.lines (subst (λ (l : List ℕ). Keeps (lines_fields at) l (lines_of t)) (sym (ap (λ (x : Parts). x.lines) parts)) q.lines) in
+    one_saved (lines_table at) _ (lines_of s) (lines_of t) p.lines (subst (λ (l : List ℕ). Keeps (lines_fields at) l (lines_of t)) (sym (ap (λ (x : Parts). x.lines) parts)) q.lines) in
     let request = flag_same s.request t.request (ap (λ (n : SavedLines). eqb n.bus_request 1) lines) in
     let reset = flag_same s.reset t.reset (ap (λ (n : SavedLines). eqb n.reset 1) lines) in
     λ i. record {
@@ -355,21 +357,21 @@ ports_after at far fm psg lines =
     (moved_from (0 + lines_offset) far (far + lines_offset) (omega arith) (LinesInvalidAt at lines) (λ n. ⊥) (λ n. ⊥) (λ place no. no)))
 
 -- RAM and bank register
-pub held_found : (bytes ram : List ℕ) (bank : ℕ) (store : Store) → IsBytes bytes → length bytes ≡ store_size true → ram ≡ take 8192 bytes → bank ≡ number_at w16 8192 bytes → bank < 512
+pub held_found : (bytes ram : List ℕ) (bank : ℕ) (store : Store) → IsBytes bytes → length bytes ≡ store_size true → ram ≡ take ram_size bytes → bank ≡ number_at w16 ram_size bytes → bank < 512
     → store ≡ record { ram = ram; bank = bank } → (bytes ≡ store_bytes (Some store)) × IsStore store
 unfolding Stand
 held_found bytes ram bank store fits long front back nine is =
-    let parts : store ≡ record { ram = take 8192 bytes; bank = number_at w16 8192 bytes } = is ∙ (λ i. record { ram = front i; bank = back i }) in
-    let there : Stand 0 (store_fields true (Some (record { ram = take 8192 bytes; bank = number_at w16 8192 bytes }))) bytes = (refl, (refl, long)) in (
-      sym (spelled (store_fields true (Some (record { ram = take 8192 bytes; bank = number_at w16 8192 bytes }))) bytes fits there)
+    let parts : store ≡ record { ram = take ram_size bytes; bank = number_at w16 ram_size bytes } = is ∙ (λ i. record { ram = front i; bank = back i }) in
+    let there : Stand 0 (store_fields true (Some (record { ram = take ram_size bytes; bank = number_at w16 ram_size bytes }))) bytes = (refl, (refl, long)) in (
+      sym (spelled (store_fields true (Some (record { ram = take ram_size bytes; bank = number_at w16 ram_size bytes }))) bytes fits there)
           ∙ ap (λ (s : Store). store_bytes (Some s)) (sym parts),
-      subst IsStore (sym parts) (record { ram = omega (arith, length-take 8192 bytes, long); bank = omega (arith, back, nine) }),
+      subst IsStore (sym parts) (record { ram = omega (arith, length-take ram_size bytes, long); bank = omega (arith, back, nine) }),
     )
 
-pub held_right : (bytes : List ℕ) (bank : ℕ) → bank ≡ number_at w16 8192 bytes → bank < 512 → (place : ℕ) → StoreInvalidAt bytes place → ⊥
+pub held_right : (bytes : List ℕ) (bank : ℕ) → bank ≡ number_at w16 ram_size bytes → bank < 512 → (place : ℕ) → StoreInvalidAt bytes place → ⊥
 held_right bytes bank back nine place invalid = absurd (omega (arith, back, nine, invalid.1))
 
-pub held_invalid : (bytes : List ℕ) (bank place : ℕ) → length bytes ≡ store_size true → bank ≡ number_at w16 8192 bytes → 512 ≤ bank → place ≡ 8192 → StoreInvalidAt bytes place
+pub held_invalid : (bytes : List ℕ) (bank place : ℕ) → length bytes ≡ store_size true → bank ≡ number_at w16 ram_size bytes → 512 ≤ bank → place ≡ ram_size → StoreInvalidAt bytes place
 held_invalid bytes bank place long back more e = (omega (arith, long), omega (arith, back, more), e)
 
 -- no bytes keep no RAM

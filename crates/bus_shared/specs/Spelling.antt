@@ -18,7 +18,7 @@ use Rattle.vdp_dma.specs.Settling.{settled}
 use Rattle.vdp_ports.specs.Rules.{HasRules}
 use Rattle.vdp_ports.specs.Spelling as vdp_spelling
 use Rattle.vdp_ports.specs.Spelling.{vdp_size}
-use Rattle.z80_parcel.specs.Parcels.{IsStore, Store}
+use Rattle.z80_parcel.specs.Parcels.{IsStore, Store, ram_size}
 use Rattle.z80_parcel.specs.Spelling.{store_fields}
 use Rattle.bus_shared.specs.Board.{Board}
 use Rattle.bus_shared.specs.Saved.{lines_fields, lines_of}
@@ -34,7 +34,7 @@ settled_board at board = record board { vdp = settled at board.vdp; fm = fm_spel
 -- how many bytes keep RAM and bank register, by whether the bus has them
 abbrev pub store_size : Bool → ℕ
 store_size false = 0
-store_size true = 8194
+store_size true = ram_size + 2
 
 -- how many bytes keep the lines and the pads
 abbrev pub lines_size : ℕ
@@ -129,7 +129,7 @@ following start NoMemory = NoMemory
 
 -- a bank register has nine bits
 abbrev pub StoreInvalidAt : List ℕ → ℕ → Type 0
-StoreInvalidAt bytes place = (0 < length bytes) × (512 ≤ number_at w16 8192 bytes) × (place ≡ 8192)
+StoreInvalidAt bytes place = (0 < length bytes) × (512 ≤ number_at w16 ram_size bytes) × (place ≡ ram_size)
 
 -- bytes that keep no lines and pads are invalid at this offset
 abbrev pub LinesInvalidAt : ℕ → List ℕ → ℕ → Type 0

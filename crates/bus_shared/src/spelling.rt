@@ -20,10 +20,10 @@ use std::alloc::Global;
 use std::sync::Arc;
 use vdp_dma::{is_read_again, spell};
 use vdp_ports::{VDP_SIZE, VdpState};
-use z80_parcel::{BANKS, parcel_of, put_store};
+use z80_parcel::{BANKS, RAM_SIZE, parcel_of, put_store};
 
 /// Where the bank register is, after the RAM.
-const BANK: usize = 8_192;
+const BANK: usize = RAM_SIZE;
 
 /// How many bytes of a saved state keep the Z80's RAM and its bank register.
 pub const STORE_SIZE: usize = BANK + 2;

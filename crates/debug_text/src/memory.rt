@@ -3,7 +3,7 @@ ghost use Rattle.m68k_access.specs.Memory as seen;
 ghost use Rattle.md_disasm.specs.Appends.{Appends};
 ghost use Rattle.debug_text.specs.Replies as replies;
 
-use m68k_access::memory::word_at;
+use m68k_access::memory::{RAM_SIZE, WORK_RAM, word_at};
 use m68k_decode::{Decoded, decode};
 use md_disasm::{put_marked_byte, put_marked_long, text68};
 use md_word::NoMemory;
@@ -12,21 +12,18 @@ use std::alloc::Global;
 /// The address bus has 24 bits.
 const ADDRESSES: u32 = 0x100_0000;
 
-/// Where work RAM begins, which is repeated up to the last address.
-const WORK_RAM: u32 = 0xe0_0000;
-
 /// The byte that is read where nothing answers.
 const OPEN_BUS: u8 = 0xff;
 
 /// The byte that the 68000 sees at an address without an access that it shares: of the cartridge or
 /// of work RAM, and FFh elsewhere.
 #[tactic(auto, unfolding(m68k_access::specs::Memory::byte_at))]
-fn byte_at(rom: &[u8], ram: &[u8; 65536], address: u32) -> u8
+fn byte_at(rom: &[u8], ram: &[u8; RAM_SIZE], address: u32) -> u8
     ensures { result ≡ seen.byte_at rom.now ram.now (seen.bus_address address) }
 {
     let at = address % ADDRESSES;
     if at >= WORK_RAM {
-        ram[(at % 0x1_0000) as usize]
+        ram[at as usize % RAM_SIZE]
     } else if (at as usize) < rom.len() {
         rom[at as usize]
     } else {
@@ -36,7 +33,7 @@ fn byte_at(rom: &[u8], ram: &[u8; 65536], address: u32) -> u8
 
 /// The word of an instruction at an even address.
 #[tactic(auto, unfolding(m68k_access::specs::Memory::instruction_word))]
-fn instruction_word(rom: &[u8], ram: &[u8; 65536], address: u32) -> u16
+fn instruction_word(rom: &[u8], ram: &[u8; RAM_SIZE], address: u32) -> u16
     requires { address % 2 ≡ 0 }
     ensures { result ≡ seen.instruction_word address (replies.memory_of rom.now ram.now) }
 {
@@ -45,7 +42,7 @@ fn instruction_word(rom: &[u8], ram: &[u8; 65536], address: u32) -> u16
 
 /// The instruction at an even address.
 #[tactic(auto, unfolding(m68k_access::specs::Memory::instruction_words))]
-fn instruction_at(rom: &[u8], ram: &[u8; 65536], at: u32) -> Decoded
+fn instruction_at(rom: &[u8], ram: &[u8; RAM_SIZE], at: u32) -> Decoded
     requires even { at % 2 ≡ 0 }
     requires bus { at < 2 ^ 24 }
     ensures value { result ≡ replies.instruction_at rom.now ram.now at }
@@ -83,7 +80,7 @@ fn gap(index: u32) -> &'static str
 pub fn byte_reply(
     alloc: Global,
     rom: &[u8],
-    ram: &[u8; 65536],
+    ram: &[u8; RAM_SIZE],
     at: u32,
     count: u32,
 ) -> Result<String, NoMemory>
@@ -104,7 +101,7 @@ pub fn byte_reply(
 pub fn instruction_reply(
     alloc: Global,
     rom: &[u8],
-    ram: &[u8; 65536],
+    ram: &[u8; RAM_SIZE],
     at: u32,
     count: u32,
 ) -> Result<String, NoMemory>

@@ -17,9 +17,13 @@ bus_address address = address % 0x100_0000
 abbrev pub is_ram : ℕ → Bool
 is_ram at = nat_le 0xe0_0000 at
 
+-- how many bytes work RAM has
+abbrev pub ram_size : ℕ
+ram_size = 0x1_0000
+
 -- the byte of work RAM that an address on the bus names
 abbrev pub ram_place : ℕ → ℕ
-ram_place at = at % 0x1_0000
+ram_place at = at % ram_size
 
 -- a private byte: in work RAM, in the cartridge, or FFh
 unfoldable pub byte_at : List ℕ → List ℕ → ℕ → ℕ

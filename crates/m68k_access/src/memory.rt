@@ -9,6 +9,9 @@ use crate::{Context, Progress};
 /// The first address of the work RAM, which is repeated up to the last address.
 pub const WORK_RAM: u32 = 0xe0_0000;
 
+/// How many bytes work RAM has.
+pub const RAM_SIZE: usize = 65_536;
+
 /// The byte that is read where nothing answers.
 const OPEN_BUS: u8 = 0xff;
 
@@ -23,11 +26,11 @@ pub fn bus_address(address: u32) -> u32
 
 /// A byte outside the shared addresses, before the instruction.
 #[tactic(auto, unfolding(crate::specs::Memory::byte_at))]
-fn byte_at(at: u32, rom: &[u8], ram: &[u8; 65536]) -> u8
+fn byte_at(at: u32, rom: &[u8], ram: &[u8; RAM_SIZE]) -> u8
     ensures { result ≡ memory.byte_at rom.now ram.now at }
 {
     if at >= WORK_RAM {
-        ram[(at % 0x1_0000) as usize]
+        ram[at as usize % RAM_SIZE]
     } else if (at as usize) < rom.len() {
         rom[at as usize]
     } else {
@@ -37,7 +40,7 @@ fn byte_at(at: u32, rom: &[u8], ram: &[u8; 65536]) -> u8
 
 /// A word outside the shared addresses, before the instruction.
 #[tactic(auto, unfolding(crate::specs::Memory::word_at))]
-pub fn word_at(at: u32, rom: &[u8], ram: &[u8; 65536]) -> u16
+pub fn word_at(at: u32, rom: &[u8], ram: &[u8; RAM_SIZE]) -> u16
     requires { at < 0x100_0000 }
     ensures { result ≡ memory.word_at rom.now ram.now at }
 {
@@ -95,13 +98,13 @@ pub fn instruction_words(address: u32, context: &Context) -> [u16; 5]
 }
 
 /// A byte of work RAM as these writes have left it: the latest counts.
-fn ram_byte(at: u32, ram: &[u8; 65536], writes: &[(u32, u8)]) -> u8
+fn ram_byte(at: u32, ram: &[u8; RAM_SIZE], writes: &[(u32, u8)]) -> u8
     ensures { result ≡ slice_index (memory.ram_after ram.now writes.now) (memory.ram_place at) }
 {
-    let place = at % 0x1_0000;
-    let mut byte = ram[place as usize];
+    let place = at as usize % RAM_SIZE;
+    let mut byte = ram[place];
     'writes: for (written, value) in writes {
-        if *written % 0x1_0000 == place {
+        if *written as usize % RAM_SIZE == place {
             byte = *value;
         }
     }

@@ -1,5 +1,6 @@
 ghost use Rattle.std.specs.Prelude.{◌≡◌, []};
 
+use crate::memory::RAM_SIZE;
 use arrayvec::ArrayVec;
 
 /// What stays as it is while an instruction runs.
@@ -8,7 +9,7 @@ pub struct Context<'a> {
     /// The cartridge's image.
     pub rom: &'a [u8],
     /// Work RAM before the instruction.
-    pub ram: &'a [u8; 65536],
+    pub ram: &'a [u8; RAM_SIZE],
     /// What the shared accesses of the instruction have answered so far, in their order.
     pub answers: &'a [u16],
 }

@@ -9,7 +9,7 @@ use Rattle.md_word.specs.declared.main_bus.Answer68.{Answer68}
 use Rattle.md_word.specs.declared.main_bus.Request68.{Request68}
 use Rattle.md_word.specs.declared.main_bus.Transfer.{Transfer}
 use Rattle.rom_header.specs.Cartridge.{IsImage}
-use Rattle.m68k_access.specs.Memory.{ram_after, stored}
+use Rattle.m68k_access.specs.Memory.{ram_after, ram_size, stored}
 use Rattle.m68k_access.specs.Laws.{SameBelow}
 use Rattle.m68k_exec.specs.Sample.Bounds.{IsStatus}
 use Rattle.m68k_exec.specs.Sample.Samples.{Ended}
@@ -59,7 +59,7 @@ chosen state level known = pick state level known state.halted state.trace (nat_
 -- what holds where something is carried out with these answers
 pub record Ready (cart : List ℕ) (state : State68) (cause : ℕ) (answers : List ℕ) : Type 0 where
   pub image : IsImage cart
-  pub ram : length state.ram ≡ 0x1_0000
+  pub ram : length state.ram ≡ ram_size
   pub status : IsStatus state.regs.sr
   pub transfer : IsTransfer state.transfer
   pub running : state.halted ≡ None
@@ -313,7 +313,7 @@ pub power_on-ok : (image : List ℕ) → IsImage image → IsChip68 (of image (p
 unfolding power_on
 power_on-ok image ok = record {
   image = ok;
-  ram = length-replicate {A = ℕ} 65536 0;
+  ram = length-replicate {A = ℕ} ram_size 0;
   status = refl;
   transfer = inl refl;
   halted = tt;

@@ -8,7 +8,7 @@ use Rattle.md_word.specs.declared.main_bus.Answer68.{Answer68}
 use Rattle.md_word.specs.declared.main_bus.Request68.{Request68}
 use Rattle.md_word.specs.declared.main_bus.Request68.TheVariants.{Read8, Read16, Write8, Write16, Ack, Word as TransferWord}
 use Rattle.md_word.specs.declared.main_bus.Transfer.{Transfer}
-use Rattle.m68k_access.specs.Memory.{Memory, ram_after, stored}
+use Rattle.m68k_access.specs.Memory.{Memory, ram_after, ram_size, stored}
 use Rattle.m68k_exec.specs.Sample.Bounds as samples
 use Rattle.m68k_exec.specs.Sample.Samples.{Ended}
 use Rattle.m68k_access.specs.declared.stop.Stop.{Stop}
@@ -153,7 +153,7 @@ answered_rules at v answer ok image kind fits below rules = answered_ruled v.sta
 
 pub power_on_rules : (at : ℕ) (image : List ℕ) → HasRules at (power_on image)
 unfolding power_on
-power_on_rules at image = record { ram = λ k. zero_byte 0x1_0000 k; recent = record { soon = omega arith; begun = tt; since = tt } }
+power_on_rules at image = record { ram = λ k. zero_byte ram_size k; recent = record { soon = omega arith; begun = tt; since = tt } }
 
 began_below_later : (stage : Stage) (at later start : ℕ) → at ≤ later → spec.BeganBelow stage at start → spec.BeganBelow stage later start
 began_below_later Sample at later start le h = tt

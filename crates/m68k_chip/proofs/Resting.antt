@@ -4,6 +4,7 @@ use Rattle.std.specs.Prelude.{if◌then◌else◌}
 use Rattle.std.proofs.lemmas.Bool.Decides.{nat_tests}
 use Rattle.md_word.specs.declared.main_bus.Transfer.{Transfer}
 use Rattle.rom_header.specs.Cartridge.{IsImage}
+use Rattle.m68k_access.specs.Memory.{ram_size}
 use Rattle.m68k_exec.specs.Sample.Bounds.{IsStatus}
 use Rattle.m68k_chip.specs.Events.{at_sample, at_word, rested}
 use Rattle.m68k_chip.specs.Validity.{IsChip68, IsTransfer}
@@ -12,7 +13,7 @@ use Rattle.m68k_chip.specs.States.{State68, none_left}
 -- what holds of a state that is at rest after an end
 pub record CanRest (cart : List ℕ) (state : State68) (end : ℕ) : Type 0 where
   pub image : IsImage cart
-  pub ram : length state.ram ≡ 0x1_0000
+  pub ram : length state.ram ≡ ram_size
   pub status : IsStatus state.regs.sr
   pub transfer : IsTransfer state.transfer
   pub halted : IfSome state.halted (λ since. since < end)

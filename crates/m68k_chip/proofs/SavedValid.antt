@@ -8,6 +8,7 @@ use Rattle.std.proofs.Math.Seq.{take-length}
 use Rattle.md_word.specs.declared.main_bus.Request68.{Request68}
 use Rattle.md_word.specs.declared.main_bus.Request68.TheVariants.{Read8, Read16, Write8, Write16, Ack, Word as TransferWord}
 use Rattle.rom_header.specs.Cartridge.{IsImage}
+use Rattle.m68k_access.specs.Memory.{ram_size}
 use Rattle.m68k_exec.specs.Sample.Samples.{Ended}
 use Rattle.m68k_access.specs.declared.stop.Stop.{Stop}
 use Rattle.m68k_access.specs.declared.stop.Stop.TheVariants.{Ask, Odd}
@@ -205,7 +206,7 @@ halted_by : (at next : ℕ) (b : Bool) (since : ℕ) → cond b (ltb since at) (
 halted_by at next true since e le = let below = ltb-true since at e in omega (arith, below, le)
 halted_by at next false since e le = tt
 
-pub valid : (cart : List ℕ) (at : ℕ) (n : Numbers68) → IsImage cart → length n.ram ≡ 0x1_0000 → length n.answers ≡ 32 → Rules at true n → asks_more cart (state_from n) ≡ true
+pub valid : (cart : List ℕ) (at : ℕ) (n : Numbers68) → IsImage cart → length n.ram ≡ ram_size → length n.answers ≡ 32 → Rules at true n → asks_more cart (state_from n) ≡ true
     → IsChip68 (of cart (state_from n))
 valid cart at n image ram long rules asks =
     let state : State68 = state_from n in

@@ -1,11 +1,13 @@
 -- Laws of the bytes that keep the 68000, and of those that keep none.
 use Rattle.std.proofs.Common.{◌≡◌, ℕ, ◌+◌, Bool, true, false, cond, List, [], ◌∷◌, ◌++◌, length, Option, Some, None, refl, sym, ap, subst, ◌∙◌, inr, arith}
-use Rattle.md_fields.specs.Fields.{AreWithin, Field, block, first_invalid, holds_of, size_of, sizes, spelling}
+use Rattle.md_fields.specs.Fields.{Field, block, first_invalid, holds_of, size_of, sizes, spelling}
 use Rattle.md_fields.specs.Items.{IsRight, Keeps}
 use Rattle.md_fields.specs.Places.{IsBytes, Stand}
-use Rattle.md_fields.proofs.Items.{kept, not_both, one_place, same}
+use Rattle.md_fields.proofs.Items.{kept}
 use Rattle.md_fields.proofs.Standing.{long_as}
+use Rattle.md_fields.proofs.Values.{fit_at, not_refused, read_back, spelled_once}
 use Rattle.rom_header.specs.Cartridge.{IsImage}
+use Rattle.m68k_access.specs.Memory.{ram_size}
 use Rattle.m68k_chip.specs.Numbers.{Numbers68, numbers_of, state_from}
 use Rattle.m68k_chip.specs.Resuming.{asks_more}
 use Rattle.m68k_chip.specs.Saved.{chip_fields, fields_by, number_fields}
@@ -13,7 +15,7 @@ use Rattle.m68k_chip.specs.Validity.{IsChip68}
 use Rattle.m68k_chip.specs.Spelling.{InvalidAt, Spells, chip_size}
 use Rattle.m68k_chip.specs.States.{State68}
 use Rattle.m68k_chip.proofs.Laws.{of}
-use Rattle.m68k_chip.proofs.SavedLaws.{Rules, numbers_back, only_one, rules_of, state_again}
+use Rattle.m68k_chip.proofs.SavedLaws.{Rules, numbers_back, rules_of, state_again, table}
 use Rattle.m68k_chip.proofs.SavedValid.{valid}
 
 -- the bytes do not depend on the rules
@@ -63,7 +65,7 @@ module _ (cart : List ℕ) (at : ℕ) (bytes : List ℕ) (n : Numbers68) (fits :
 
   -- a rule fails
   pub breaks : (place : ℕ) → first_invalid 0 (fields_by at true n) ≡ Some place → InvalidAt cart at bytes place
-  breaks place e = inr (record { saved = n; keeps = keeps; first = early 0 place 0x1_0000 n.ram (asks_more cart (state_from n)) (number_fields at n) e })
+  breaks place e = inr (record { saved = n; keeps = keeps; first = early 0 place ram_size n.ram (asks_more cart (state_from n)) (number_fields at n) e })
 
   -- that of work RAM fails, and no other
   pub breaks_ram : first_invalid 0 (fields_by at true n) ≡ None → asks_more cart (state_from n) ≡ false → InvalidAt cart at bytes 178
@@ -72,7 +74,7 @@ module _ (cart : List ℕ) (at : ℕ) (bytes : List ℕ) (n : Numbers68) (fits :
         saved = n;
         keeps = keeps;
         first = subst (λ (b : Bool). first_invalid 0 (fields_by at b n) ≡ Some 178) (sym asks)
-            (last 0 0x1_0000 n.ram (number_fields at n) e ∙ ap (λ (p : ℕ). Some (0 + p)) (numbers_size at n));
+            (last 0 ram_size n.ram (number_fields at n) e ∙ ap (λ (p : ℕ). Some (0 + p)) (numbers_size at n));
       })
 
   pub right : first_invalid 0 (fields_by at true n) ≡ None → asks_more cart (state_from n) ≡ true → IsRight (chip_fields cart at) n
@@ -81,35 +83,23 @@ module _ (cart : List ℕ) (at : ℕ) (bytes : List ℕ) (n : Numbers68) (fits :
 -- ---- what bytes keep
 
 pub answers_long : (cart : List ℕ) (at : ℕ) (bytes : List ℕ) (n : Numbers68) → Keeps (chip_fields cart at) bytes n → length n.answers ≡ 32
-unfolding AreWithin
-answers_long cart at bytes n keeps = keeps.within.1.1.1.1.1.1.1.1.1.1.1.1.1.1.1.1.1.1.1.1.1.1.1.1.1.1.1.1.0.0
+answers_long cart at bytes n keeps = (fit_at (chip_fields cart at n) keeps.within 28).0
 
-pub ram_long : (cart : List ℕ) (at : ℕ) (bytes : List ℕ) (n : Numbers68) → Keeps (chip_fields cart at) bytes n → length n.ram ≡ 0x1_0000
-unfolding AreWithin
-ram_long cart at bytes n keeps = keeps.within.1.1.1.1.1.1.1.1.1.1.1.1.1.1.1.1.1.1.1.1.1.1.1.1.1.1.1.1.1.1.1.1.0
+pub ram_long : (cart : List ℕ) (at : ℕ) (bytes : List ℕ) (n : Numbers68) → Keeps (chip_fields cart at) bytes n → length n.ram ≡ ram_size
+ram_long cart at bytes n keeps = fit_at (chip_fields cart at n) keeps.within 32
 
 pub spelled_by : (cart : List ℕ) (at : ℕ) (bytes : List ℕ) (n : Numbers68) → Keeps (chip_fields cart at) bytes n → IsRight (chip_fields cart at) n → Spells cart at bytes (state_from n)
 spelled_by cart at bytes n keeps right =
-    let e : numbers_of (state_from n) ≡ n = numbers_back at (asks_more cart (state_from n)) n (answers_long cart at bytes n keeps) (rules_of at (asks_more cart (state_from n)) n right) in
-    record {
-      keeps = subst (Keeps (chip_fields cart at) bytes) (sym e) keeps;
-      right = subst (λ (x : Numbers68). IsRight (chip_fields cart at) x) (sym e) right;
-      regs = record { data_registers = refl; address_registers = refl };
-    }
+    let back : numbers_of (state_from n) ≡ n = numbers_back at (asks_more cart (state_from n)) n (answers_long cart at bytes n keeps) (rules_of at (asks_more cart (state_from n)) n right) in
+    let both = read_back (table cart at) numbers_of state_from bytes n back keeps right in
+    record { keeps = both.0; right = both.1; regs = record { data_registers = refl; address_registers = refl } }
 
 pub no_other : (cart : List ℕ) (at : ℕ) (bytes : List ℕ) (state other : State68) → Spells cart at bytes state → Spells cart at bytes other → state ≡ other
 no_other cart at bytes state other p q =
-    sym (state_again state p.regs)
-    ∙ ap state_from (same (chip_fields cart at) bytes (only_one cart at bytes) (numbers_of state) (numbers_of other) p.keeps q.keeps)
-    ∙ state_again other q.regs
+    spelled_once (table cart at) numbers_of state_from bytes state other (state_again state p.regs) (state_again other q.regs) p.keeps q.keeps
 
 pub right_not_refused : (cart : List ℕ) (at : ℕ) (bytes : List ℕ) (state : State68) (place : ℕ) → Spells cart at bytes state → InvalidAt cart at bytes place → ⊥
-right_not_refused cart at bytes state place p invalid =
-    not_both (chip_fields cart at) bytes (only_one cart at bytes) chip_size (numbers_of state) place p.keeps p.right (fields_size at (asks_more cart (state_from (numbers_of state))) (numbers_of state)) invalid
-
-pub only_place : (cart : List ℕ) (at : ℕ) (bytes : List ℕ) (p q : ℕ) → InvalidAt cart at bytes p → InvalidAt cart at bytes q → p ≡ q
-only_place cart at bytes p q a b =
-    one_place (chip_fields cart at) bytes (only_one cart at bytes) chip_size (λ n. fields_size at (asks_more cart (state_from n)) n) p q a b
+right_not_refused cart at bytes state place p invalid = not_refused (table cart at) bytes (numbers_of state) p.keeps p.right place invalid
 
 pub spelled_long : (cart : List ℕ) (at : ℕ) (bytes : List ℕ) (state : State68) → Spells cart at bytes state → length bytes ≡ chip_size
 spelled_long cart at bytes state p =

@@ -4,6 +4,7 @@ use Rattle.std.specs.Prelude.{◌≡◌, ℕ, ◌==◌, if◌then◌else◌, Lis
 use Rattle.md_fields.specs.Padding.{padded}
 use Rattle.md_word.specs.Coding.{flag_number}
 use Rattle.md_word.specs.declared.regs.Regs.{Regs}
+use Rattle.m68k_access.specs.Memory.{ram_size}
 use Rattle.m68k_chip.specs.States.{State68}
 use Rattle.m68k_chip.specs.declared.stage.Stage.{Stage}
 use Rattle.m68k_chip.specs.declared.stage.Stage.TheVariants.{Sample, Access, Word}
@@ -141,4 +142,4 @@ pub record IsRegs (regs : Regs) : Type 0 where
 pub record AreSizes (regs : Regs) (answers ram : List ℕ) : Type 0 where
   pub of_regs : IsRegs regs
   pub of_answers : length answers ≡ 32
-  pub of_ram : length ram ≡ 0x1_0000
+  pub of_ram : length ram ≡ ram_size

@@ -4,6 +4,7 @@ use Rattle.std.specs.Prelude.{ℕ, ◌+◌, ◌*◌, ◌%◌, ◌==◌, ◌&&◌
 use Rattle.md_fields.specs.Distances.{is_after, is_soon}
 use Rattle.md_fields.specs.Fields.{Field, byte, word, long, quad, words, block}
 use Rattle.md_fields.specs.Padding.{are_zeros}
+use Rattle.m68k_access.specs.Memory.{ram_size}
 use Rattle.m68k_chip.specs.Events.{step}
 use Rattle.m68k_chip.specs.Numbers.{Numbers68, state_from}
 use Rattle.m68k_chip.specs.Resuming.{asks_more}
@@ -86,7 +87,7 @@ number_fields at n =
 
 -- all of them, by whether the rule of work RAM holds
 abbrev pub fields_by : ℕ → Bool → Numbers68 → List Field
-fields_by at holds n = number_fields at n ++ block 0x1_0000 n.ram holds ∷ []
+fields_by at holds n = number_fields at n ++ block ram_size n.ram holds ∷ []
 
 -- what is in a saved state, by the cartridge's image and the cycle of the state
 abbrev pub chip_fields : List ℕ → ℕ → Numbers68 → List Field

@@ -4,6 +4,7 @@ use Rattle.std.specs.Prelude.{ℕ, ◌+◌, ◌*◌, Bool, true, false, List, []
 use Rattle.md_word.specs.declared.event.Next.{Next}
 use Rattle.md_word.specs.declared.main_bus.Transfer.{Transfer}
 use Rattle.md_word.specs.declared.regs.Regs.{Regs}
+use Rattle.m68k_access.specs.Memory.{ram_size}
 use Rattle.m68k_chip.specs.declared.sequencer.Sequencer.{Sequencer}
 use Rattle.m68k_chip.specs.declared.stage.Stage.{Stage}
 use Rattle.m68k_chip.specs.declared.stage.Stage.TheVariants.{Sample, Access, Word}
@@ -85,5 +86,5 @@ power_on image = record {
   cause = 0;
   answers = [];
   transfer = none_left;
-  ram = replicate 0x1_0000 0;
+  ram = replicate ram_size 0;
 }

@@ -6,6 +6,7 @@ use Rattle.md_word.specs.declared.main_bus.Request68.TheVariants.{Read8, Read16,
 use Rattle.md_word.specs.declared.main_bus.Transfer.{Transfer}
 use Rattle.rom_header.specs.Cartridge.{IsImage}
 use Rattle.m68k_exec.specs.Sample.Bounds.{IsStatus}
+use Rattle.m68k_access.specs.Memory.{ram_size}
 use Rattle.m68k_access.specs.declared.stop.Stop.TheVariants.{Ask}
 use Rattle.m68k_chip.specs.Events.{carried_out, step}
 use Rattle.m68k_chip.specs.States.{State68, none_left}
@@ -91,7 +92,7 @@ IsAt Word cart state = IsBetween state × (1 ≤ state.transfer.words)
 -- what holds of each chip
 pub record IsChip68 (value : Chip68Value) : Type 0 where
   pub image : IsImage value.cart
-  pub ram : length value.state.ram ≡ 0x1_0000
+  pub ram : length value.state.ram ≡ ram_size
   pub status : IsStatus value.state.regs.sr
   pub transfer : IsTransfer value.state.transfer
   pub halted : IfSome value.state.halted (λ since. since < value.state.next)

@@ -12,6 +12,7 @@ ghost use Rattle.m68k_chip.specs.declared.stage.Stage.TheVariants.{Access};
 
 use crate::sequencer::{NONE_LEFT, STEP, Sequencer};
 use crate::stage::Stage;
+use m68k_access::memory::RAM_SIZE;
 use m68k_exec::{DecodeCache, Progress, word_at};
 use md_word::{Answer68, Request68, Transfer};
 use rom_header::Cart;
@@ -54,7 +55,7 @@ impl Sequencer {
         &mut self,
         answer: &Answer68,
         cart: &Cart,
-        ram: &mut [u8; 65536],
+        ram: &mut [u8; RAM_SIZE],
         cache: &mut DecodeCache,
         progress: &mut Progress,
     )
@@ -80,7 +81,7 @@ impl Sequencer {
 
     /// The request that waits for its answer at the next event, which is an access.
     #[tactic(auto, unfolding(crate::specs::States::next_of))]
-    pub fn asked(&self, cart: &Cart, ram: &[u8; 65536]) -> Request68
+    pub fn asked(&self, cart: &Cart, ram: &[u8; RAM_SIZE]) -> Request68
         requires access { (next_of (state_of self.now ram.now)).sample ≡ false }
         requires waiting { WaitsFor self.now.stage cart.now (state_of self.now ram.now) self.now.request }
         requires source { self.now.transfer.source < 2 ^ 24 }
@@ -102,7 +103,7 @@ impl Sequencer {
         &mut self,
         answer: &Answer68,
         cart: &Cart,
-        ram: &mut [u8; 65536],
+        ram: &mut [u8; RAM_SIZE],
         cache: &mut DecodeCache,
         progress: &mut Progress,
     )

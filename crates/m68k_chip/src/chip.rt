@@ -1,11 +1,13 @@
 ghost use Rattle.std.specs.Prelude.{◌≡◌, ◌<◌, true, false, replicate, IfOk, IsTrue};
 ghost use Rattle.md_word.specs.Clock.{cycle_limit};
+ghost use Rattle.m68k_access.specs.Memory.{ram_size};
 
 use crate::case::Case;
 use crate::iteration::{Iteration, Place};
 use crate::repetition::Patience;
 use crate::sequencer::Sequencer;
 use crate::stage::Stage;
+use m68k_access::memory::RAM_SIZE;
 use m68k_exec::{DecodeCache, Progress};
 use md_word::{Answer68, Key, Next, NoMemory, Pins68, Regs, Request68};
 use rom_header::Cart;
@@ -20,7 +22,7 @@ use std::sync::Arc;
 #[derive(Drop)]
 pub struct Chip68 {
     pub(crate) cart: Arc<Cart>,
-    pub(crate) ram: Box<[u8; 65536]>,
+    pub(crate) ram: Box<[u8; RAM_SIZE]>,
     pub(crate) sequencer: Sequencer,
     pub(crate) progress: Progress,
     pub(crate) cache: DecodeCache,
@@ -225,7 +227,7 @@ impl Chip68 {
     }
 
     /// The work RAM, which is repeated from E00000h to FFFFFFh.
-    pub fn ram(&self) -> &[u8; 65536]
+    pub fn ram(&self) -> &[u8; RAM_SIZE]
         ensures { result.now ≡ self.now.state.ram }
     {
         &self.ram
@@ -233,10 +235,10 @@ impl Chip68 {
 }
 
 /// The work RAM at power-on.
-fn zeroed(alloc: Global) -> Result<Box<[u8; 65536]>, NoMemory>
-    ensures { IfOk result (λ ram. ram.value ≡ replicate 0x1_0000 0) }
+fn zeroed(alloc: Global) -> Result<Box<[u8; RAM_SIZE]>, NoMemory>
+    ensures { IfOk result (λ ram. ram.value ≡ replicate ram_size 0) }
 {
-    match Box::new(alloc, [0; 65536]) {
+    match Box::new(alloc, [0; RAM_SIZE]) {
         Ok(ram) => Ok(ram),
         Err(_) => Err(NoMemory),
     }

@@ -11,6 +11,7 @@ ghost use Rattle.m68k_chip.specs.States.{state_of};
 
 use crate::sequencer::{STEP, Sequencer};
 use crate::stage::Stage;
+use m68k_access::memory::RAM_SIZE;
 use m68k_exec::{DecodeCache, Finish, Progress, Step, predict_cached};
 use m68k_time::clocks;
 use md_word::Request68;
@@ -18,11 +19,11 @@ use md_word::clock::MAIN_CLOCK;
 use rom_header::Cart;
 
 /// Writes bytes into work RAM, the first of them first.
-fn store_all(writes: &[(u32, u8)], ram: &mut [u8; 65536])
+fn store_all(writes: &[(u32, u8)], ram: &mut [u8; RAM_SIZE])
     ensures { ram.new ≡ ram_after ram.old writes.now }
 {
     'writes: for (address, byte) in writes {
-        ram[(*address % 0x1_0000) as usize] = *byte;
+        ram[*address as usize % RAM_SIZE] = *byte;
     }
 }
 
@@ -69,7 +70,7 @@ impl Sequencer {
         &mut self,
         cause: u8,
         cart: &Cart,
-        ram: &mut [u8; 65536],
+        ram: &mut [u8; RAM_SIZE],
         cache: &mut DecodeCache,
         progress: &mut Progress,
     )

@@ -8,6 +8,7 @@ ghost use Rattle.m68k_chip.specs.States.{state_of};
 use crate::sequencer::Sequencer;
 use crate::stage::Stage;
 use arrayvec::ArrayVec;
+use m68k_access::memory::RAM_SIZE;
 use m68k_exec::{Progress, Step, go};
 use md_word::Request68;
 use rom_header::Cart;
@@ -50,7 +51,7 @@ fn is_answer(request: Option<Request68>, value: u16) -> bool
 
 impl Sequencer {
     /// The request that what is carried out waits for, once it has its first answers.
-    fn asked_after(&self, count: usize, cart: &Cart, ram: &[u8; 65536]) -> Option<Request68>
+    fn asked_after(&self, count: usize, cart: &Cart, ram: &[u8; RAM_SIZE]) -> Option<Request68>
         requires { count ≤ array_vec_len self.now.answers }
         ensures { result ≡ rules.asked_after cart.now (state_of self.now ram.now) count }
     {
@@ -75,7 +76,7 @@ impl Sequencer {
 
     /// Whether each answer is one to the access that waited for it.
     #[tactic(auto, unfolding(crate::specs::Resuming::are_answered))]
-    fn are_answered(&self, cart: &Cart, ram: &[u8; 65536]) -> bool
+    fn are_answered(&self, cart: &Cart, ram: &[u8; RAM_SIZE]) -> bool
         ensures { result ≡ rules.are_answered cart.now (state_of self.now ram.now) (array_vec_len self.now.answers) }
     {
         let mut all = true;
@@ -87,7 +88,7 @@ impl Sequencer {
 
     /// Finds the request that waits for its answer at an access, and keeps it. Tells whether there is
     /// one, and each answer is one to the access that waited for it.
-    fn finds_request(&mut self, cart: &Cart, ram: &[u8; 65536]) -> bool
+    fn finds_request(&mut self, cart: &Cart, ram: &[u8; RAM_SIZE]) -> bool
         ensures value { result ≡ rules.is_waiting cart.now (state_of self.old ram.now) }
         ensures state { (held : List ℕ) → state_of self.new held ≡ state_of self.old held }
         ensures predicted { self.new.predicted ≡ self.old.predicted }
@@ -104,7 +105,7 @@ impl Sequencer {
 
     /// Takes up again what is carried out at an access: the request that waits for its answer is found
     /// again. Answers whether there is one, and each answer is one to the access that waited for it.
-    pub fn resumes(&mut self, cart: &Cart, ram: &[u8; 65536]) -> bool
+    pub fn resumes(&mut self, cart: &Cart, ram: &[u8; RAM_SIZE]) -> bool
         ensures value { result ≡ rules.asks_more cart.now (state_of self.old ram.now) }
         ensures state { (held : List ℕ) → state_of self.new held ≡ state_of self.old held }
         ensures predicted { self.new.predicted ≡ self.old.predicted }

@@ -10,6 +10,7 @@ ghost use Rattle.m68k_chip.specs.States.{state_of};
 
 use crate::case::Case;
 use crate::sequencer::{STEP, Sequencer};
+use m68k_access::memory::RAM_SIZE;
 use m68k_exec::{DecodeCache, Progress};
 use rom_header::Cart;
 
@@ -61,7 +62,7 @@ impl Sequencer {
         &mut self,
         level: u8,
         cart: &Cart,
-        ram: &mut [u8; 65536],
+        ram: &mut [u8; RAM_SIZE],
         cache: &mut DecodeCache,
         progress: &mut Progress,
     )

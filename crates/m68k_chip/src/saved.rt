@@ -1,5 +1,6 @@
 ghost use Rattle.std.specs.Prelude.{◌≡◌, ◌≤◌, ℕ, Bool, false, length, IfErr, IfOk};
 ghost use Rattle.md_fields.specs.Places.{Stand};
+ghost use Rattle.m68k_access.specs.Memory.{ram_size};
 ghost use Rattle.m68k_chip.specs.Numbers.{numbers_of, state_from};
 ghost use Rattle.m68k_chip.specs.Saved.{fields_by};
 ghost use Rattle.m68k_chip.specs.Spelling.{InvalidAt, IsKept, chip_size, ram_in};
@@ -9,6 +10,7 @@ use crate::known::known_regs;
 use crate::numbers::{padded, stage_number, stage_of};
 use crate::resuming::first_answers;
 use crate::sequencer::Sequencer;
+use m68k_access::memory::RAM_SIZE;
 use m68k_exec::Predicted;
 use md_fields::{first_invalid, u8_at, u16_at, u32_at, u64_at, words_at};
 use md_word::{Regs, Transfer};
@@ -16,7 +18,7 @@ use rom_header::Cart;
 use std::marker::Model;
 
 /// How many bytes of a saved state keep a 68000.
-pub const CHIP_SIZE: usize = 65_714;
+pub const CHIP_SIZE: usize = RAM + RAM_SIZE;
 
 /// Where work RAM is among them.
 pub const RAM: usize = 178;
@@ -40,7 +42,7 @@ pub struct Saved68<'a> {
     pub(crate) count: u8,
     pub(crate) answers: [u16; 32],
     pub(crate) transfer: Transfer,
-    pub(crate) ram: &'a [u8; 65536],
+    pub(crate) ram: &'a [u8; RAM_SIZE],
 }
 
 impl<'a> Model for Saved68<'a> {
@@ -90,8 +92,8 @@ impl<'a> Model for Saved68<'a> {
 
 impl<'a> Saved68<'a> {
     /// What is kept of the 68000 between two of its events.
-    pub fn of(sequencer: &Sequencer, ram: &'a [u8; 65536]) -> Saved68<'a>
-        requires { length ram.now ≡ 0x1_0000 }
+    pub fn of(sequencer: &Sequencer, ram: &'a [u8; RAM_SIZE]) -> Saved68<'a>
+        requires { length ram.now ≡ ram_size }
         ensures { result ≡ numbers_of (state_of sequencer.now ram.now) }
     {
         known_regs(&sequencer.regs);
@@ -219,10 +221,10 @@ impl<'a> Saved68<'a> {
 }
 
 /// Work RAM as it is in the bytes.
-fn ram_at(bytes: &[u8]) -> &[u8; 65536]
+fn ram_at(bytes: &[u8]) -> &[u8; RAM_SIZE]
     requires { length bytes.now ≡ chip_size }
     ensures value { result.now ≡ ram_in bytes.now }
-    ensures size { length result.now ≡ 0x1_0000 }
+    ensures size { length result.now ≡ ram_size }
 {
     match bytes[RAM..CHIP_SIZE].as_array() {
         Some(ram) => ram,

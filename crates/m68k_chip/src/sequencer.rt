@@ -1,6 +1,7 @@
 ghost use Rattle.std.specs.Prelude.{◌≡◌, ◌+◌, ◌^◌, ◌<◌, ℕ, List, length, replicate};
 ghost use Rattle.md_word.specs.Clock.{cycle_limit};
 ghost use Rattle.rom_header.specs.Cartridge.{IsImage};
+ghost use Rattle.m68k_access.specs.Memory.{ram_size};
 ghost use Rattle.m68k_chip.specs.Events as events;
 ghost use Rattle.m68k_chip.specs.States.{long_in, power_on, state_of};
 
@@ -68,7 +69,7 @@ impl Sequencer {
     #[tactic(auto, unfolding(crate::specs::States::power_on))]
     pub fn power_on(image: &[u8]) -> Sequencer
         requires { IsImage image.now }
-        ensures { state_of result (replicate 0x1_0000 0) ≡ power_on image.now }
+        ensures { state_of result (replicate ram_size 0) ≡ power_on image.now }
     {
         Sequencer {
             regs: Regs {

@@ -8,6 +8,7 @@ use crate::iteration::Iteration;
 use crate::known::{known_next, known_regs};
 use crate::repetition::Patience;
 use crate::saved::{CHIP_SIZE, RAM, Saved68};
+use m68k_access::memory::RAM_SIZE;
 use m68k_exec::{DecodeCache, Progress};
 use md_fields::put;
 use md_word::{NoMemory, Unspell};
@@ -27,8 +28,7 @@ impl Chip68 {
         ensures room { vec_capacity into.old ≤ vec_capacity into.new }
         ensures kept { at ≤ self.now.state.next → HasRules at self.now.state → Spells self.now.cart at (chip_bytes self.now.state) self.now.state }
     {
-        known_regs(&self.sequencer.regs);
-        known_next(&self.sequencer);
+        self.is_read_again();
         put(
             &Saved68::of(&self.sequencer, &self.ram).fields(at, true),
             into,
@@ -82,11 +82,11 @@ impl Chip68 {
 }
 
 /// Work RAM as it is in the bytes.
-fn copied(alloc: Global, bytes: &[u8]) -> Result<Box<[u8; 65536]>, NoMemory>
+fn copied(alloc: Global, bytes: &[u8]) -> Result<Box<[u8; RAM_SIZE]>, NoMemory>
     requires { length bytes.now ≡ chip_size }
     ensures { IfOk result (λ ram. ram.value ≡ ram_in bytes.now) }
 {
-    let mut ram = Box::new(alloc, [0; 65536])?;
+    let mut ram = Box::new(alloc, [0; RAM_SIZE])?;
     ram.copy_from_slice(&bytes[RAM..CHIP_SIZE]);
     Ok(ram)
 }

@@ -19,7 +19,7 @@ use crate::{Context, Predicted, Progress, Step};
 use arrayvec::ArrayVec;
 use cache::DecodeCache;
 use causes::{instruction, interrupt, trace};
-use m68k_access::memory::instruction_words;
+use m68k_access::memory::{RAM_SIZE, instruction_words};
 use m68k_decode::{Decoded, Op, decode_into};
 use md_word::Regs;
 use rom_header::Cart;
@@ -57,7 +57,7 @@ fn sample(
 fn run(
     regs: &mut Regs,
     cart: &Cart,
-    ram: &[u8; 65536],
+    ram: &[u8; RAM_SIZE],
     answers: &ArrayVec<u16, 32>,
     cause: u8,
     progress: &mut Progress,
@@ -101,7 +101,7 @@ fn run(
 pub fn predict(
     regs: &mut Regs,
     cart: &Cart,
-    ram: &[u8; 65536],
+    ram: &[u8; RAM_SIZE],
     answers: &ArrayVec<u16, 32>,
     cause: u8,
     progress: &mut Progress,
@@ -122,7 +122,7 @@ pub fn predict(
 pub fn go(
     regs: &mut Regs,
     cart: &Cart,
-    ram: &[u8; 65536],
+    ram: &[u8; RAM_SIZE],
     answers: &ArrayVec<u16, 32>,
     cause: u8,
     progress: &mut Progress,
@@ -152,7 +152,7 @@ pub fn go(
 fn run_cached(
     regs: &mut Regs,
     cart: &Cart,
-    ram: &[u8; 65536],
+    ram: &[u8; RAM_SIZE],
     answers: &ArrayVec<u16, 32>,
     cause: u8,
     cache: &mut DecodeCache,
@@ -193,7 +193,7 @@ fn run_cached(
 pub fn predict_cached(
     regs: &mut Regs,
     cart: &Cart,
-    ram: &[u8; 65536],
+    ram: &[u8; RAM_SIZE],
     answers: &ArrayVec<u16, 32>,
     cause: u8,
     cache: &mut DecodeCache,

@@ -144,7 +144,7 @@ store_long cart at bytes s p =
     omega (arith, whole, front, parts, size_left (is_some s.store), length-append (number_bytes s) (shared.store_bytes s.store))
 
 -- RAM and bank register of whoever has them
-pub owned_long : (ours theirs : Option Store) → is_some theirs ≡ not (is_some ours) → length (shared.store_bytes ours) ≡ shared.store_size (is_some ours) → length (shared.store_bytes theirs) ≡ shared.store_size (is_some theirs) → length (shared.store_bytes (if is_some ours then ours else theirs)) ≡ 8194
+pub owned_long : (ours theirs : Option Store) → is_some theirs ≡ not (is_some ours) → length (shared.store_bytes ours) ≡ shared.store_size (is_some ours) → length (shared.store_bytes theirs) ≡ shared.store_size (is_some theirs) → length (shared.store_bytes (if is_some ours then ours else theirs)) ≡ shared.store_size true
 owned_long (Some s) theirs e a b = a
 owned_long None (Some s) e a b = b
 owned_long None None e a b = absurd cc

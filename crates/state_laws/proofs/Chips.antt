@@ -8,6 +8,7 @@ use Rattle.md_fields.specs.Fields.{first_invalid}
 use Rattle.md_fields.specs.Items.{IsRight, Keeps}
 use Rattle.md_fields.specs.Places.{IsBytes, number_at}
 use Rattle.md_fields.proofs.Standing.{IsBytes-drop, IsBytes-take}
+use Rattle.md_fields.proofs.Values.{not_refused}
 use Rattle.md_pads.specs.Recording.{Recorded}
 use Rattle.m68k_chip.specs.Resuming.{asks_more as main_asks_more}
 use Rattle.m68k_chip.specs.Numbers.{state_from as main_from}
@@ -17,12 +18,13 @@ use Rattle.m68k_chip.proofs.SpellingLaws as main_laws
 use Rattle.z80_chip.specs.Saved as saved80
 use Rattle.z80_chip.specs.Spelling as sub
 use Rattle.z80_chip.proofs.SpellingLaws as sub_laws
-use Rattle.z80_parcel.specs.Parcels.{IsStore, Store}
+use Rattle.z80_parcel.specs.Parcels.{IsStore, Store, ram_size}
 use Rattle.vdp_ports.specs.Numbers.{numbers_of, vdp_of}
 use Rattle.vdp_ports.specs.Saved.{vdp_fields}
 use Rattle.vdp_ports.specs.Spelling as video
 use Rattle.vdp_ports.specs.Vdp.{Vdp}
 use Rattle.vdp_ports.proofs.SavedLaws as video_laws
+use Rattle.vdp_ports.proofs.SavedLaws.{table as video_table}
 use Rattle.vdp_chip.specs.Saved as saved_renderer_state
 use Rattle.vdp_chip.specs.Spelling as renderer_state
 use Rattle.vdp_chip.proofs.SavedLaws as renderer_state_laws
@@ -41,7 +43,7 @@ use Rattle.bus_shared.specs.Board.{Board}
 use Rattle.bus_shared.specs.Saved.{board_from, lines_fields}
 use Rattle.bus_shared.specs.Spelling as shared
 use Rattle.bus_shared.specs.declared.saved_lines.SavedLines.{SavedLines}
-use Rattle.bus_shared.proofs.SavedLaws as lines_laws
+use Rattle.bus_shared.proofs.SavedLaws.{table as lines_table}
 use Rattle.bus_shared.proofs.SpellingLaws as shared_laws
 use Rattle.state_laws.proofs.Numbers.{main_there, sub_there, video_there, renderer_state_there, fm_port_there, psg_there, lines_there}
 use Rattle.state_laws.proofs.Deciding.{Verdict, fields_validated, sized}
@@ -150,12 +152,12 @@ store_verdict bytes fits (inl empty) = inl (
     right = λ place invalid. omega (arith, empty, invalid.0);
   },
 )
-store_verdict bytes fits (inr long) = elim (cases_lt (number_at w16 8192 bytes) 512) [
+store_verdict bytes fits (inr long) = elim (cases_lt (number_at w16 ram_size bytes) 512) [
   | inl nine ↦ (
-      let store : Store = record { ram = take 8192 bytes; bank = number_at w16 8192 bytes } in
-      let found = shared_laws.held_found bytes (take 8192 bytes) (number_at w16 8192 bytes) store fits long refl refl nine refl in
-      inl (Some store, record { is = found.0; fits = found.1; right = shared_laws.held_right bytes (number_at w16 8192 bytes) refl nine }))
-  | inr more ↦ inr (8192, shared_laws.held_invalid bytes (number_at w16 8192 bytes) 8192 long refl more refl)
+      let store : Store = record { ram = take ram_size bytes; bank = number_at w16 ram_size bytes } in
+      let found = shared_laws.held_found bytes (take ram_size bytes) (number_at w16 ram_size bytes) store fits long refl refl nine refl in
+      inl (Some store, record { is = found.0; fits = found.1; right = shared_laws.held_right bytes (number_at w16 ram_size bytes) refl nine }))
+  | inr more ↦ inr (ram_size, shared_laws.held_invalid bytes (number_at w16 ram_size bytes) ram_size long refl more refl)
 ]
 
 store_long : (bytes : List ℕ) → shared.IsLength bytes → (length (take (shared.store_length bytes) bytes) ≡ 0) ⊎ (length (take (shared.store_length bytes) bytes) ≡ shared.store_size true)
@@ -192,10 +194,10 @@ parts_verdict : (at : ℕ) (pal : Bool) (start : ℕ) (parts : shared.Parts) →
     → PartsKept at pal parts ⊎ ((place : ℕ) × shared.PartsInvalidAt at pal start parts place)
 parts_verdict at pal start parts fits long =
     chained 0 (shared.StoreInvalidAt parts.store) _ (store_verdict parts.store fits.store long) (λ kept. kept.1.right)
-    (chained start (video.InvalidAt at pal parts.vdp) _ (video_verdict at pal parts.vdp fits.vdp) (λ kept place. video_laws.right_not_refused at pal parts.vdp (numbers_of kept.0) place kept.1.keeps kept.1.right)
+    (chained start (video.InvalidAt at pal parts.vdp) _ (video_verdict at pal parts.vdp fits.vdp) (λ kept. not_refused (video_table at pal) parts.vdp (numbers_of kept.0) kept.1.keeps kept.1.right)
     (chained _ (fm_port.PortInvalidAt at parts.fm) _ (fm_port_verdict at parts.fm fits.fm) (λ kept. fm_port_laws.right_nowhere at parts.fm kept.0 kept.1)
     (chained _ (psg_port.PortInvalidAt at parts.psg) _ (psg_port_verdict at parts.psg fits.psg) (λ kept. psg_port_laws.right_nowhere at parts.psg kept.0 kept.1)
-    (chained _ (shared.LinesInvalidAt at parts.lines) (λ place. ⊥) (lines_verdict at parts.lines fits.lines) (λ kept place. lines_laws.lines_right at parts.lines kept.0 place kept.1.0 kept.1.1) (inl tt)))))
+    (chained _ (shared.LinesInvalidAt at parts.lines) (λ place. ⊥) (lines_verdict at parts.lines fits.lines) (λ kept. not_refused (lines_table at) parts.lines kept.0 kept.1.0 kept.1.1) (inl tt)))))
 
 cut_bytes : (bytes : List ℕ) → IsBytes bytes → AreBytes (shared.cut bytes)
 cut_bytes bytes fits =

@@ -9,6 +9,7 @@ use Rattle.md_word.specs.declared.unspell.Unspell.TheVariants.{NoMemory, Rule}
 use Rattle.md_pads.specs.Recording.{Recorded}
 use Rattle.m68k_chip.specs.Spelling as main
 use Rattle.m68k_chip.specs.Validity.{Chip68Value}
+use Rattle.m68k_chip.proofs.SavedLaws.{table as main_table}
 use Rattle.m68k_chip.proofs.SpellingLaws as main_laws
 use Rattle.z80_chip.specs.Saved.{kept_of}
 use Rattle.z80_chip.specs.Spelling as sub
@@ -18,6 +19,7 @@ use Rattle.z80_chip.proofs.SpellingLaws as sub_laws
 use Rattle.vdp_chip.specs.Saved.{numbers_of}
 use Rattle.vdp_chip.specs.Spelling as renderer_state
 use Rattle.vdp_chip.proofs.SavedLaws as renderer_state_laws
+use Rattle.vdp_chip.proofs.SavedLaws.{table as renderer_state_table}
 use Rattle.fm_chip.specs.SynthSpelling as fm
 use Rattle.md_fields.proofs.Values.{not_refused, refused_once, spelled_once}
 use Rattle.fm_chip.proofs.SynthBytes as fm_laws
@@ -83,7 +85,7 @@ main_decided cart at bytes v =
     decided_by (MainKept cart at bytes) (main.InvalidAt cart at bytes)
     (λ x y k l. (let state = main_laws.no_other cart at bytes x.state y.state k.1 l.1 in λ i. record { cart = (k.0 ∙ sym l.0) i; state = state i }))
     (λ x k place invalid. main_laws.right_not_refused cart at bytes x.state place k.1 invalid)
-    (main_laws.only_place cart at bytes)
+    (refused_once (main_table cart at) bytes)
     (elim v [ inl k ↦ inl (record { cart = cart; state = k.0 }, (refl, k.1)) | inr w ↦ inr w ])
 
 pub main_answered : (cart bytes : List ℕ) → Verdict (main.Spells cart (at_of bytes) (main_bytes bytes)) (main.InvalidAt cart (at_of bytes) (main_bytes bytes)) → Answered (IsMain cart bytes) (MainFails cart bytes)
@@ -146,8 +148,8 @@ renderer_state_decided : (at : ℕ) (pal : Bool) (bytes : List ℕ) → Verdict 
 renderer_state_decided at pal bytes v =
     decided_by (renderer_state.Spells at pal bytes) (renderer_state.InvalidAt at pal bytes)
     (λ x y p q. sym (renderer_state_laws.no_other at pal bytes (numbers_of x) x p.keeps p) ∙ renderer_state_laws.no_other at pal bytes (numbers_of x) y p.keeps q)
-    (λ x p place invalid. renderer_state_laws.right_not_refused at pal bytes (numbers_of x) place p.keeps p.right invalid)
-    (renderer_state_laws.only_place at pal bytes) v
+    (λ x p place invalid. not_refused (renderer_state_table at pal) bytes (numbers_of x) p.keeps p.right place invalid)
+    (refused_once (renderer_state_table at pal) bytes) v
 
 pub renderer_state_answered : (bytes : List ℕ) → Verdict (renderer_state.Spells (at_of bytes) (region_of bytes) (renderer_state_bytes bytes)) (renderer_state.InvalidAt (at_of bytes) (region_of bytes) (renderer_state_bytes bytes)) → Answered (IsPicture bytes) (RendererStateFails bytes)
 renderer_state_answered bytes v =

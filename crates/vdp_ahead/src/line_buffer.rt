@@ -9,7 +9,7 @@ use md_word::NoMemory;
 use std::alloc::Global;
 use std::marker::Model;
 use vdp_planes::{LineView, SCANLINE_LENGTH, SpriteNote, fill_view};
-use vdp_ports::VdpState;
+use vdp_ports::{VRAM_SIZE, VdpState};
 
 /// The scanlines of a picture at most.
 const SCANLINES: usize = 240;
@@ -42,7 +42,7 @@ impl LineBuffer {
         let line_buffer = LineBuffer {
             view: LineView {
                 registers: [0; 24],
-                vram: [0; 65536],
+                vram: [0; VRAM_SIZE],
                 cram: [0; 64],
                 vsram: [0; 40],
                 pal: false,

@@ -7,15 +7,15 @@ use Rattle.std.proofs.lemmas.List.Sums.{AllPass-from_list_all, list_all-from_All
 use Rattle.md_fields.specs.Fields.{AllHold, AreWithin, sizes, spelling}
 use Rattle.md_fields.specs.Items.{IsRight, Keeps}
 use Rattle.md_fields.specs.Padding.{are_zeros}
-use Rattle.md_fields.specs.Places.{Stand}
 use Rattle.md_fields.proofs.Flags.{flag_again, flag_back, flag_byte, flag_small}
-use Rattle.md_fields.proofs.Items.{rules_hold, none_invalid, not_both, one_place, same}
+use Rattle.md_fields.proofs.Items.{none_invalid, rules_hold}
+use Rattle.md_fields.proofs.Values.{Table, list_in, number_in, one_saved, read_back, rule_at, values_at}
 use Rattle.md_word.specs.Clock.{line}
 use Rattle.vdp_chip.specs.RendererState.{RendererState, IsRendererState, undrawn_from}
 use Rattle.md_word.specs.Region.{lines, rows, scanline_length}
 use Rattle.vdp_chip.specs.Picture.{memory_length}
 use Rattle.vdp_chip.specs.Saved.{RendererStateNumbers, renderer_state_fields, renderer_state_of, fields_by, is_picture, numbers_of}
-use Rattle.vdp_chip.specs.Spelling.{InvalidAt, IsDrained, IsReady, Spells, drained, renderer_state_bytes, renderer_state_size}
+use Rattle.vdp_chip.specs.Spelling.{IsDrained, IsReady, Spells, drained, renderer_state_bytes, renderer_state_size}
 use Rattle.vdp_chip.proofs.Lined.{scanline_above}
 
 -- the bytes depend neither on the cycle nor on whether the picture's rule holds
@@ -34,19 +34,20 @@ size_by at holds n = refl
 pub fields_size : (at : ℕ) (pal : Bool) (n : RendererStateNumbers) → sizes (renderer_state_fields at pal n) ≡ renderer_state_size
 fields_size at pal n = size_by at (is_picture at pal n.picture) n
 
--- bytes have one list of numbers only
-pub only_one : (at : ℕ) (pal : Bool) (bytes : List ℕ) (s t : RendererStateNumbers) → Stand 0 (renderer_state_fields at pal s) bytes → Stand 0 (renderer_state_fields at pal t) bytes → s ≡ t
-unfolding Stand
-only_one at pal bytes s t p0 q0 =
-    let p1 = p0.1 in let q1 = q0.1 in
-    let p2 = p1.1 in let q2 = q1.1 in
-    let p3 = p2.1 in let q3 = q2.1 in
-    λ i. record {
-      next = (p0.0 ∙ sym q0.0) i;
-      overflow = (p1.0 ∙ sym q1.0) i;
-      collision = (p2.0 ∙ sym q2.0) i;
-      picture = (p3.0 ∙ sym q3.0) i;
-    }
+-- the fields, and the numbers of their values
+pub table : (at : ℕ) (pal : Bool) → Table renderer_state_size (renderer_state_fields at pal)
+unfolding sizes values_at
+table at pal = record {
+  back = λ values. record {
+    next = number_in values 0;
+    overflow = number_in values 1;
+    collision = number_in values 2;
+    picture = list_in values 3;
+  };
+  again = λ s. refl;
+  alike = λ s t bytes. refl;
+  sized = λ s. refl;
+}
 
 -- a chip is that of its numbers
 renderer_state_again : (d : RendererState) → IsDrained d → renderer_state_of d.pal (numbers_of d) ≡ d
@@ -61,39 +62,29 @@ renderer_state_again d is = λ i. record {
 
 -- the numbers that are right are those of their chip
 numbers_back : (at : ℕ) (pal : Bool) (n : RendererStateNumbers) → IsRight (renderer_state_fields at pal) n → numbers_of (renderer_state_of pal n) ≡ n
-unfolding AllHold
 numbers_back at pal n right =
-    let h = rules_hold 0 (renderer_state_fields at pal n) right in
-    let note = and_parts _ _ h.1.0 in
-    λ i. record {
-      next = n.next;
+    let note = and_parts _ _ (rule_at 0 (renderer_state_fields at pal n) right 1) in
+    λ i. record n {
       overflow = flag_back n.overflow (leb-true n.overflow 1 note.0) i;
       collision = flag_back n.collision (leb-true n.collision 1 note.1) i;
-      picture = n.picture;
     }
 
 -- ---- what bytes keep
 
 pub read_spells : (at : ℕ) (pal : Bool) (bytes : List ℕ) (n : RendererStateNumbers) → Keeps (renderer_state_fields at pal) bytes n → IsRight (renderer_state_fields at pal) n → Spells at pal bytes (renderer_state_of pal n)
 read_spells at pal bytes n keeps right =
-    let e : numbers_of (renderer_state_of pal n) ≡ n = numbers_back at pal n right in
+    let both = read_back (table at pal) numbers_of (renderer_state_of pal) bytes n (numbers_back at pal n right) keeps right in
     record {
-      keeps = subst (Keeps (renderer_state_fields at pal) bytes) (sym e) keeps;
-      right = subst (λ (x : RendererStateNumbers). IsRight (renderer_state_fields at pal) x) (sym e) right;
+      keeps = both.0;
+      right = both.1;
       region = refl;
       drained = record { view = refl; frame = refl };
     }
 
 pub no_other : (at : ℕ) (pal : Bool) (bytes : List ℕ) (n : RendererStateNumbers) (d : RendererState) → Keeps (renderer_state_fields at pal) bytes n → Spells at pal bytes d → renderer_state_of pal n ≡ d
 no_other at pal bytes n d keeps p =
-    ap (renderer_state_of pal) (same (renderer_state_fields at pal) bytes (only_one at pal bytes) n (numbers_of d) keeps p.keeps)
+    ap (renderer_state_of pal) (one_saved (table at pal) bytes n (numbers_of d) keeps p.keeps)
     ∙ ap (λ (b : Bool). renderer_state_of b (numbers_of d)) (sym p.region) ∙ renderer_state_again d p.drained
-
-pub right_not_refused : (at : ℕ) (pal : Bool) (bytes : List ℕ) (n : RendererStateNumbers) (place : ℕ) → Keeps (renderer_state_fields at pal) bytes n → IsRight (renderer_state_fields at pal) n → InvalidAt at pal bytes place → ⊥
-right_not_refused at pal bytes n place keeps right invalid = not_both (renderer_state_fields at pal) bytes (only_one at pal bytes) renderer_state_size n place keeps right (fields_size at pal n) invalid
-
-pub only_place : (at : ℕ) (pal : Bool) (bytes : List ℕ) (p q : ℕ) → InvalidAt at pal bytes p → InvalidAt at pal bytes q → p ≡ q
-only_place at pal bytes p q a b = one_place (renderer_state_fields at pal) bytes (only_one at pal bytes) renderer_state_size (fields_size at pal) p q a b
 
 -- ---- undrawn rows
 

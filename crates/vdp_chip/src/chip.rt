@@ -15,6 +15,7 @@ use md_word::{Key, Next, NoMemory};
 use std::alloc::Global;
 use std::marker::Model;
 use vdp_planes::{Dot, Dots, LineView, Scene, SpriteNote};
+use vdp_ports::VRAM_SIZE;
 use vdp_time::line_of;
 
 /// The number of this chip.
@@ -230,7 +231,7 @@ pub(crate) fn black(alloc: Global) -> Result<Box<[u8; PICTURE]>, NoMemory>
 pub(crate) fn empty_view(alloc: Global, pal: bool) -> Result<Box<LineView>, NoMemory> {
     let view = LineView {
         registers: [0; 24],
-        vram: [0; 65536],
+        vram: [0; VRAM_SIZE],
         cram: [0; 64],
         vsram: [0; 40],
         pal,

@@ -5,7 +5,7 @@ use borrow.Rule.Slice.PartMut.{put_mid}
 use Rattle.md_fields.specs.Fields.{spelling}
 use Rattle.vdp_ports.specs.Dma.{with_rest}
 use Rattle.vdp_ports.specs.Spelling.{vdp_bytes}
-use Rattle.vdp_ports.specs.Vdp.{Vdp}
+use Rattle.vdp_ports.specs.Vdp.{Vdp, vram_size}
 use Rattle.vdp_ports.specs.declared.dma.Rest.{Rest}
 
 -- the part of a list between two others, and another in its place
@@ -26,15 +26,15 @@ length_mid before front old new back e =
     omega (arith, one, two, three, four, length-append old back, length-append new back, e)
 
 -- where the registers and VRAM are as many bytes as they say
-pub vram_there : (before : List ℕ) (s : Vdp) (vram : List ℕ) (rest : Rest) (from k : ℕ) → length s.registers ≡ 24 → length vram ≡ 65536
-    → from ≡ length before + 24 → k ≡ 65536 → take k (drop from (before ++ vdp_bytes (with_rest s vram rest))) ≡ vram
+pub vram_there : (before : List ℕ) (s : Vdp) (vram : List ℕ) (rest : Rest) (from k : ℕ) → length s.registers ≡ 24 → length vram ≡ vram_size
+    → from ≡ length before + 24 → k ≡ vram_size → take k (drop from (before ++ vdp_bytes (with_rest s vram rest))) ≡ vram
 unfolding spelling
 vram_there before s vram rest from k registers whole here size =
     ap (λ (l : List ℕ). take k (drop from l)) (sym (append_assoc before s.registers _))
     ∙ mid_of (before ++ s.registers) vram _ from k (omega (arith, here, registers, length-append before s.registers)) (omega (arith, size, whole))
 
-pub vram_put : (before : List ℕ) (s : Vdp) (old new : List ℕ) (rest : Rest) (from k : ℕ) → length s.registers ≡ 24 → length old ≡ 65536
-    → from ≡ length before + 24 → k ≡ 65536 → put_mid from k (before ++ vdp_bytes (with_rest s old rest)) new ≡ before ++ vdp_bytes (with_rest s new rest)
+pub vram_put : (before : List ℕ) (s : Vdp) (old new : List ℕ) (rest : Rest) (from k : ℕ) → length s.registers ≡ 24 → length old ≡ vram_size
+    → from ≡ length before + 24 → k ≡ vram_size → put_mid from k (before ++ vdp_bytes (with_rest s old rest)) new ≡ before ++ vdp_bytes (with_rest s new rest)
 unfolding spelling
 vram_put before s old new rest from k registers whole here size =
     ap (λ (l : List ℕ). put_mid from k l new) (sym (append_assoc before s.registers _))

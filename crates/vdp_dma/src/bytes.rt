@@ -2,19 +2,17 @@ ghost use Rattle.std.specs.Prelude.{◌≡◌, ◌+◌, ◌*◌, ◌<◌, ◌≤
 ghost use Rattle.md_word.specs.Clock.{cycle_limit};
 ghost use Rattle.vdp_ports.specs.Dma.{with_rest};
 ghost use Rattle.vdp_ports.specs.Spelling.{Spells, vdp_bytes, vdp_size};
-ghost use Rattle.vdp_ports.specs.Vdp.{Vdp};
+ghost use Rattle.vdp_ports.specs.Vdp.{Vdp, vram_size};
 ghost use Rattle.vdp_ports.specs.Pins.{HasSamePins};
 ghost use Rattle.vdp_ports.specs.Rules.{HasRules};
 ghost use Rattle.vdp_ports.specs.Data.{transferred};
 ghost use Rattle.vdp_dma.specs.Settling as meaning;
 
 use vdp_ports::register::INCREMENT;
-use vdp_ports::{COPY, COPY_STEP, FILL_STEP, NO_DMA, Rest, VdpState, other_byte};
+use vdp_ports::{COPY, COPY_STEP, FILL_STEP, NO_DMA, Rest, VRAM_SIZE, VdpState, other_byte};
 
-/// How many bytes of a saved state keep the registers, and how many keep VRAM after them.
+/// How many bytes of a saved state keep the registers. VRAM is after them.
 const REGISTERS: usize = 24;
-
-const VRAM: usize = 65_536;
 
 /// Master cycles from one byte to the next.
 #[tactic(auto, unfolding(crate::specs::Settling::step))]
@@ -43,7 +41,7 @@ fn running(state: &VdpState, k: u32) -> u16
 #[tactic(auto, unfolding(crate::specs::Settling::write))]
 #[inline]
 fn write_of(state: &VdpState, k: u32, vram: &[u8]) -> (u16, u8)
-    requires { length vram.now ≡ 65536 }
+    requires { length vram.now ≡ vram_size }
     ensures address { result.0 ≡ (meaning.write state.now k vram.now).address }
     ensures byte { result.1 ≡ (meaning.write state.now k vram.now).byte }
 {
@@ -173,9 +171,9 @@ pub fn transfer_word(state: &mut VdpState, word: u16)
 #[tactic(auto, unfolding(crate::specs::Settling::vram_after))]
 fn put_into(state: &VdpState, count: u32, vram: &mut [u8])
     requires copy { vram.old ≡ state.now.vram }
-    requires whole { length vram.old ≡ 65536 }
+    requires whole { length vram.old ≡ vram_size }
     ensures value { vram.new ≡ meaning.vram_after state.now count }
-    ensures length { length vram.new ≡ 65536 }
+    ensures length { length vram.new ≡ vram_size }
 {
     for k in 0..count {
         let (address, byte) = write_of(state, k, vram);
@@ -233,7 +231,7 @@ pub fn spell(state: &VdpState, at: u64, into: &mut Vec<u8>)
     is_read_again(state);
     let from = into.len() + REGISTERS;
     state.spell_with(&state.vram, rest_after(state, count), at, into);
-    put_into(state, count, &mut into[from..from + VRAM]);
+    put_into(state, count, &mut into[from..from + VRAM_SIZE]);
 }
 
 /// States that the bytes of this VDP, settled to a cycle, are read again where the rules hold at an earlier

@@ -1,5 +1,6 @@
 -- What stays the same along a line of a plane.
 use Rattle.std.specs.Prelude.{◌≡◌, ℕ, ◌-◌, ◌/◌, ◌%◌, ◌<◌, ◌≤◌, nat_le, nat_lt, if◌then◌else◌}
+use Rattle.vdp_ports.specs.Vdp.{vram_size}
 use Rattle.vdp_planes.specs.declared.scroll.Scroll.{Scroll}
 use Rattle.vdp_planes.specs.declared.window.Split.{Split}
 use Rattle.vdp_planes.specs.declared.view.LineView.{LineView}
@@ -14,7 +15,7 @@ pub record IsScroll (view : LineView) (scroll : Scroll) : Type 0 where
   pub tall : scroll.down ≡ register view 16 / 16 % 4
   pub number : scroll.number ≡ plane_number scroll.second
   pub columns : scroll.by_columns ≡ has_bit (register view 11) 4
-  pub base_below : scroll.base < 65536
+  pub base_below : scroll.base < vram_size
   pub base_even : scroll.base % 2 ≡ 0
   pub shift_most : scroll.shift ≤ 65536
   pub number_below : scroll.number < 2

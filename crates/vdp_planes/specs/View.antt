@@ -4,7 +4,7 @@ use Rattle.md_word.specs.Region.{height, picture_width}
 use Rattle.vdp_planes.specs.Dots.{Dot}
 use Rattle.vdp_planes.specs.declared.view.LineView.{LineView}
 use Rattle.vdp_planes.specs.declared.view.Scene.{Scene}
-use Rattle.vdp_ports.specs.Vdp.{Vdp}
+use Rattle.vdp_ports.specs.Vdp.{Vdp, vram_size}
 
 -- what a scene borrows
 abbrev pub seen : Scene → LineView
@@ -28,7 +28,7 @@ has_bit n place = n / place % 2 == 1
 
 -- the big-endian word of the video memory at an address, which wraps
 unfoldable pub word_at : LineView → ℕ → ℕ
-word_at view a = slice_index view.vram (a % 65536) * 256 + slice_index view.vram ((a + 1) % 65536)
+word_at view a = slice_index view.vram (a % vram_size) * 256 + slice_index view.vram ((a + 1) % vram_size)
 
 -- a dot where nothing is
 abbrev pub clear : Dot

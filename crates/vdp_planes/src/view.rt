@@ -4,8 +4,8 @@ ghost use Rattle.vdp_planes.specs.Dots.{dot_of, word_of};
 
 use md_word::region::height;
 use std::marker::Model;
-use vdp_ports::VdpState;
 use vdp_ports::register::is_shown;
+use vdp_ports::{VRAM_SIZE, VdpState};
 
 /// How many dots a scanline of a picture has. In the 256 mode 32 on each side are borders.
 pub const PICTURE_WIDTH: usize = 320;
@@ -22,7 +22,7 @@ pub type Dots = [Dot; PICTURE_WIDTH];
 #[derive(Drop)]
 pub struct LineView {
     pub registers: [u8; 24],
-    pub vram: [u8; 65536],
+    pub vram: [u8; VRAM_SIZE],
     pub cram: [u16; 64],
     pub vsram: [u16; 40],
     /// Whether the picture is one for PAL.
@@ -35,7 +35,7 @@ pub struct LineView {
 #[derive(Clone, Copy)]
 pub struct Scene<'a> {
     pub registers: &'a [u8; 24],
-    pub vram: &'a [u8; 65536],
+    pub vram: &'a [u8; VRAM_SIZE],
     pub cram: &'a [u16; 64],
     pub vsram: &'a [u16; 40],
     pub pal: bool,

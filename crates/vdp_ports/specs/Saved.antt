@@ -7,6 +7,7 @@ use Rattle.md_fields.specs.Fields.{Field, byte, word, long, quad, words, block}
 use Rattle.md_word.specs.Clock.{line}
 use Rattle.md_word.specs.Coding.{flag_number}
 use Rattle.vdp_ports.specs.Numbers.{VdpNumbers}
+use Rattle.vdp_ports.specs.Vdp.{vram_size}
 
 -- each word has only these bits
 abbrev pub have_only : ℕ → List ℕ → Bool
@@ -48,7 +49,7 @@ is_interval at n = ((n.int_from == 0) && (n.int_to == 0)) || is_begun at n
 abbrev pub vdp_fields : ℕ → Bool → VdpNumbers → List Field
 vdp_fields at pal n =
     block 24 n.registers true
-    ∷ block 0x1_0000 n.vram true
+    ∷ block vram_size n.vram true
     ∷ words 64 n.cram (have_only 0x0eee n.cram)
     ∷ words 40 n.vsram (have_only 0x07ff n.vsram)
     ∷ byte n.pending (nat_le n.pending 1)

@@ -31,10 +31,14 @@ pub record Vdp : Type 0 where
   -- whether the display has 240 lines, which it may have on PAL alone
   pub tall : Bool
 
+-- how many bytes VRAM has
+abbrev pub vram_size : ℕ
+vram_size = 0x1_0000
+
 -- the sizes of the registers and the three memories, which hold of each VDP
 pub record IsVdp (registers vram cram vsram : List ℕ) : Type 0 where
   pub of_registers : length registers ≡ 24
-  pub of_vram : length vram ≡ 0x1_0000
+  pub of_vram : length vram ≡ vram_size
   pub of_cram : length cram ≡ 64
   pub of_vsram : length vsram ≡ 40
 
@@ -50,7 +54,7 @@ is_shown registers = slice_index registers 1 / 64 % 2 == 1
 abbrev pub at_power_on : Bool → Vdp
 at_power_on pal = record {
   registers = replicate 24 0;
-  vram = replicate 0x1_0000 0;
+  vram = replicate vram_size 0;
   cram = replicate 64 0;
   vsram = replicate 40 0;
   pending = false;

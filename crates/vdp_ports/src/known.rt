@@ -1,9 +1,9 @@
 //! What holds of the numbers of every VDP: they fit the bytes that they take.
 ghost use Rattle.std.specs.Prelude.{◌≡◌, ◌^◌, ◌<◌, ℕ, length, slice_index};
-ghost use Rattle.vdp_ports.specs.Vdp.{IsVdp};
+ghost use Rattle.vdp_ports.specs.Vdp.{IsVdp, vram_size};
 
 use crate::dma::Rest;
-use crate::state::VdpState;
+use crate::state::{VRAM_SIZE, VdpState};
 
 /// Each word has two bytes.
 fn known_words(words: &[u16])
@@ -60,8 +60,8 @@ pub fn known_interval(state: &VdpState)
 }
 
 /// Another memory has the size of VRAM.
-pub fn known_size(vram: &[u8; 65536])
-    ensures { length vram.now ≡ 0x1_0000 }
+pub fn known_size(vram: &[u8; VRAM_SIZE])
+    ensures { length vram.now ≡ vram_size }
 {
     let _vram = vram;
 }

@@ -16,4 +16,4 @@ mod state;
 pub use dma::{COPY, COPY_STEP, FILL, FILL_STEP, NO_DMA, Rest};
 pub use memory::other_byte;
 pub use saved::VDP_SIZE;
-pub use state::VdpState;
+pub use state::{VRAM_SIZE, VdpState};

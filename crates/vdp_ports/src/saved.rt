@@ -10,7 +10,7 @@ ghost use Rattle.vdp_ports.specs.Spelling.{vdp_size};
 use crate::data::{COLOUR, SCROLL};
 use crate::dma::{COPY, FILL, Rest};
 use crate::saved_rules::have_only;
-use crate::state::VdpState;
+use crate::state::{VRAM_SIZE, VdpState};
 use md_fields::{Field, first_invalid, u8_at, u16_at, u32_at, u64_at, words_at};
 use md_word::NoMemory;
 use std::alloc::Global;
@@ -22,7 +22,7 @@ pub const VDP_SIZE: usize = 65_813;
 /// The offsets of VRAM and CRAM among them.
 const VRAM: usize = 24;
 
-const CRAM: usize = 65_560;
+const CRAM: usize = VRAM + VRAM_SIZE;
 
 /// How many codes there are.
 const CODES: u8 = 64;
@@ -98,7 +98,7 @@ impl<'a> SavedVdp<'a> {
     }
 
     /// What is kept of a VDP with this memory and this rest of a fill or copy.
-    pub fn with(state: &'a VdpState, vram: &'a [u8; 65536], rest: Rest) -> SavedVdp<'a>
+    pub fn with(state: &'a VdpState, vram: &'a [u8; VRAM_SIZE], rest: Rest) -> SavedVdp<'a>
         ensures { result ≡ numbers_of (with_rest state.now vram.now rest) }
     {
         SavedVdp {
@@ -211,12 +211,12 @@ impl<'a> SavedVdp<'a> {
     pub fn state(&self, alloc: Global, pal: bool) -> Result<VdpState, NoMemory>
         ensures { IfOk result (λ state. state ≡ vdp_of pal self.now) }
     {
-        let mut vram = Box::new(alloc, [0; 65536])?;
+        let mut vram = Box::new(alloc, [0; VRAM_SIZE])?;
         vram.copy_from_slice(self.vram);
         Ok(self.with_vram(vram, pal))
     }
 
-    fn with_vram(&self, vram: Box<[u8; 65536]>, pal: bool) -> VdpState
+    fn with_vram(&self, vram: Box<[u8; VRAM_SIZE]>, pal: bool) -> VdpState
         requires { vram.value ≡ self.now.vram }
         ensures { result ≡ vdp_of pal self.now }
     {

@@ -7,7 +7,7 @@ ghost use Rattle.vdp_ports.specs.Vdp.{Vdp};
 use crate::dma::Rest;
 use crate::known::{known_dma, known_interval, known_memories, known_port, known_rest, known_size};
 use crate::saved::SavedVdp;
-use crate::state::VdpState;
+use crate::state::{VRAM_SIZE, VdpState};
 use md_fields::put;
 use md_word::Unspell;
 use std::alloc::Global;
@@ -38,7 +38,7 @@ impl VdpState {
 
     /// Appends the bytes of a saved state that keep this VDP with another memory and another rest of a
     /// fill or copy, as once it is settled. They are read again where those are settled to the cycle.
-    pub fn spell_with(&self, vram: &[u8; 65536], rest: Rest, at: u64, into: &mut Vec<u8>)
+    pub fn spell_with(&self, vram: &[u8; VRAM_SIZE], rest: Rest, at: u64, into: &mut Vec<u8>)
         requires { vec_len into.old + vdp_size ≤ vec_capacity into.old }
         ensures bytes { into.new.items ≡ into.old.items ++ vdp_bytes (with_rest self.now vram.now rest) }
         ensures length { vec_len into.new ≡ vec_len into.old + vdp_size }

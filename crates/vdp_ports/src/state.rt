@@ -8,6 +8,9 @@ use md_word::NoMemory;
 use std::alloc::Global;
 use std::marker::Model;
 
+/// How many bytes VRAM has.
+pub const VRAM_SIZE: usize = 65_536;
+
 /// The VDP as its ports reach it: registers, memories, the state of the ports, a fill or copy in
 /// progress, and the interrupts. Cycles are master cycles. Source: Genesis Technical Overview, the
 /// VDP; the times of bytes and interrupts are this project's profile.
@@ -17,7 +20,7 @@ use std::marker::Model;
 pub struct VdpState {
     pub registers: [u8; 24],
     /// Patterns, tables of names, the table of sprites and that of horizontal scrolls.
-    pub vram: Box<[u8; 65536]>,
+    pub vram: Box<[u8; VRAM_SIZE]>,
     /// Four palettes of 16 colours: blue in bits 11 to 9, green 7 to 5, red 3 to 1.
     pub cram: [u16; 64],
     /// Vertical scrolls, alternating between plane A and plane B.
@@ -117,8 +120,8 @@ impl VdpState {
 }
 
 /// The VDP at power-on with its VRAM.
-fn with_memory(vram: Box<[u8; 65536]>, pal: bool) -> VdpState
-    requires { vram.value ≡ replicate 0x1_0000 0 }
+fn with_memory(vram: Box<[u8; VRAM_SIZE]>, pal: bool) -> VdpState
+    requires { vram.value ≡ replicate meaning.vram_size 0 }
     ensures { result ≡ at_power_on pal }
 {
     VdpState {
@@ -163,10 +166,10 @@ fn no_scrolls() -> [u16; 40]
 }
 
 /// VRAM at power-on.
-fn zeroed(alloc: Global) -> Result<Box<[u8; 65536]>, NoMemory>
-    ensures { IfOk result (λ vram. vram.value ≡ replicate 0x1_0000 0) }
+fn zeroed(alloc: Global) -> Result<Box<[u8; VRAM_SIZE]>, NoMemory>
+    ensures { IfOk result (λ vram. vram.value ≡ replicate meaning.vram_size 0) }
 {
-    match Box::new(alloc, [0; 65536]) {
+    match Box::new(alloc, [0; VRAM_SIZE]) {
         Ok(vram) => Ok(vram),
         Err(_) => Err(NoMemory),
     }

@@ -6,13 +6,15 @@ use Rattle.std.proofs.lemmas.List.{length-take, nil_from_length}
 use Rattle.std.proofs.Math.Seq.{take-length}
 use Rattle.md_word.specs.declared.sub_bus.Request80.{Request80}
 use Rattle.md_fields.specs.Distances.{is_after, is_soon}
-use Rattle.md_fields.specs.Fields.{AllHold, first_invalid}
+use Rattle.md_fields.specs.Fields.{AllHold, Field, first_invalid, sizes}
 use Rattle.md_fields.specs.Padding.{are_zeros}
 use Rattle.md_fields.specs.Places.{Stand}
 use Rattle.md_fields.proofs.Distances.{after_is}
 use Rattle.md_fields.proofs.Flags.{flag_again, flag_back}
 use Rattle.md_fields.proofs.Items.{rules_hold}
 use Rattle.md_fields.proofs.Padding.{padded_again, padded_back}
+use Rattle.md_fields.proofs.Tables.{none_of}
+use Rattle.md_fields.proofs.Values.{Value, list_in, made_once, number_in, rule_at, stand_rest, values_at}
 use Rattle.rom_header.specs.Cartridge.{IsImage}
 use Rattle.z80_decode.specs.declared.interrupt_mode.InterruptMode.{InterruptMode}
 use Rattle.z80_decode.specs.declared.interrupt_mode.InterruptMode.TheVariants.{Mode0, Mode1, Mode2}
@@ -20,7 +22,7 @@ use Rattle.z80_exec.specs.Sample.Samples.{Ended}
 use Rattle.z80_parcel.specs.Parcels.{IsStore, Store}
 use Rattle.z80_chip.specs.Events.{carried_out, first_step, step}
 use Rattle.z80_parcel.specs.Spelling.{store_fields}
-use Rattle.z80_chip.specs.Saved.{Kept80, are_answers, asks_more, chip_fields, fields_by, is_access, is_bank_right, is_cause, is_holder, is_start, is_waiting, kept_of, mode_number, mode_of, need_of, numbers_of, stage_number, stage_of, state_from}
+use Rattle.z80_chip.specs.Saved.{Kept80, are_answers, asks_more, chip_fields, fields_by, is_access, is_bank_right, is_cause, is_holder, is_start, is_waiting, kept_of, mode_number, mode_of, need_of, number_fields, numbers_of, stage_number, stage_of, state_from}
 use Rattle.z80_chip.specs.Validity.{IsAt, IsChip80}
 use Rattle.z80_chip.specs.States.{State80}
 use Rattle.z80_chip.specs.declared.saved.Saved80.{Saved80}
@@ -37,68 +39,50 @@ same_store p q None (Some t) bytes at other = absurd (omega (arith, at, other.1.
 same_store p q (Some s) None bytes at other = absurd (omega (arith, at.1.1, other))
 same_store p q (Some s) (Some t) bytes at other = λ i. Some (record { ram = (at.0 ∙ sym other.0) i; bank = (at.1.0 ∙ sym other.1.0) i })
 
+-- the numbers of the values of their fields
+abbrev numbers_in : List Value → Saved80
+numbers_in values = record {
+  next = number_in values 0;
+  stage = number_in values 1;
+  start = number_in values 2;
+  af = number_in values 3;
+  bc = number_in values 4;
+  de = number_in values 5;
+  hl = number_in values 6;
+  af2 = number_in values 7;
+  bc2 = number_in values 8;
+  de2 = number_in values 9;
+  hl2 = number_in values 10;
+  ix = number_in values 11;
+  iy = number_in values 12;
+  sp = number_in values 13;
+  pc = number_in values 14;
+  i = number_in values 15;
+  r = number_in values 16;
+  iff1 = number_in values 17;
+  iff2 = number_in values 18;
+  mode = number_in values 19;
+  halted = number_in values 20;
+  after_ei = number_in values 21;
+  resets = number_in values 22;
+  cause = number_in values 23;
+  count = number_in values 24;
+  answers = list_in values 25;
+}
+
 -- the numbers in the bytes are the only ones
+same_numbers : (cart : List ℕ) (at : ℕ) (bytes : List ℕ) (s t : Kept80) → Stand 0 (chip_fields cart at s) bytes → Stand 0 (chip_fields cart at t) bytes → s.numbers ≡ t.numbers
+unfolding values_at
+same_numbers cart at bytes s t p q = made_once numbers_in (chip_fields cart at s) (chip_fields cart at t) bytes p q refl
+
 pub only_one : (cart : List ℕ) (at : ℕ) (bytes : List ℕ) (s t : Kept80) → Stand 0 (chip_fields cart at s) bytes → Stand 0 (chip_fields cart at t) bytes → s ≡ t
-unfolding Stand
-only_one cart at bytes s t p0 q0 =
-    let p1 = p0.1 in let q1 = q0.1 in
-    let p2 = p1.1 in let q2 = q1.1 in
-    let p3 = p2.1 in let q3 = q2.1 in
-    let p4 = p3.1 in let q4 = q3.1 in
-    let p5 = p4.1 in let q5 = q4.1 in
-    let p6 = p5.1 in let q6 = q5.1 in
-    let p7 = p6.1 in let q7 = q6.1 in
-    let p8 = p7.1 in let q8 = q7.1 in
-    let p9 = p8.1 in let q9 = q8.1 in
-    let p10 = p9.1 in let q10 = q9.1 in
-    let p11 = p10.1 in let q11 = q10.1 in
-    let p12 = p11.1 in let q12 = q11.1 in
-    let p13 = p12.1 in let q13 = q12.1 in
-    let p14 = p13.1 in let q14 = q13.1 in
-    let p15 = p14.1 in let q15 = q14.1 in
-    let p16 = p15.1 in let q16 = q15.1 in
-    let p17 = p16.1 in let q17 = q16.1 in
-    let p18 = p17.1 in let q18 = q17.1 in
-    let p19 = p18.1 in let q19 = q18.1 in
-    let p20 = p19.1 in let q20 = q19.1 in
-    let p21 = p20.1 in let q21 = q20.1 in
-    let p22 = p21.1 in let q22 = q21.1 in
-    let p23 = p22.1 in let q23 = q22.1 in
-    let p24 = p23.1 in let q24 = q23.1 in
-    let p25 = p24.1 in let q25 = q24.1 in
-    let p26 = p25.1 in let q26 = q25.1 in
-    let p27 = p26.1 in let q27 = q26.1 in
-    λ i. record {
-      numbers = record {
-        next = (p0.0 ∙ sym q0.0) i;
-        stage = (p1.0 ∙ sym q1.0) i;
-        start = (p2.0 ∙ sym q2.0) i;
-        af = (p3.0 ∙ sym q3.0) i;
-        bc = (p4.0 ∙ sym q4.0) i;
-        de = (p5.0 ∙ sym q5.0) i;
-        hl = (p6.0 ∙ sym q6.0) i;
-        af2 = (p7.0 ∙ sym q7.0) i;
-        bc2 = (p8.0 ∙ sym q8.0) i;
-        de2 = (p9.0 ∙ sym q9.0) i;
-        hl2 = (p10.0 ∙ sym q10.0) i;
-        ix = (p11.0 ∙ sym q11.0) i;
-        iy = (p12.0 ∙ sym q12.0) i;
-        sp = (p13.0 ∙ sym q13.0) i;
-        pc = (p14.0 ∙ sym q14.0) i;
-        i = (p15.0 ∙ sym q15.0) i;
-        r = (p16.0 ∙ sym q16.0) i;
-        iff1 = (p17.0 ∙ sym q17.0) i;
-        iff2 = (p18.0 ∙ sym q18.0) i;
-        mode = (p19.0 ∙ sym q19.0) i;
-        halted = (p20.0 ∙ sym q20.0) i;
-        after_ei = (p21.0 ∙ sym q21.0) i;
-        resets = (p22.0 ∙ sym q22.0) i;
-        cause = (p23.0 ∙ sym q23.0) i;
-        count = (p24.0 ∙ sym q24.0) i;
-        answers = (p25.0 ∙ sym q25.0) i;
-      };
-      store = same_store _ _ s.store t.store bytes p27 q27 i;
-    }
+unfolding sizes
+only_one cart at bytes s t p q =
+    let numbers = same_numbers cart at bytes s t p q in
+    let one = stand_rest 0 (number_fields at (is_some s.store) s.numbers) (store_fields (asks_more cart s) s.store) bytes p in
+    let other = stand_rest 0 (number_fields at (is_some t.store) t.numbers) (store_fields (asks_more cart t) t.store) bytes q in
+    let store = same_store _ _ s.store t.store bytes one other in
+    λ i. record { numbers = numbers i; store = store i }
 
 -- ---- from the numbers to the state and back
 
@@ -142,49 +126,23 @@ pub record Rules (at : ℕ) (holds : Bool) (k : Kept80) : Type 0 where
   pub store : AllHold (store_fields holds k.store)
 
 pub rules_of : (at : ℕ) (holds : Bool) (k : Kept80) → first_invalid 0 (fields_by at holds k) ≡ None → Rules at holds k
-unfolding AllHold
 rules_of at holds k right =
-    let h0 = rules_hold 0 (fields_by at holds k) right in
-    let h1 = h0.1 in
-    let h2 = h1.1 in
-    let h3 = h2.1 in
-    let h4 = h3.1 in
-    let h5 = h4.1 in
-    let h6 = h5.1 in
-    let h7 = h6.1 in
-    let h8 = h7.1 in
-    let h9 = h8.1 in
-    let h10 = h9.1 in
-    let h11 = h10.1 in
-    let h12 = h11.1 in
-    let h13 = h12.1 in
-    let h14 = h13.1 in
-    let h15 = h14.1 in
-    let h16 = h15.1 in
-    let h17 = h16.1 in
-    let h18 = h17.1 in
-    let h19 = h18.1 in
-    let h20 = h19.1 in
-    let h21 = h20.1 in
-    let h22 = h21.1 in
-    let h23 = h22.1 in
-    let h24 = h23.1 in
-    let h25 = h24.1 in
-    let h26 = h25.1 in
-    let h27 = h26.1 in
+    let fs : List Field = number_fields at (is_some k.store) k.numbers in
+    let parts = none_of 0 fs (store_fields holds k.store) right in
+    let rule = rule_at 0 fs parts.0 in
     record {
-      soon = h0.0;
-      stage = leb-true k.numbers.stage 3 h1.0;
-      start = h2.0;
-      iff1 = leb-true k.numbers.iff1 1 h17.0;
-      iff2 = leb-true k.numbers.iff2 1 h18.0;
-      mode = leb-true k.numbers.mode 2 h19.0;
-      halted = leb-true k.numbers.halted 1 h20.0;
-      after_ei = leb-true k.numbers.after_ei 1 h21.0;
-      cause = h23.0;
-      answers = h24.0;
-      holder = h26.0;
-      store = h27;
+      soon = rule 0;
+      stage = leb-true k.numbers.stage 3 (rule 1);
+      start = rule 2;
+      iff1 = leb-true k.numbers.iff1 1 (rule 17);
+      iff2 = leb-true k.numbers.iff2 1 (rule 18);
+      mode = leb-true k.numbers.mode 2 (rule 19);
+      halted = leb-true k.numbers.halted 1 (rule 20);
+      after_ei = leb-true k.numbers.after_ei 1 (rule 21);
+      cause = rule 23;
+      answers = rule 24;
+      holder = rule 26;
+      store = rules_hold (0 + sizes fs) (store_fields holds k.store) parts.1;
     }
 
 -- the numbers that are right are those of their state
@@ -197,31 +155,13 @@ kept_back at holds k four rules =
     let room : s.count ≤ 4 = omega (arith, count) in
     let zeros : are_zeros (drop s.count s.answers) ≡ true = (and_parts _ _ few.1).1 in
     λ j. record {
-      numbers = record {
-        next = s.next;
+      numbers = record s {
         stage = stage_back s.stage rules.stage j;
-        start = s.start;
-        af = s.af;
-        bc = s.bc;
-        de = s.de;
-        hl = s.hl;
-        af2 = s.af2;
-        bc2 = s.bc2;
-        de2 = s.de2;
-        hl2 = s.hl2;
-        ix = s.ix;
-        iy = s.iy;
-        sp = s.sp;
-        pc = s.pc;
-        i = s.i;
-        r = s.r;
         iff1 = flag_back s.iff1 rules.iff1 j;
         iff2 = flag_back s.iff2 rules.iff2 j;
         mode = mode_back s.mode rules.mode j;
         halted = flag_back s.halted rules.halted j;
         after_ei = flag_back s.after_ei rules.after_ei j;
-        resets = s.resets;
-        cause = s.cause;
         count = counted j;
         answers = padded_back 4 s.count s.answers four room zeros j;
       };
@@ -230,35 +170,12 @@ kept_back at holds k four rules =
 
 -- a state is that of its numbers
 pub state_again : (state : State80) → state_from (numbers_of state) state.store ≡ state
-state_again state = λ j. record {
-  next = state.next;
+state_again state = λ j. record state {
   stage = stage_again state.stage j;
-  start = state.start;
-  regs = record {
-    af = state.regs.af;
-    bc = state.regs.bc;
-    de = state.regs.de;
-    hl = state.regs.hl;
-    af2 = state.regs.af2;
-    bc2 = state.regs.bc2;
-    de2 = state.regs.de2;
-    hl2 = state.regs.hl2;
-    ix = state.regs.ix;
-    iy = state.regs.iy;
-    sp = state.regs.sp;
-    pc = state.regs.pc;
-    i = state.regs.i;
-    r = state.regs.r;
-    iff1 = flag_again state.regs.iff1 j;
-    iff2 = flag_again state.regs.iff2 j;
-    mode = mode_again state.regs.mode j;
-  };
+  regs = record state.regs { iff1 = flag_again state.regs.iff1 j; iff2 = flag_again state.regs.iff2 j; mode = mode_again state.regs.mode j };
   halted = flag_again state.halted j;
   after_ei = flag_again state.after_ei j;
-  resets = state.resets;
-  cause = state.cause;
   answers = padded_again 4 state.answers j;
-  store = state.store;
 }
 
 pub count_few : (at : ℕ) (holds : Bool) (k : Kept80) → Rules at holds k → k.numbers.count ≤ 3

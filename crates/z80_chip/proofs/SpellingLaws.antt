@@ -4,7 +4,7 @@ use Rattle.std.specs.Int.{w16}
 use Rattle.std.proofs.Math.Bool.{and-false}
 use Rattle.std.proofs.lemmas.Bool.{ltb-true, eqb-true}
 use Rattle.std.proofs.lemmas.List.{length-take, length-drop}
-use Rattle.md_fields.specs.Fields.{AllHold, AreSized, AreWithin, Field, first_invalid, or_else, sizes, spelling}
+use Rattle.md_fields.specs.Fields.{AllHold, AreSized, Field, first_invalid, or_else, sizes, spelling}
 use Rattle.md_fields.specs.Items.{IsRight, Keeps}
 use Rattle.md_fields.specs.Places.{IsBytes, Stand, number_at}
 use Rattle.md_fields.proofs.Items.{kept, same}
@@ -17,6 +17,7 @@ use Rattle.z80_chip.specs.States.{State80}
 use Rattle.z80_chip.specs.declared.saved.Saved80.{Saved80}
 use Rattle.z80_chip.proofs.SavedLaws.{Rules, kept_back, only_one, rules_of, state_again}
 use Rattle.md_fields.proofs.Tables.{first_append, none_of, spelling_append}
+use Rattle.md_fields.proofs.Values.{fit_at}
 
 -- ---- sizes
 
@@ -188,8 +189,7 @@ breaks_ram cart at bytes s fits is asks =
 -- ---- what bytes keep
 
 pub answers_four : (cart : List ℕ) (at : ℕ) (bytes : List ℕ) (k : Kept80) → Keeps (chip_fields cart at) bytes k → length k.numbers.answers ≡ 4
-unfolding AreWithin
-answers_four cart at bytes k keeps = keeps.within.1.1.1.1.1.1.1.1.1.1.1.1.1.1.1.1.1.1.1.1.1.1.1.1.1.0
+answers_four cart at bytes k keeps = fit_at (chip_fields cart at k) keeps.within 25
 
 pub spelled_by : (cart : List ℕ) (at : ℕ) (bytes : List ℕ) (k : Kept80) → Keeps (chip_fields cart at) bytes k → IsRight (chip_fields cart at) k → Spells cart at bytes (state_from k.numbers k.store)
 spelled_by cart at bytes k keeps right =

@@ -1,5 +1,5 @@
 -- The bytes of a saved state that keep the Z80. This project's profile.
-use Rattle.std.specs.Prelude.{◌≡◌, ◌≢◌, ℕ, ◌==◌, Bool, true, false, if◌then◌else◌, List, length, take, drop, min, Option, Some, None, ◌⊎◌}
+use Rattle.std.specs.Prelude.{◌≡◌, ◌≢◌, ℕ, ◌+◌, ◌==◌, Bool, true, false, if◌then◌else◌, List, length, take, drop, min, Option, Some, None, ◌⊎◌}
 use Rattle.std.specs.Int.{w16}
 use Rattle.md_fields.specs.Fields.{first_invalid, spelling}
 use Rattle.md_fields.specs.Items.{Breaks, IsRight, Keeps}
@@ -15,11 +15,11 @@ ram_offset = 62
 
 -- where the bank register is
 abbrev pub bank_offset : ℕ
-bank_offset = 8254
+bank_offset = ram_offset + ram_size
 
 -- how many bytes there are with RAM and bank register
 abbrev pub full_size : ℕ
-full_size = 8256
+full_size = bank_offset + 2
 
 -- how many bytes there are, by whether RAM and bank register follow
 abbrev pub spelled_size : Bool → ℕ

@@ -13,16 +13,16 @@ use rom_header::Cart;
 use std::alloc::Global;
 use std::sync::Arc;
 use z80_exec::{DecodeCache80, Progress80};
-use z80_parcel::{BANKS, parcel_of, put_store};
+use z80_parcel::{BANKS, RAM_SIZE, parcel_of, put_store};
 
 /// How many bytes of a saved state keep a Z80 without its RAM; else the offset of its RAM.
 pub const RAM_OFFSET: usize = 62;
 
 /// The offset of the bank register.
-const BANK: usize = 8_254;
+const BANK: usize = RAM_OFFSET + RAM_SIZE;
 
 /// How many bytes keep a Z80 with its RAM.
-pub const FULL_SIZE: usize = 8_256;
+pub const FULL_SIZE: usize = BANK + 2;
 
 impl Chip80 {
     ghost use Rattle.std.specs.Arc.{arc_value};
@@ -37,9 +37,7 @@ impl Chip80 {
         ensures room { vec_capacity into.old ≤ vec_capacity into.new }
         ensures kept { at ≤ self.now.state.next → HasRules self.now.cart at self.now.state → Spells self.now.cart at (chip_bytes self.now.state) self.now.state }
     {
-        known_pairs(&self.sequencer.regs);
-        known_pointers(&self.sequencer.regs);
-        known_counts(&self.sequencer);
+        self.is_read_again();
         let has = self.parcel.is_some();
         put(&Saved80::of(&self.sequencer).fields(at, has), into);
         put_store(&self.parcel, into);

@@ -5,5 +5,5 @@ pub mod laws;
 mod parcel;
 mod spelling;
 
-pub use parcel::{RAM_END, first, is_bank, known, read, shift, store_byte, store_bytes};
+pub use parcel::{RAM_END, RAM_SIZE, first, is_bank, known, read, shift, store_byte, store_bytes};
 pub use spelling::{BANKS, parcel_of, put_store};

@@ -5,6 +5,9 @@ ghost use Rattle.z80_parcel.specs.Parcels.{IsStore, store_of};
 use md_word::{NoMemory, Parcel};
 use std::alloc::Global;
 
+/// How many bytes the Z80's RAM has.
+pub const RAM_SIZE: usize = 8_192;
+
 /// The first address of the Z80 after its RAM, which is repeated up to it. Source: Genesis Technical
 /// Overview, the memory map of the Z80; the repeats are this project's profile.
 pub const RAM_END: u16 = 0x4000;
@@ -38,7 +41,7 @@ pub fn known(parcel: &Parcel)
 pub fn read(at: u16, parcel: &Parcel) -> u8
     ensures { result ≡ slice_index parcel.now.ram.value (parcels.ram_place at) }
 {
-    parcel.ram[usize::from(at % 0x2000)]
+    parcel.ram[usize::from(at) % RAM_SIZE]
 }
 
 /// Writes a byte to RAM or to the bank register; elsewhere it is lost.
@@ -47,7 +50,7 @@ pub fn store_byte(at: u16, value: u8, parcel: &mut Parcel)
     ensures bank { parcel.new.bank ≡ parcels.banked parcel.old.bank (at, value) }
 {
     if at < RAM_END {
-        parcel.ram[usize::from(at % 0x2000)] = value;
+        parcel.ram[usize::from(at) % RAM_SIZE] = value;
     } else if is_bank(at) {
         parcel.bank = shift(parcel.bank, value);
     }
@@ -64,10 +67,10 @@ pub fn store_bytes(writes: &[(u16, u8)], parcel: &mut Parcel)
 }
 
 /// The RAM at power-on. It fails where there is no memory for it.
-fn zeroed(alloc: Global) -> Result<Box<[u8; 8192]>, NoMemory>
+fn zeroed(alloc: Global) -> Result<Box<[u8; RAM_SIZE]>, NoMemory>
     ensures { IfOk result (λ ram. ram.value ≡ replicate parcels.ram_size 0) }
 {
-    match Box::new(alloc, [0; 8192]) {
+    match Box::new(alloc, [0; RAM_SIZE]) {
         Ok(ram) => Ok(ram),
         Err(_) => Err(NoMemory),
     }

@@ -4,7 +4,7 @@ ghost use Rattle.z80_parcel.specs.Parcels as parcels;
 ghost use Rattle.z80_parcel.specs.Parcels.{store_of};
 ghost use Rattle.z80_parcel.specs.Spelling as meaning;
 
-use crate::parcel::known;
+use crate::parcel::{RAM_SIZE, known};
 use md_fields::{Field, put};
 use md_word::{NoMemory, Parcel};
 use std::alloc::Global;
@@ -41,7 +41,7 @@ pub fn parcel_of(alloc: Global, ram: &[u8], bank: u16) -> Result<Parcel, NoMemor
     requires nine { bank < parcels.banks }
     ensures { IfOk result (λ parcel. store_of parcel ≡ record { ram = ram.now; bank = bank }) }
 {
-    let mut copied = Box::new(alloc, [0; 8192])?;
+    let mut copied = Box::new(alloc, [0; RAM_SIZE])?;
     copied.copy_from_slice(ram);
     Ok(Parcel { ram: copied, bank })
 }

@@ -167,12 +167,9 @@ unfolding actions.byte_seen
 byte_seen at =
     more 0 1 _ (omega arith) (private (λ rom ram bank done. byte_at rom (ram_after ram done.writes) (bank_after bank done.writes) at) (λ done. done) (λ done. refl))
 
-with_byte-used : (at value : ℕ) (done : Done) → (actions.with_byte at value done).used ≡ done.used
-unfolding actions.with_byte
-with_byte-used at value done = written-used (is_ram at || is_bank at) at value done
-
 byte_put : (at value : ℕ) → Sound {A = Unit {0}} 1 (λ memory done. Ok (tt, actions.with_byte at value done))
-byte_put at value = more 0 1 _ (omega arith) (private (λ rom ram bank done. tt) (actions.with_byte at value) (with_byte-used at value))
+unfolding actions.with_byte
+byte_put at value = more 0 1 _ (omega arith) (private (λ rom ram bank done. tt) (actions.with_byte at value) (written-used (is_ram at || is_bank at) at value))
 
 pub read : (at : ℕ) → Sound 1 (actions.read at)
 unfolding actions.read

@@ -1,17 +1,18 @@
 ghost use Rattle.std.specs.Prelude.{◌≡◌, ◌+◌, ◌<◌, ◌≤◌, slice_index};
 ghost use Rattle.arrayvec.specs.ArrayVec.{array_vec_len};
+ghost use Rattle.z80_parcel.specs.Parcels.{ram_size};
 ghost use Rattle.z80_exec.specs.Access.Actions as actions;
 ghost use Rattle.z80_exec.specs.Access.Clauses.{done_of, memory_of};
 ghost use Rattle.z80_exec.specs.Access.Memory as memory;
 
 use crate::{Context, Progress80};
-use z80_parcel::{RAM_END, is_bank, shift};
+use z80_parcel::{RAM_END, RAM_SIZE, is_bank, shift};
 
 /// The first address of the window, which reaches to the last address.
 const WINDOW: u16 = 0x8000;
 
 /// The first address from which fewer than four bytes of RAM go on.
-const LAST_FOUR: u16 = 0x1ffd;
+const LAST_FOUR: u16 = RAM_SIZE as u16 - 3;
 
 /// The byte that is read where nothing answers.
 const OPEN_BUS: u8 = 0xff;
@@ -49,7 +50,7 @@ fn instruction_byte(at: u16, context: &Context) -> u8
     ensures { result ≡ memory.instruction_byte at (memory_of context.now) }
 {
     if at < RAM_END {
-        context.ram[usize::from(at % 0x2000)]
+        context.ram[usize::from(at) % RAM_SIZE]
     } else if at >= WINDOW {
         window_byte(at, context.rom, context.bank)
     } else {
@@ -61,7 +62,7 @@ fn instruction_byte(at: u16, context: &Context) -> u8
 #[inline(always)]
 #[tactic(auto, unfolding(crate::specs::Access::Memory::instruction_bytes, crate::specs::Access::Memory::instruction_byte, crate::specs::Access::Memory::byte_at))]
 fn ram_bytes(at: u16, context: &Context) -> [u8; 4]
-    requires { at < 8189 }
+    requires { at + 3 < ram_size }
     ensures { result ≡ memory.instruction_bytes at (memory_of context.now) }
 {
     let place = usize::from(at);
@@ -100,13 +101,13 @@ fn far_bytes(at: u16, context: &Context) -> [u8; 4]
 }
 
 /// A byte of RAM as these writes have left it: the latest counts.
-fn ram_byte(at: u16, ram: &[u8; 8192], writes: &[(u16, u8)]) -> u8
+fn ram_byte(at: u16, ram: &[u8; RAM_SIZE], writes: &[(u16, u8)]) -> u8
     ensures { result ≡ slice_index (memory.ram_after ram.now writes.now) (memory.ram_place at) }
 {
-    let place = at % 0x2000;
-    let mut byte = ram[usize::from(place)];
+    let place = usize::from(at) % RAM_SIZE;
+    let mut byte = ram[place];
     'writes: for (written, value) in writes {
-        if *written < RAM_END && *written % 0x2000 == place {
+        if *written < RAM_END && usize::from(*written) % RAM_SIZE == place {
             byte = *value;
         }
     }

@@ -1,6 +1,7 @@
 ghost use Rattle.std.specs.Prelude.{◌≡◌, []};
 
 use arrayvec::ArrayVec;
+use z80_parcel::RAM_SIZE;
 
 /// What stays as it is while an instruction runs.
 #[derive(Clone, Copy)]
@@ -8,7 +9,7 @@ pub struct Context<'a> {
     /// The cartridge's image.
     pub rom: &'a [u8],
     /// RAM before the instruction.
-    pub ram: &'a [u8; 8192],
+    pub ram: &'a [u8; RAM_SIZE],
     /// The bank register before the instruction.
     pub bank: u16,
     /// What the shared accesses of the instruction have answered so far, in their order.

@@ -2,7 +2,7 @@ use Rattle.std.proofs.Common.{◌≡◌, ◌∙◌, ◌++◌, ◌<◌, ◌+◌, 
 use borrow.Rule.Slice.PartMut.{put_mid}
 use Rattle.vdp_ports.specs.Dma.{with_rest}
 use Rattle.vdp_ports.specs.Spelling.{IsSettled, Spells, vdp_bytes}
-use Rattle.vdp_ports.specs.Vdp.{Vdp}
+use Rattle.vdp_ports.specs.Vdp.{Vdp, vram_size}
 use Rattle.vdp_dma.proofs.Kept.{settled_is}
 use Rattle.vdp_dma.proofs.Settled.{settled_after, settled_none}
 use Rattle.vdp_dma.proofs.Spelled.{given_back, vram_length, vram_put, vram_there}
@@ -29,7 +29,7 @@ pub put_into-requires-clause-copy : goal.put_into-requires-clause-copy
 put_into-requires-clause-copy c =
     let s = c.args.state.now in
     let before = c.args.into.now.items in
-    ap (λ (l : List ℕ). take (c.len-from.result + 24 + 65536 - (c.len-from.result + 24)) (drop (c.len-from.result + 24) l)) (c.deref_mut.ensures.value ∙ c.spell_with.ensures.bytes)
+    ap (λ (l : List ℕ). take (c.len-from.result + 24 + vram_size - (c.len-from.result + 24)) (drop (c.len-from.result + 24) l)) (c.deref_mut.ensures.value ∙ c.spell_with.ensures.bytes)
     ∙ vram_there before s _ c.rest_after.result _ _ (omega (arith, c.state.invariant.of_registers, ap (λ (s : Vdp). length s.registers) c.state.view_is)) (omega (arith, ap length c.deref.ensures, c.state.invariant.of_vram)) (omega (arith, c.len-from.ensures)) (omega arith)
     ∙ (c.deref.ensures ∙ ap (λ (s : Vdp). s.vram) c.state.view_is)
 
@@ -39,8 +39,8 @@ returns-clause-bytes c =
     let before = c.args.into.now.items in
     let v = c.put_into.new.vram in
     let from = c.len-from.result + 24 in
-    let k = c.len-from.result + 24 + 65536 - (c.len-from.result + 24) in
-    let size : k ≡ 65536 = omega arith in
+    let k = c.len-from.result + 24 + vram_size - (c.len-from.result + 24) in
+    let size : k ≡ vram_size = omega arith in
     let put : put_mid from k c.deref_mut.result.now v ≡ before ++ vdp_bytes (with_rest s v c.rest_after.result) =
     ap (λ (l : List ℕ). put_mid from k l v) (c.deref_mut.ensures.value ∙ c.spell_with.ensures.bytes)
     ∙ vram_put before s _ v c.rest_after.result from k (omega (arith, c.state.invariant.of_registers, ap (λ (s : Vdp). length s.registers) c.state.view_is)) (omega (arith, ap length c.deref.ensures, c.state.invariant.of_vram)) (omega (arith, c.len-from.ensures)) size in

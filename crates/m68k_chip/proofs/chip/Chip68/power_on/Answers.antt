@@ -1,5 +1,6 @@
 use Rattle.std.proofs.Common.{◌≡◌, ◌∙◌, ℕ, List, ap, subst, replicate}
 use Rattle.std.specs.Arc.{arc_value}
+use Rattle.m68k_access.specs.Memory.{ram_size}
 use Rattle.rom_header.specs.Cartridge.{IsImage}
 use Rattle.m68k_chip.specs.States.{State68, power_on, state_of}
 use Rattle.m68k_chip.proofs.Kept.{at_power_on}
@@ -10,7 +11,7 @@ use Rattle.m68k_chip.proofs.chip.Chip68.power_on.Goals.{After-new}
 
 made : (c : goal.After-new) → state_of c.power_on-sequencer.result c.in_ok-ram.ram.value ≡ power_on (arc_value c.args.cart)
 made c =
-    let zero : c.in_ok-ram.ram.value ≡ replicate {A = ℕ} 65536 0 = c.in_ok-ram.ensures in
+    let zero : c.in_ok-ram.ram.value ≡ replicate {A = ℕ} ram_size 0 = c.in_ok-ram.ensures in
     ap (λ (ram : List ℕ). state_of c.power_on-sequencer.result ram) zero
     ∙ c.power_on-sequencer.ensures
     ∙ ap (λ (image : List ℕ). power_on image) (c.bytes.ensures.value ∙ c.deref.ensures)

@@ -1,12 +1,11 @@
-use Rattle.std.proofs.Common.{◌++◌, List, ℕ, true, ap, subst, ◌∙◌, arith}
+use Rattle.std.proofs.Common.{◌++◌, List, ℕ, true, ap, ◌∙◌, arith}
 use Rattle.md_fields.specs.Fields.{spelling, sizes}
 use Rattle.md_fields.proofs.Standing.{long_as_sized}
 use Rattle.m68k_chip.specs.Numbers.{Numbers68, numbers_of}
 use Rattle.m68k_chip.specs.Saved.{fields_by}
-use Rattle.m68k_chip.specs.Validity.{Chip68Value, IsChip68}
+use Rattle.m68k_chip.specs.Validity.{Chip68Value}
 use Rattle.m68k_chip.specs.Spelling.{chip_bytes}
 use Rattle.m68k_chip.specs.States.{state_of}
-use Rattle.m68k_chip.proofs.RuleLaws.{IsInRange, spelled_back}
 use Rattle.m68k_chip.proofs.SpellingLaws.{fields_size, same_bytes}
 use Rattle.m68k_chip.proofs.chip.Chip68.spell.Goals as goal
 
@@ -22,12 +21,7 @@ returns-clause-bytes c =
     ∙ ap (λ (v : Chip68Value). chip_bytes v.state) c.self.view_is)
 
 pub returns-clause-kept : goal.returns-clause-kept
-returns-clause-kept c = λ late rules.
-    let regs = c.known_regs.ensures in
-    let read : IsInRange c.args.self.now.state = subst (λ (v : Chip68Value). IsInRange v.state) c.self.view_is
-    (record { regs = regs.sizes; d = regs.d; a = regs.a; usp = regs.usp; ssp = regs.ssp; pc = regs.pc; sr = regs.sr; next = c.known_next.ensures }) in
-    let valid : IsChip68 c.args.self.now = subst (λ (v : Chip68Value). IsChip68 v) c.self.view_is c.self.invariant.0.valid in
-    spelled_back c.args.at c.args.self.now (omega arith) valid read rules late
+returns-clause-kept c = c.is_read_again.ensures c.args.at
 
 pub returns-clause-length : goal.returns-clause-length
 returns-clause-length c = omega (arith, c.put.ensures.length, long_as_sized _ c.fields.ensures.sizes ∙ ap sizes c.fields.ensures.fields ∙ fields_size c.args.at true c.of.result)

@@ -2,6 +2,7 @@ use Rattle.std.proofs.Common.{◌≡◌, ℕ, List, drop, arith, Ok, Err, ap, su
 use Rattle.std.specs.Arc.{arc_value}
 use Rattle.std.proofs.lemmas.Result.{err_from_is_err_and}
 use Rattle.md_word.specs.declared.unspell.Unspell.TheVariants.{Rule}
+use Rattle.m68k_access.specs.Memory.{ram_size}
 use Rattle.rom_header.specs.Cartridge.{IsImage}
 use Rattle.m68k_chip.specs.Held.{WaitsFor}
 use Rattle.m68k_chip.specs.Rules.{HasRules}
@@ -12,8 +13,10 @@ use Rattle.m68k_chip.proofs.Iterations.{away, away-aside}
 use Rattle.m68k_chip.proofs.Laws.{of}
 use Rattle.md_fields.proofs.Standing.{IsBytes-drop, IsBytes-take}
 use Rattle.md_fields.proofs.Refusals.{no_rule, same_rule}
+use Rattle.md_fields.proofs.Values.{refused_once}
 use Rattle.m68k_chip.proofs.RuleLaws.{recent_from}
-use Rattle.m68k_chip.proofs.SpellingLaws.{no_other, only_place, right_not_refused, spelled_long, spelled_valid}
+use Rattle.m68k_chip.proofs.SavedLaws.{table}
+use Rattle.m68k_chip.proofs.SpellingLaws.{no_other, right_not_refused, spelled_long, spelled_valid}
 use Rattle.m68k_chip.proofs.Waiting.{unknown-predicted}
 use Rattle.m68k_chip.proofs.chip.Chip68.unspell.Goals as goal
 use Rattle.m68k_chip.proofs.chip.Chip68.unspell.Goals.{After-new}
@@ -57,7 +60,7 @@ returns-in_ok-ram-in-Ok-clause-found c = (refl, subst (Spells (arc_value c.args.
 pub returns-in_ok-ram-in-Ok-clause-recent : goal.returns-in_ok-ram-in-Ok-clause-recent
 returns-in_ok-ram-in-Ok-clause-recent c =
     subst (HasRules c.args.at) (sym (made c)) (record {
-      ram = IsBytes-take 0x1_0000 (drop 178 c.args.bytes.now) (IsBytes-drop 178 c.args.bytes.now (λ i. omega (arith, c.type_inv.bytes i)));
+      ram = IsBytes-take ram_size (drop 178 c.args.bytes.now) (IsBytes-drop 178 c.args.bytes.now (λ i. omega (arith, c.type_inv.bytes i)));
       recent = recent_from (arc_value c.args.cart) c.args.at c.args.bytes.now _ (kept c).spelled;
     })
 
@@ -82,7 +85,7 @@ returns-in-Err-clause-rule c =
     subst (λ (image : List ℕ). InvalidAt image c.args.at c.args.bytes.now c.in-Err.place) c.deref-2.ensures c.in-Err.ensures.refused in
     λ place. (
       λ e. subst (InvalidAt (arc_value c.args.cart) c.args.at c.args.bytes.now) (same_rule c.in-Err.place place e) invalid,
-      λ other. ap (λ (p : ℕ). Err (Rule p)) (only_place (arc_value c.args.cart) c.args.at c.args.bytes.now c.in-Err.place place invalid other),
+      λ other. ap (λ (p : ℕ). Err (Rule p)) (refused_once (table (arc_value c.args.cart) c.args.at) c.args.bytes.now c.in-Err.place place invalid other),
     )
 
 pub returns-in_err-cache-in-Ok-clause-rule : goal.returns-in_err-cache-in-Ok-clause-rule

@@ -4,7 +4,8 @@ use Rattle.md_word.specs.declared.unspell.Unspell.TheVariants.{Rule}
 use Rattle.vdp_chip.specs.Saved.{numbers_of}
 use Rattle.vdp_chip.specs.Spelling.{InvalidAt, Spells}
 use Rattle.md_fields.proofs.Refusals.{no_rule, same_rule}
-use Rattle.vdp_chip.proofs.SavedLaws.{no_other, only_place, right_not_refused, valid, read_spells}
+use Rattle.md_fields.proofs.Values.{not_refused, refused_once}
+use Rattle.vdp_chip.proofs.SavedLaws.{no_other, read_spells, table, valid}
 use Rattle.vdp_chip.proofs.chip.ChipVdp.unspell.Goals as goal
 
 pub chip-requires : goal.chip-requires
@@ -15,7 +16,7 @@ returns-in_err-chip-in-Ok-clause-rule c =
     let p = err_from_is_err_and c.from_residual.result c.from_residual.ensures.1 in
     λ place. (
       λ e. absurd (no_rule place p.0 (sym p.2) (sym p.1 ∙ e)),
-      λ invalid. absurd (right_not_refused c.args.at c.args.pal c.args.bytes.now c.in-Ok.saved place c.in-Ok.ensures.found.0 c.in-Ok.ensures.found.1 invalid),
+      λ invalid. absurd (not_refused (table c.args.at c.args.pal) c.args.bytes.now c.in-Ok.saved c.in-Ok.ensures.found.0 c.in-Ok.ensures.found.1 place invalid),
     )
 
 pub returns-in_ok-chip-in-Ok-clause-found : goal.returns-in_ok-chip-in-Ok-clause-found
@@ -25,13 +26,13 @@ pub returns-in_ok-chip-in-Ok-clause-only : goal.returns-in_ok-chip-in-Ok-clause-
 returns-in_ok-chip-in-Ok-clause-only c = λ d p n. ap (λ m. Ok m) (c.in_ok-chip-in-Ok.ensures ∙ no_other c.args.at c.args.pal c.args.bytes.now c.in-Ok.saved d c.in-Ok.ensures.found.0 p)
 
 pub returns-in_ok-chip-in-Ok-clause-rule : goal.returns-in_ok-chip-in-Ok-clause-rule
-returns-in_ok-chip-in-Ok-clause-rule c = λ place. (λ e. absurd cc, λ invalid. absurd (right_not_refused c.args.at c.args.pal c.args.bytes.now c.in-Ok.saved place c.in-Ok.ensures.found.0 c.in-Ok.ensures.found.1 invalid))
+returns-in_ok-chip-in-Ok-clause-rule c = λ place. (λ e. absurd cc, λ invalid. absurd (not_refused (table c.args.at c.args.pal) c.args.bytes.now c.in-Ok.saved c.in-Ok.ensures.found.0 c.in-Ok.ensures.found.1 place invalid))
 
 pub returns-in-Err-clause-only : goal.returns-in-Err-clause-only
-returns-in-Err-clause-only c = λ d p n. absurd (right_not_refused c.args.at c.args.pal c.args.bytes.now (numbers_of d) c.in-Err.place p.keeps p.right c.in-Err.ensures.refused)
+returns-in-Err-clause-only c = λ d p n. absurd (not_refused (table c.args.at c.args.pal) c.args.bytes.now (numbers_of d) p.keeps p.right c.in-Err.place c.in-Err.ensures.refused)
 
 pub returns-in-Err-clause-rule : goal.returns-in-Err-clause-rule
 returns-in-Err-clause-rule c = λ place. (
   λ e. subst (InvalidAt c.args.at c.args.pal c.args.bytes.now) (same_rule c.in-Err.place place e) c.in-Err.ensures.refused,
-  λ invalid. ap (λ (p : ℕ). Err (Rule p)) (only_place c.args.at c.args.pal c.args.bytes.now c.in-Err.place place c.in-Err.ensures.refused invalid),
+  λ invalid. ap (λ (p : ℕ). Err (Rule p)) (refused_once (table c.args.at c.args.pal) c.args.bytes.now c.in-Err.place place c.in-Err.ensures.refused invalid),
 )

@@ -1,15 +1,14 @@
-use Rattle.std.proofs.Common.{◌≡◌, ◌++◌, ℕ, true, List, Option, is_some, append_assoc, ap, subst, ◌∙◌, arith}
+use Rattle.std.proofs.Common.{◌≡◌, ◌++◌, ℕ, true, List, Option, is_some, append_assoc, ap, ◌∙◌, arith}
 use Rattle.std.specs.Prelude.{option_map}
 use Rattle.md_fields.specs.Fields.{sizes, spelling}
 use Rattle.md_fields.proofs.Standing.{long_as_sized}
 use Rattle.z80_parcel.specs.Parcels.{Store, store_of}
 use Rattle.z80_parcel.specs.Spelling.{store_fields}
 use Rattle.z80_chip.specs.Saved.{number_fields}
-use Rattle.z80_chip.specs.Validity.{Chip80Value, IsChip80}
+use Rattle.z80_chip.specs.Validity.{Chip80Value}
 use Rattle.z80_chip.specs.Spelling.{chip_bytes, spelled_size}
 use Rattle.z80_chip.specs.States.{State80, state_of}
 use Rattle.z80_chip.specs.declared.saved.Saved80.{Saved80}
-use Rattle.z80_chip.proofs.RuleLaws.{AreInRange, IsInRange, spelled_back}
 use Rattle.z80_chip.proofs.SpellingLaws.{least, number_size, tail_size, whole_bytes}
 use Rattle.z80_chip.proofs.chip.Chip80.spell.Goals as goal
 
@@ -33,29 +32,7 @@ returns-clause-bytes c =
     ∙ whole_bytes c.args.at c.is_some-has.result state ∙ ap (λ (v : Chip80Value). chip_bytes v.state) c.self.view_is)
 
 pub returns-clause-kept : goal.returns-clause-kept
-returns-clause-kept c = λ late rules.
-    let pairs = c.known_pairs.ensures in
-    let pointers = c.known_pointers.ensures in
-    let regs : AreInRange c.self.inside.sequencer.regs = record {
-      af = pairs.af;
-      bc = pairs.bc;
-      de = pairs.de;
-      hl = pairs.hl;
-      af2 = pairs.af2;
-      bc2 = pairs.bc2;
-      de2 = pairs.de2;
-      hl2 = pairs.hl2;
-      ix = pointers.ix;
-      iy = pointers.iy;
-      sp = pointers.sp;
-      pc = pointers.pc;
-      i = pointers.i;
-      r = pointers.r;
-    } in
-    let range : IsInRange c.args.self.now.state = subst (λ (v : Chip80Value). IsInRange v.state) c.self.view_is
-    (record { regs = regs; next = c.known_counts.ensures.next; resets = c.known_counts.ensures.resets }) in
-    let valid : IsChip80 c.args.self.now = subst (λ (v : Chip80Value). IsChip80 v) c.self.view_is c.self.invariant.valid in
-    spelled_back c.args.at c.args.self.now (omega arith) valid range rules late
+returns-clause-kept c = c.is_read_again.ensures c.args.at
 
 pub returns-clause-length : goal.returns-clause-length
 returns-clause-length c =
