@@ -6,8 +6,8 @@
 //! (`laws::section`). So what lies behind the lock always stands for the run's base (`laws::standing`).
 //!
 //! There are five kinds of step on what lies behind the lock: `make`, a section of a round, a wait that gives
-//! the lock back unchanged, the leader's whole turn of a chip, and `gather`. That a thread gets on, or that several run at once, is promised
-//! nowhere.
+//! the lock back unchanged, the leader's whole turn of a chip, and `gather`. Which threads there are, and how chips
+//! go between them, is work_sharing's. That a thread gets on, or that several run at once, is promised nowhere.
 #![tactic(auto)]
 
 mod blanks;
