@@ -138,6 +138,11 @@ fm-batch-tell : (z : Console) → Tell psg_port z (consoles.reported z 3) (fm_mo
 unfolding fm_moved fm_board psg_port consoles.reported hears heard_of reported request_after has_after
 fm-batch-tell z = record { hears_is = refl; held = sym (append-nil z.shared.psg) }
 
+-- what both of two machines leave
+either-leaves : {A : Type 0} (f : Console → A) (b : Bool) (x y : Console) (a : A) → f x ≡ a → f y ≡ a → f (cond b x y) ≡ a
+either-leaves f true x y a same same' = same
+either-leaves f false x y a same same' = same'
+
 -- ---- the sound generator
 
 unfoldable pub generator : SoundOf PsgWrite Synth ℤ
@@ -153,17 +158,13 @@ generator = record {
   earlier = level_at-before;
 }
 
-psg-same : (b : Bool) (x y : Console) (c : ℕ) (s : Synth) → x.psg_cycle ≡ c → y.psg_cycle ≡ c → x.psg ≡ s → y.psg ≡ s → ((cond b x y).psg_cycle ≡ c) × ((cond b x y).psg ≡ s)
-psg-same true x y c s cycle cycle' chip chip' = (cycle, chip)
-psg-same false x y c s cycle cycle' chip chip' = (cycle', chip')
-
 psg-main : (z : Console) → ((main_moved z).psg_cycle ≡ z.psg_cycle) × ((main_moved z).psg ≡ z.psg)
 unfolding main_moved
-psg-main z = psg-same (next_of z.main).sample _ _ z.psg_cycle z.psg refl refl refl refl
+psg-main z = (either-leaves (λ m. m.psg_cycle) (next_of z.main).sample _ _ z.psg_cycle refl refl, either-leaves (λ m. m.psg) (next_of z.main).sample _ _ z.psg refl refl)
 
 psg-sub : (z : Console) → ((sub_moved z).psg_cycle ≡ z.psg_cycle) × ((sub_moved z).psg ≡ z.psg)
 unfolding sub_moved
-psg-sub z = psg-same (sub_next_of z.sub.state).sample _ _ z.psg_cycle z.psg refl refl refl refl
+psg-sub z = (either-leaves (λ m. m.psg_cycle) (sub_next_of z.sub.state).sample _ _ z.psg_cycle refl refl, either-leaves (λ m. m.psg) (sub_next_of z.sub.state).sample _ _ z.psg refl refl)
 
 psg-batch-made : (z : Console) (history : List PsgWrite) → let first = first_of z.psg_cycle in let taken = taken_below z.psg_cycle z.shared.psg in
     IsInOrder 0 (clock.fm_sample * first) history → IsInOrder (clock.fm_sample * first) (clock.fm_sample * (first + 16)) taken → z.psg ≡ chip_before history first → Batch generator z 4 first taken history
@@ -268,17 +269,13 @@ fm_sides = record {
   earlier = sides_at-before;
 }
 
-fm-same : (b : Bool) (x y : Console) (c : ℕ) (s : fm_synths.Synth) → x.fm_cycle ≡ c → y.fm_cycle ≡ c → x.fm ≡ s → y.fm ≡ s → ((cond b x y).fm_cycle ≡ c) × ((cond b x y).fm ≡ s)
-fm-same true x y c s cycle cycle' chip chip' = (cycle, chip)
-fm-same false x y c s cycle cycle' chip chip' = (cycle', chip')
-
 fm-main : (z : Console) → ((main_moved z).fm_cycle ≡ z.fm_cycle) × ((main_moved z).fm ≡ z.fm)
 unfolding main_moved
-fm-main z = fm-same (next_of z.main).sample _ _ z.fm_cycle z.fm refl refl refl refl
+fm-main z = (either-leaves (λ m. m.fm_cycle) (next_of z.main).sample _ _ z.fm_cycle refl refl, either-leaves (λ m. m.fm) (next_of z.main).sample _ _ z.fm refl refl)
 
 fm-sub : (z : Console) → ((sub_moved z).fm_cycle ≡ z.fm_cycle) × ((sub_moved z).fm ≡ z.fm)
 unfolding sub_moved
-fm-sub z = fm-same (sub_next_of z.sub.state).sample _ _ z.fm_cycle z.fm refl refl refl refl
+fm-sub z = (either-leaves (λ m. m.fm_cycle) (sub_next_of z.sub.state).sample _ _ z.fm_cycle refl refl, either-leaves (λ m. m.fm) (sub_next_of z.sub.state).sample _ _ z.fm refl refl)
 
 fm-batch-made : (z : Console) (history : List FmWrite) → let first = first_of z.fm_cycle in let taken = fm_ports.taken_below z.fm_cycle z.shared.fm.writes in
     fm_ports.IsInOrder 0 (clock.fm_sample * first) history → fm_ports.IsInOrder (clock.fm_sample * first) (clock.fm_sample * (first + 16)) taken → z.fm ≡ fm.chip_before history first → Batch fm_sides z 3 first taken history
