@@ -11,6 +11,6 @@ use Rattle.md_chips.proofs.first.first_core.Goals as goal
 shaped : (cart : List ℕ) (pal : Bool) (chips : List Chip) (bounds : List Key) → chips ≡ first_chips cart pal → bounds ≡ first_bounds → IsShaped five chips bounds
 shaped cart pal chips bounds c k = subst (λ z. IsShaped five z bounds) (sym c) (subst (λ z. IsShaped five (first_chips cart pal) z) (sym k) (first-shape cart pal))
 
-pub make-requires-after_bounds : goal.make-requires-after_bounds
-make-requires-after_bounds c κs =
+pub make-requires : goal.make-requires
+make-requires c =
     shaped (arc_value c.args.cart) c.args.pal c.in_ok-chips.chips.items c.in_ok-bounds.bounds.items (c.in_ok-chips.ensures {u = tt}) (c.in_ok-bounds.ensures {u = tt})

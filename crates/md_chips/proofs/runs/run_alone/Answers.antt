@@ -3,7 +3,7 @@ use Rattle.md_chips.proofs.Regions.{run_stays}
 use Rattle.md_chips.proofs.runs.run_alone.Goals as goal
 
 pub room-requires-clause-room : goal.room-requires-clause-room
-room-requires-clause-room c = λ l. omega (arith, c.know_segments.ensures.few c.args.core c.args.from c.args.to c.requires.quiet c.requires.near c.requires.far, ap length c.requires.entries)
+room-requires-clause-room c = omega (arith, c.know_segments.ensures.few c.args.core c.args.from c.args.to c.requires.quiet c.requires.near c.requires.far, ap length c.requires.entries)
 
 pub returns-clause-run : goal.returns-clause-run
 returns-clause-run c =

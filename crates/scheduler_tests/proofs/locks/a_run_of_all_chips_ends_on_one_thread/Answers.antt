@@ -4,4 +4,4 @@ use Rattle.scheduler_tests.proofs.locks.a_run_of_all_chips_ends_on_one_thread.Go
 
 pub moves_to-requires-clause-room : goal.moves_to-requires-clause-room
 unfolding total
-moves_to-requires-clause-room g c = rw c.in_ok-core.ensures (λ κs. lit≤ tt)
+moves_to-requires-clause-room g c = rw c.in_ok-core.ensures (lit≤ tt)

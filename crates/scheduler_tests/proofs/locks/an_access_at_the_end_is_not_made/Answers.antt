@@ -4,4 +4,4 @@ use Rattle.scheduler_tests.proofs.locks.an_access_at_the_end_is_not_made.Goals a
 
 pub first_turn-requires-clause-room : goal.first_turn-requires-clause-room
 unfolding total
-first_turn-requires-clause-room g c = rw c.in_ok-core.ensures (λ κs. lit≤ tt)
+first_turn-requires-clause-room g c = rw c.in_ok-core.ensures (lit≤ tt)

@@ -14,8 +14,8 @@ use Rattle.md_machine.proofs.machine.Machine.from_parts.Goals as goal
 ample : (pal renderer : Bool) (n room : ℕ) → n ≡ most_entries pal → pal ≡ renderer → n ≤ room → most_entries renderer ≤ room
 ample pal renderer n room is same enough = subst (λ (b : Bool). most_entries b ≤ room) same (subst (λ (k : ℕ). k ≤ room) is enough)
 
-pub make-core-requires-after_bounds : goal.make-core-requires-after_bounds
-make-core-requires-after_bounds c κs =
+pub make-core-requires : goal.make-core-requires
+make-core-requires c =
     let parts : Assembly = record { at = c.args.at; main = c.args.main; sub = c.args.sub; renderer = c.args.renderer; fm = c.args.fm; psg = c.args.psg } in
     let journal = c.in_ok-journal.ensures {u = tt} in
     let bounds = c.in_ok-bounds.ensures.bounds in
