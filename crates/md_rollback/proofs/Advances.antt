@@ -22,7 +22,7 @@ pub record Found (inputs : InputsValue) (played expected : List Frame) (right : 
   pub same : (f : ℕ) → f < right → frame_at played f ≡ frame_at expected f
   pub differs : right < length played → frame_at played right ≢ frame_at expected right
 
-module _ (run : RunImagesValue) (window : ℕ) (inputs : InputsValue) (expected : List Frame) (machine : MachineValue) (right : ℕ)
+module _ (run : RunImagesValue) {window : ℕ} {inputs : InputsValue} {expected : List Frame} {machine : MachineValue} {right : ℕ}
     (session : IsSession run.cart window inputs run.played machine) (most : run.most ≡ window + 1) (found : Found inputs run.played expected right) where
   pub expected-long : length expected ≡ length run.played + 1
   expected-long = ap length found.all ∙ frames-long inputs.local inputs.remote (length run.played + 1)
@@ -58,11 +58,11 @@ first-session cart window inputs played m some most made none = record {
   fixed = λ f late. absurd (omega (arith, late, ap length none));
 }
 
-pub found-by : (inputs : InputsValue) (played expected a b : List Frame) (frames right : ℕ) → frames ≡ length played → expected ≡ expected_frames inputs.local inputs.remote (frames + 1)
+pub found-by : (inputs : InputsValue) {played expected a b : List Frame} {right : ℕ} → expected ≡ expected_frames inputs.local inputs.remote (length a + 1)
     → a ≡ played → b ≡ expected → right ≤ length a → ((f : ℕ) → f < right → frame_at a f ≡ frame_at b f) → (right < length a → frame_at a right ≢ frame_at b right)
     → Found inputs played expected right
-found-by inputs played expected a b frames right many all one two within same differs = record {
-  all = all ∙ ap (λ (n : ℕ). expected_frames inputs.local inputs.remote (n + 1)) many;
+found-by inputs {played} {expected} {a} {b} {right} all one two within same differs = record {
+  all = all ∙ ap (λ (x : List Frame). expected_frames inputs.local inputs.remote (length x + 1)) one;
   within = subst (λ (x : List Frame). right ≤ length x) one within;
   same = λ f less. ap (λ (x : List Frame). frame_at x f) (sym one) ∙ same f less ∙ ap (λ (x : List Frame). frame_at x f) two;
   differs = λ less is.

@@ -8,8 +8,8 @@ use Rattle.md_chips.specs.Machines.{MachineValue}
 use Rattle.md_chips.specs.Media.{no_media}
 use Rattle.machine_laws.specs.Reached.{IsReached}
 use Rattle.md_rollback.specs.Images.{AreImagesBelow, Image, Kept, ReachBackTo, image_at}
-use Rattle.md_rollback.specs.Played.{AreMade, ArePlayedRight, AreRunImages, IsImageOf, IsMachineOf, IsPlayed, IsPlayedAlike, KeepsReached}
-use Rattle.md_rollback.proofs.Below.{dropped-below, reach-dropped, reach-following}
+use Rattle.md_rollback.specs.Played.{AreMade, ArePlayedRight, AreRunImages, IsImageOf, IsMachineOf, IsPlayed, IsPlayedAlike, KeepsReached, RunImagesValue}
+use Rattle.md_rollback.proofs.Below.{dropped-below, image-dropped, reach-dropped, reach-following}
 use Rattle.md_rollback.proofs.Kept.{images-with}
 
 -- ---- at power-on
@@ -54,16 +54,21 @@ first-images cart spelling is_ready is_own most played kept bytes some keeps non
 
 -- ---- frames are made again
 
-module _ (cart : List ℕ) (spelling : ℕ → Console → List ℕ) (is_ready is_own : ℕ → Console → Type 0) (most : ℕ) (played expected : List Frame) (kept : List Image) (right : ℕ)
+module _ {cart : List ℕ} {spelling : ℕ → Console → List ℕ} {is_ready is_own : ℕ → Console → Type 0} {most : ℕ} {played expected : List Frame} {kept : List Image} {right : ℕ} {run : RunImagesValue}
     (are : AreRunImages cart spelling is_ready is_own most played kept)
-    (known : ArePlayedRight (record { most = most; cart = cart; played = played; images = kept }) expected right) where
+    (seen : record { most = most; cart = cart; played = played; images = kept } ≡ run) (of_run : ArePlayedRight run expected right) where
+  known : ArePlayedRight (record { most = most; cart = cart; played = played; images = kept }) expected right
+  known = subst (λ (r : RunImagesValue). ArePlayedRight r expected right) (sym seen) of_run
+
   -- where all were right, the machine itself is that of the expected frames so far
-  pub machine-here : (machine : MachineValue) → IsPlayed cart played (length played) machine → right ≡ length played → IsPlayedAlike cart expected right machine
-  machine-here machine made all = record {
-    made_with = played;
-    alike = λ f early. known.same f (omega (arith, early));
-    played = subst (λ (n : ℕ). IsPlayed cart played n machine) (sym all) made;
-  }
+  pub machine-here : (machine : MachineValue) → IsPlayed run.cart run.played (length run.played) machine → right ≡ length played → IsPlayedAlike cart expected right machine
+  machine-here machine made all =
+      let here = subst (λ (r : RunImagesValue). IsPlayed r.cart r.played (length r.played) machine) (sym seen) made in
+      record {
+        made_with = played;
+        alike = λ f early. known.same f (omega (arith, early));
+        played = subst (λ (n : ℕ). IsPlayed cart played n machine) (sym all) here;
+      }
 
   module _ (newer : ℕ) (later : (j : ℕ) → j < newer → right < (image_at kept j).frames) where
     -- one of the images is early enough
@@ -76,6 +81,9 @@ module _ (cart : List ℕ) (spelling : ℕ → Console → List ℕ) (is_ready i
     images-here early =
         images-with cart spelling is_own played expected right ((image_at kept newer).frames + 1) (drop newer kept) known.same (omega (arith, early))
         (dropped-below (IsImageOf cart spelling is_own played) newer (length played + 1) kept back-few are.each)
+
+    pub image-here : (image_at kept newer).frames ≤ right → IsImageOf cart spelling is_own expected (image_at kept newer).frames (image_at kept newer).bytes
+    image-here early = image-dropped (IsImageOf cart spelling is_own expected) newer ((image_at kept newer).frames + 1) kept back-few (images-here early)
 
     pub images-next : (old new : Kept) → old.most ≡ most → AreMade cart spelling is_own expected (length expected) (record old { images = drop newer kept }) new
         → ((w f : ℕ) → new.most ≡ w + 1 → right < f → f ≤ length expected → length expected ≤ f + w → ReachBackTo f new.images)
@@ -93,3 +101,10 @@ module _ (cart : List ℕ) (spelling : ℕ → Console → List ℕ) (is_ready i
                 (are.back f (omega (arith, before, known.within)) (omega (arith, late, same, known.longer))))
           ];
         }
+
+-- the same of an equal recording and of equal images
+pub made-as : {cart : List ℕ} {spelling : ℕ → Console → List ℕ} {is_own : ℕ → Console → Type 0} {recording other : List Frame} {frames count : ℕ} {old before : Kept} (new : Kept)
+    → AreMade cart spelling is_own recording frames old new → recording ≡ other → frames ≡ count → old ≡ before → AreMade cart spelling is_own other count before new
+made-as {cart} {spelling} {is_own} {recording} {other} {frames} {count} {old} {before} new made same long is =
+    subst (λ (k : Kept). AreMade cart spelling is_own other count k new) is
+    (subst (λ (n : ℕ). AreMade cart spelling is_own other n old new) long (subst (λ (r : List Frame). AreMade cart spelling is_own r frames old new) same made))

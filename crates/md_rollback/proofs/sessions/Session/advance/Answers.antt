@@ -43,40 +43,21 @@ same_frames-right-requires-clause-known g c =
 
 pub replay-requires-clause-recording : goal.replay-requires-clause-recording
 replay-requires-clause-recording g c =
-    let inputs = c.self.inside.inputs in
-    let run = c.self.inside.images in
-    let expected = c.in_ok-expected.expected.items in
-    let was = c.self.invariant.0 in
-    let many : length c.played-played.result.now ≡ length run.played = ap length c.played-played.ensures in
-    may-be-recorded inputs (length c.played-played.result.now + 1) expected c.known.ensures
-    (omega (arith, c.if-frames-eq-MOST_FRAMES.false, was.few, many)) c.in_ok-expected.ensures
+    let many = ap length c.played-played.ensures in
+    may-be-recorded c.self.inside.inputs (length c.played-played.result.now + 1) c.in_ok-expected.expected.items c.known.ensures
+    (omega (arith, c.if-frames-eq-MOST_FRAMES.false, c.self.invariant.0.few, many)) c.in_ok-expected.ensures
 
 pub replay-requires-clause-few : goal.replay-requires-clause-few
 replay-requires-clause-few g c =
     let inputs = c.self.inside.inputs in
-    let run = c.self.inside.images in
-    let expected = c.in_ok-expected.expected.items in
-    let right = c.same_frames-right.result in
-    let was = c.self.invariant.0 in
-    let many : length c.played-played.result.now ≡ length run.played = ap length c.played-played.ensures in
-    let found = found-by inputs run.played expected c.played-played.result.now c.as_slice.result.now (length c.played-played.result.now) right
-    many c.in_ok-expected.ensures c.played-played.ensures c.as_slice.ensures.value
-    c.same_frames-right.ensures.within c.same_frames-right.ensures.same c.same_frames-right.ensures.differs in
-    let long = expected-long run c.self.inside.window inputs expected c.self.inside.machine right was c.self.invariant.1 found in
-    omega (arith, long, c.if-frames-eq-MOST_FRAMES.false, was.few, many)
+    let found = found-by inputs c.in_ok-expected.ensures c.played-played.ensures c.as_slice.ensures.value c.same_frames-right.ensures.within c.same_frames-right.ensures.same c.same_frames-right.ensures.differs in
+    let many = ap length c.played-played.ensures in
+    omega (arith, expected-long c.self.inside.images c.self.invariant.0 c.self.invariant.1 found, c.if-frames-eq-MOST_FRAMES.false, c.self.invariant.0.few, many)
 
 pub replay-requires-clause-right : goal.replay-requires-clause-right
 replay-requires-clause-right g c =
     let inputs = c.self.inside.inputs in
-    let run = c.self.inside.images in
-    let expected = c.in_ok-expected.expected.items in
-    let right = c.same_frames-right.result in
-    let was = c.self.invariant.0 in
-    let many : length c.played-played.result.now ≡ length run.played = ap length c.played-played.ensures in
-    let found = found-by inputs run.played expected c.played-played.result.now c.as_slice.result.now (length c.played-played.result.now) right
-    many c.in_ok-expected.ensures c.played-played.ensures c.as_slice.ensures.value
-    c.same_frames-right.ensures.within c.same_frames-right.ensures.same c.same_frames-right.ensures.differs in
-    played-right run c.self.inside.window inputs expected c.self.inside.machine right was c.self.invariant.1 found
+    played-right c.self.inside.images c.self.invariant.0 c.self.invariant.1 (found-by inputs c.in_ok-expected.ensures c.played-played.ensures c.as_slice.ensures.value c.same_frames-right.ensures.within c.same_frames-right.ensures.same c.same_frames-right.ensures.differs)
 
 pub invariant_of-self : goal.invariant_of-self
 invariant_of-self g c =
@@ -88,17 +69,12 @@ invariant_of-self g c =
 pub invariant_of-self-2 : goal.invariant_of-self-2
 invariant_of-self-2 g c =
     let inputs = c.self.inside.inputs in
-    let run = c.self.inside.images in
-    let expected = c.in_ok-expected.expected.items in
-    let right = c.same_frames-right.result in
-    let was = c.self.invariant.0 in
-    let many : length c.played-played.result.now ≡ length run.played = ap length c.played-played.ensures in
-    let found = found-by inputs run.played expected c.played-played.result.now c.as_slice.result.now (length c.played-played.result.now) right
-    many c.in_ok-expected.ensures c.played-played.ensures c.as_slice.ensures.value
-    c.same_frames-right.ensures.within c.same_frames-right.ensures.same c.same_frames-right.ensures.differs in
-    subst (λ (r : RunImagesValue). IsSession r.cart c.self.inside.window inputs r.played c.replay.new.machine × (r.most ≡ c.self.inside.window + 1)) (sym c.in_ok-replay.ensures.played) (
-      session-next run c.self.inside.window inputs expected c.self.inside.machine right was c.self.invariant.1 found c.replay.new.machine c.known.ensures
-          (omega (arith, c.if-frames-eq-MOST_FRAMES.false, was.few, many))
+    let window = c.self.inside.window in
+    let found = found-by inputs c.in_ok-expected.ensures c.played-played.ensures c.as_slice.ensures.value c.same_frames-right.ensures.within c.same_frames-right.ensures.same c.same_frames-right.ensures.differs in
+    let many = ap length c.played-played.ensures in
+    subst (λ (r : RunImagesValue). IsSession r.cart window inputs r.played c.replay.new.machine × (r.most ≡ window + 1)) (sym c.in_ok-replay.ensures.played) (
+      session-next c.self.inside.images c.self.invariant.0 c.self.invariant.1 found c.replay.new.machine c.known.ensures
+          (omega (arith, c.if-frames-eq-MOST_FRAMES.false, c.self.invariant.0.few, many))
           (omega (arith, c.if-frames-confirmed.false, c.confirmed-confirmed.ensures.confirmed, many)) c.in_ok-replay.ensures.machine,
       c.self.invariant.1,
     )
@@ -106,29 +82,15 @@ invariant_of-self-2 g c =
 pub returns-clause-frames : goal.returns-clause-frames
 returns-clause-frames g c =
     let inputs = c.self.inside.inputs in
-    let run = c.self.inside.images in
-    let expected = c.in_ok-expected.expected.items in
-    let right = c.same_frames-right.result in
-    let was = c.self.invariant.0 in
-    let many : length c.played-played.result.now ≡ length run.played = ap length c.played-played.ensures in
-    let found = found-by inputs run.played expected c.played-played.result.now c.as_slice.result.now (length c.played-played.result.now) right
-    many c.in_ok-expected.ensures c.played-played.ensures c.as_slice.ensures.value
-    c.same_frames-right.ensures.within c.same_frames-right.ensures.same c.same_frames-right.ensures.differs in
-    let long = expected-long run c.self.inside.window inputs expected c.self.inside.machine right was c.self.invariant.1 found in
+    let long = expected-long c.self.inside.images c.self.invariant.0 c.self.invariant.1 (found-by inputs c.in_ok-expected.ensures c.played-played.ensures c.as_slice.ensures.value c.same_frames-right.ensures.within c.same_frames-right.ensures.same c.same_frames-right.ensures.differs) in
     ap (λ (r : RunImagesValue). length r.played) c.in_ok-replay.ensures.played ∙ long ∙ ap (λ (x : SessionValue). x.frames + 1) c.self.view_is
 
 pub returns-clause-machine : goal.returns-clause-machine
 returns-clause-machine g c =
     let inputs = c.self.inside.inputs in
-    let run = c.self.inside.images in
     let expected = c.in_ok-expected.expected.items in
-    let right = c.same_frames-right.result in
-    let was = c.self.invariant.0 in
-    let many : length c.played-played.result.now ≡ length run.played = ap length c.played-played.ensures in
-    let found = found-by inputs run.played expected c.played-played.result.now c.as_slice.result.now (length c.played-played.result.now) right
-    many c.in_ok-expected.ensures c.played-played.ensures c.as_slice.ensures.value
-    c.same_frames-right.ensures.within c.same_frames-right.ensures.same c.same_frames-right.ensures.differs in
-    let long = expected-long run c.self.inside.window inputs expected c.self.inside.machine right was c.self.invariant.1 found in
+    let found = found-by inputs c.in_ok-expected.ensures c.played-played.ensures c.as_slice.ensures.value c.same_frames-right.ensures.within c.same_frames-right.ensures.same c.same_frames-right.ensures.differs in
+    let long = expected-long c.self.inside.images c.self.invariant.0 c.self.invariant.1 found in
     let machine = c.replay.new.machine in
     let owner = machine.console.cart in
     let now = c.in_ok-replay.ensures.machine in
