@@ -1,10 +1,9 @@
 // What a question asks, and its answer.
-use crate::parts::{build, digits, file, place};
-use crate::store::{Store, list_of};
 use crate::words::read;
 use md_outer::{FileDepot, FreeGate, MemDepot, MemSink};
 use md_top::{drive, drive_one};
-use row_lines::{RowError, parted};
+use row_files::{Store, build, digits, file, file_from, list_of, lower_digits};
+use row_lines::{RowError, compared, decimal_of, first_word, parted, push, text_of};
 use std::alloc::{AllocError, Global};
 use std::rt::Files;
 use std::sync::Wait;
@@ -13,23 +12,16 @@ use std::thread::Threads;
 /// The most bytes of a text that is printed.
 const LONGEST: u64 = 1 << 16;
 
-/// The words of a text, which single spaces part; none where there is no text.
-pub(crate) fn words_of(alloc: Global, text: Option<&str>) -> Result<Vec<String>, AllocError> {
-    let mut words = Vec::new(alloc);
-    if let Some(text) = text {
-        for word in text.split(' ') {
-            words.push(String::from_str(alloc, word)?)?;
-        }
+/// Adds the words of a text, which single spaces part, but for the first.
+fn add_words(alloc: Global, words: &mut Vec<String>, text: &str) -> Result<(), AllocError> {
+    for word in text.split(' ').skip(1) {
+        push(words, String::from_str(alloc, word)?)?;
     }
-    Ok(words)
+    Ok(())
 }
 
-/// A status and a text as an answer writes them.
-fn spelled(alloc: Global, status: u8, text: &[u8]) -> Result<String, AllocError> {
-    let mut spelled = format!(in alloc; "{status}")?;
-    if !text.is_empty() {
-        spelled.push(' ')?;
-    }
+/// Adds a text, in which `|` ends a line.
+fn put_lines(spelled: &mut String, text: &[u8]) -> Result<(), AllocError> {
     for byte in text {
         spelled.push(match *byte {
             b'\n' => '|',
@@ -37,6 +29,14 @@ fn spelled(alloc: Global, status: u8, text: &[u8]) -> Result<String, AllocError>
             byte => char::from(byte),
         })?;
     }
+    Ok(())
+}
+
+/// A status and a text as an answer writes them.
+fn spelled(alloc: Global, status: u8, text: &[u8]) -> Result<String, AllocError> {
+    let space = if text.is_empty() { "" } else { " " };
+    let mut spelled = format!(in alloc; "{status}{space}")?;
+    put_lines(&mut spelled, text)?;
     Ok(spelled)
 }
 
@@ -46,9 +46,9 @@ fn answered(
     store: &mut Store,
     status: u8,
     sink: &MemSink,
-) -> Result<String, AllocError> {
+) -> Result<String, RowError> {
     store.out = sink.bytes().to_vec(alloc)?;
-    spelled(alloc, status, sink.bytes())
+    Ok(spelled(alloc, status, sink.bytes())?)
 }
 
 /// A stream of which the print of a number may fail.
@@ -57,11 +57,10 @@ fn sink_of(alloc: Global, put: Option<u64>) -> Result<MemSink, AllocError> {
 }
 
 /// What words result in by one worker.
-fn by_one(alloc: Global, store: &mut Store, words: Option<&str>) -> Result<String, RowError> {
-    let words = words_of(alloc, words)?;
+fn by_one(alloc: Global, store: &mut Store, words: &Vec<String>) -> Result<String, RowError> {
     let mut sink = sink_of(alloc, store.failing[2])?;
-    let status = drive_one(alloc, &words, store.depot(alloc)?, &mut sink);
-    Ok(answered(alloc, store, status, &sink)?)
+    let status = drive_one(alloc, words, store.depot(alloc)?, &mut sink);
+    answered(alloc, store, status, &sink)
 }
 
 /// The status of words that may start threads.
@@ -80,122 +79,118 @@ fn by_several<R: Threads + Wait + Sync>(
     rt: &R,
     alloc: Global,
     store: &mut Store,
-    words: Option<&str>,
+    words: &Vec<String>,
 ) -> Result<String, RowError> {
-    let words = words_of(alloc, words)?;
     let mut sink = sink_of(alloc, store.failing[2])?;
-    let status = status_of(rt, alloc, &words, store.depot(alloc)?, &mut sink);
-    Ok(answered(alloc, store, status, &sink)?)
+    let status = status_of(rt, alloc, words, store.depot(alloc)?, &mut sink);
+    answered(alloc, store, status, &sink)
 }
 
-/// What the command line reads of words.
-fn by_reading(alloc: Global, words: Option<&str>) -> Result<String, RowError> {
-    Ok(read(alloc, &words_of(alloc, words)?)?)
+/// What words result in, or what the command line reads of them.
+fn ask_words<T: Threads + Wait + Sync>(
+    rt: &T,
+    alloc: Global,
+    store: &mut Store,
+    verb: &str,
+    words: &Vec<String>,
+) -> Result<String, RowError> {
+    match verb {
+        "do" => by_one(alloc, store, words),
+        "drive" => by_several(rt, alloc, store, words),
+        _ => read(alloc, words),
+    }
+}
+
+/// The same of the words of a question.
+fn ask_command<T: Threads + Wait + Sync>(
+    rt: &T,
+    alloc: Global,
+    store: &mut Store,
+    verb: &str,
+    asked: &str,
+) -> Result<String, RowError> {
+    let mut words = Vec::new(alloc);
+    add_words(alloc, &mut words, asked)?;
+    ask_words(rt, alloc, store, verb, &words)
 }
 
 /// The length of a file of the row, or that there is none.
 fn length(alloc: Global, store: &Store, name: &str) -> Result<String, RowError> {
-    Ok(match store.own(name) {
-        Some(bytes) => format!(in alloc; "{}", bytes.len())?,
-        None => String::from_str(alloc, "none")?,
-    })
+    match store.own(name) {
+        Some(bytes) => decimal_of(alloc, "", bytes.len() as u64),
+        None => text_of(alloc, "none"),
+    }
 }
 
 /// The bytes of a file from a place on; so many of them where as many are there.
 fn bytes_at(alloc: Global, store: &Store, text: &str, count: usize) -> Result<String, RowError> {
     let (name, from) = parted(text, ' ')?;
-    let rest = file(store, name)?
-        .get(place(from)?..)
-        .ok_or(RowError::NoSuchLine)?;
-    Ok(hex::encode(alloc, rest.get(..count).unwrap_or(rest))?)
+    let rest = file_from(store, name, from)?;
+    lower_digits(alloc, rest.get(..count).unwrap_or(rest))
 }
 
-/// How bytes differ from others; none where they are the same.
-fn difference(alloc: Global, one: &[u8], other: &[u8]) -> Result<Option<String>, AllocError> {
-    if one == other {
-        return Ok(None);
+/// The answer to whether the bytes of parts are those that are wanted, or to whether they are others.
+fn alike(
+    alloc: Global,
+    made: &[u8],
+    other: &[u8],
+    verb: &str,
+    wanted: &str,
+) -> Result<String, RowError> {
+    if verb == "same" {
+        return compared(alloc, made, other, wanted);
     }
-    let mut same = 0usize;
-    for (first, second) in one.iter().zip(other.iter()) {
-        if first != second {
-            break;
-        }
-        same = same.wrapping_add(1);
-    }
-    let (first, second) = (one.len(), other.len());
-    Ok(Some(format!(in alloc; "{first} and {second} bytes, other ones from {same} on")?))
+    let is_other = made != other;
+    text_of(alloc, if is_other { wanted } else { "the same bytes" })
 }
 
-/// How what parts make differs from what other parts make; none where that is the same.
-fn parts_differ<R: Files + Drop>(
+/// Compares bytes with those that parts make.
+fn compare_with<R: Files + Drop>(
     alloc: Global,
     folder: &mut FileDepot<R>,
     store: &Store,
-    parts: &str,
-    others: &str,
-) -> Result<Option<String>, RowError> {
-    let one = build(alloc, folder, store, parts)?;
-    let other = build(alloc, folder, store, others)?;
-    Ok(difference(alloc, &one, &other)?)
+    made: &[u8],
+    verb: &str,
+    wanted: &str,
+) -> Result<String, RowError> {
+    let other = build(alloc, folder, store, wanted)?;
+    alike(alloc, made, &other, verb, wanted)
 }
 
-/// Whether parts make the same bytes as those that are wanted, which is the answer then.
-fn same<R: Files + Drop>(
+/// `same` or `unlike`: whether parts make the same bytes as those that are wanted, which are the answer then, or others.
+fn compare<R: Files + Drop>(
     alloc: Global,
     folder: &mut FileDepot<R>,
     store: &Store,
+    verb: &str,
     parts: &str,
     wanted: &str,
 ) -> Result<String, RowError> {
-    match parts_differ(alloc, folder, store, parts, wanted)? {
-        Some(text) => Ok(text),
-        None => Ok(String::from_str(alloc, wanted)?),
-    }
-}
-
-/// Whether parts make other bytes than those that are named, which are the answer then.
-fn unlike<R: Files + Drop>(
-    alloc: Global,
-    folder: &mut FileDepot<R>,
-    store: &Store,
-    parts: &str,
-    wanted: &str,
-) -> Result<String, RowError> {
-    let text = match parts_differ(alloc, folder, store, parts, wanted)? {
-        Some(_) => wanted,
-        None => "the same bytes",
-    };
-    Ok(String::from_str(alloc, text)?)
+    let made = build(alloc, folder, store, parts)?;
+    compare_with(alloc, folder, store, &made, verb, wanted)
 }
 
 /// Whether a file, if there is one, is a prefix of one that is kept, whose name is the answer then.
 fn prefix(alloc: Global, store: &Store, name: &str, wanted: &str) -> Result<String, RowError> {
     let front = store.own(name).unwrap_or(&[]);
-    let text = if file(store, wanted)?.starts_with(front) {
-        wanted
-    } else {
-        "no prefix"
-    };
-    Ok(String::from_str(alloc, text)?)
+    let is_prefix = file(store, wanted)?.starts_with(front);
+    text_of(alloc, if is_prefix { wanted } else { "no prefix" })
 }
 
-/// The answer to a question on files of the row.
-fn ask_files<R: Files + Drop>(
+/// The answer to a question on a file of the row.
+fn ask_file(
     alloc: Global,
-    folder: &mut FileDepot<R>,
     store: &Store,
-    question: (&str, &str),
+    verb: &str,
+    rest: &str,
     wanted: &str,
 ) -> Result<String, RowError> {
-    let (verb, rest) = question;
     match verb {
         "length" => length(alloc, store, rest),
         "bytes" => bytes_at(alloc, store, rest, wanted.len() / 2),
         "end" => bytes_at(alloc, store, rest, usize::MAX),
         "sha256" => digits(alloc, store, rest),
         "prefix" => prefix(alloc, store, rest, wanted),
-        "same" => same(alloc, folder, store, rest, wanted),
-        "unlike" => unlike(alloc, folder, store, rest, wanted),
         _ => Err(RowError::NoSuchLine),
     }
 }
@@ -209,14 +204,10 @@ pub(crate) fn ask<R: Files + Drop, T: Threads + Wait + Sync>(
     asked: &str,
     wanted: &str,
 ) -> Result<String, RowError> {
-    let (verb, rest) = match asked.split_once(' ') {
-        Some((verb, rest)) => (verb, Some(rest)),
-        None => (asked, None),
-    };
+    let (verb, rest) = first_word(asked);
     match verb {
-        "do" => by_one(alloc, store, rest),
-        "drive" => by_several(rt, alloc, store, rest),
-        "read" => by_reading(alloc, rest),
-        _ => ask_files(alloc, folder, store, (verb, rest.unwrap_or("")), wanted),
+        "do" | "drive" | "read" => ask_command(rt, alloc, store, verb, asked),
+        "same" | "unlike" => compare(alloc, folder, store, verb, rest, wanted),
+        _ => ask_file(alloc, store, verb, rest, wanted),
     }
 }

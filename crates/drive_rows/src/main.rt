@@ -2,18 +2,18 @@
 #![tactic(auto)]
 
 mod asked;
-mod named_files;
-mod parts;
 mod rows;
-mod store;
 mod words;
 
 use md_outer::{Depot, FileDepot};
+use row_files::Store;
 use row_lines::Tally;
 use rows::{Running, carry_out};
 use std::alloc::{AllocError, Global};
 use std::io;
-use store::Store;
+use std::rt::Files;
+use std::sync::Wait;
+use std::thread::Threads;
 
 /// The files of rows, in their order: what one keeps, those after it may copy.
 const FILES: [&str; 9] = [
@@ -39,6 +39,27 @@ fn text_of<D: Depot>(alloc: Global, folder: &mut D, name: &str) -> Result<Vec<u8
     }
 }
 
+/// Carries out the rows of a file.
+fn take_file<R: Files + Drop, T: Print + Threads + Wait + Sync>(
+    rt: &T,
+    running: &mut Running<R>,
+    name: &str,
+) -> io::Result<()> {
+    let text = text_of(running.alloc, &mut running.folder, name)?;
+    carry_out(rt, running, str::from_utf8(&text).unwrap_or("no text"))
+}
+
+/// Carries out the rows of all files, and prints how many there were.
+fn take_files<R: Files + Drop, T: Print + Threads + Wait + Sync>(
+    rt: &T,
+    running: &mut Running<R>,
+) -> io::Result<()> {
+    for name in &FILES {
+        take_file(rt, running, name)?;
+    }
+    running.tally.end(rt)
+}
+
 fn main(rt: HostRuntime) -> io::Result<()> {
     let alloc = rt.alloc();
     let mut running = Running {
@@ -47,13 +68,5 @@ fn main(rt: HostRuntime) -> io::Result<()> {
         store: Store::new(alloc),
         tally: Tally::new(alloc),
     };
-    for name in &FILES {
-        let text = text_of(alloc, &mut running.folder, name)?;
-        carry_out(
-            &rt,
-            &mut running,
-            str::from_utf8(&text).unwrap_or("no text"),
-        )?;
-    }
-    running.tally.end(&rt)
+    take_files(&rt, &mut running)
 }

@@ -1,10 +1,9 @@
 // Rows, one after the other.
 use crate::asked::ask;
-use crate::parts::build;
-use crate::store::Store;
 use md_outer::FileDepot;
+use row_files::{Store, build};
 use row_lines::{Line, RowError, Tally, line_of, number, parted};
-use std::alloc::{AllocError, Global};
+use std::alloc::Global;
 use std::io;
 use std::rt::Files;
 use std::sync::Wait;
@@ -98,16 +97,15 @@ fn take_line<R: Files + Drop, T: Print + Threads + Wait + Sync>(
     }
 }
 
-/// A line with a number in the place of each `{}`.
-fn with_number(alloc: Global, line: &str, count: u64) -> Result<String, AllocError> {
-    let mut filled = String::new(alloc);
-    for (place, piece) in line.split("{}").enumerate() {
-        if place > 0 {
-            write!(filled, "{count}")?;
-        }
-        filled.push_str(piece)?;
-    }
-    Ok(filled)
+/// Carries out a line of a row, with a number in the place of each `{}`.
+fn take_filled<R: Files + Drop, T: Print + Threads + Wait + Sync>(
+    rt: &T,
+    running: &mut Running<R>,
+    line: &str,
+    count: &str,
+) -> io::Result<()> {
+    let line = line.replace(running.alloc, "{}", count)?;
+    take_line(rt, running, &line)
 }
 
 /// Carries out the lines of a row with a number.
@@ -115,26 +113,52 @@ fn take_lines<R: Files + Drop, T: Print + Threads + Wait + Sync>(
     rt: &T,
     running: &mut Running<R>,
     lines: &str,
-    count: u64,
+    count: &str,
 ) -> io::Result<()> {
-    let alloc = running.alloc;
-    running.store.begin(alloc);
+    running.store.begin(running.alloc);
     for line in lines.lines() {
-        let line = with_number(alloc, line, count)?;
-        take_line(rt, running, line.as_str())?;
+        take_filled(rt, running, line, count)?;
     }
     Ok(())
 }
 
-/// The numbers of a row that begins with `for FIRST LAST`, and its other lines; 0 alone where it begins otherwise, and
-/// none where that is none of the language.
-fn numbers_of(lines: &str) -> Option<(u64, u64, &str)> {
+/// Carries out the lines of a row with a number.
+fn take_numbered<R: Files + Drop, T: Print + Threads + Wait + Sync>(
+    rt: &T,
+    running: &mut Running<R>,
+    lines: &str,
+    count: u64,
+) -> io::Result<()> {
+    let count = format!(in running.alloc; "{count}")?;
+    take_lines(rt, running, lines, &count)
+}
+
+/// `FIRST LAST`.
+fn range_of(text: &str) -> Result<(u64, u64), RowError> {
+    let (first, last) = parted(text, ' ')?;
+    Ok((number(first)?, number(last)?))
+}
+
+/// The numbers of a row that begins with `for FIRST LAST`, and its other lines; 0 alone where it begins otherwise.
+fn numbers_of(lines: &str) -> Result<((u64, u64), &str), RowError> {
     let Some(looped) = lines.strip_prefix("for ") else {
-        return Some((0, 0, lines));
+        return Ok(((0, 0), lines));
     };
-    let (range, rest) = looped.split_once('\n')?;
-    let (first, last) = range.split_once(' ')?;
-    Some((number(first).ok()?, number(last).ok()?, rest))
+    let (range, rest) = parted(looped, '\n')?;
+    Ok((range_of(range)?, rest))
+}
+
+/// Carries out the lines of a row with each of these numbers.
+fn take_each<R: Files + Drop, T: Print + Threads + Wait + Sync>(
+    rt: &T,
+    running: &mut Running<R>,
+    lines: &str,
+    range: (u64, u64),
+) -> io::Result<()> {
+    for count in range.0..range.1.saturating_add(1) {
+        take_numbered(rt, running, lines, count)?;
+    }
+    Ok(())
 }
 
 /// Carries out a row, with each of its numbers.
@@ -143,16 +167,12 @@ fn take_row<R: Files + Drop, T: Print + Threads + Wait + Sync>(
     running: &mut Running<R>,
     row: &str,
 ) -> io::Result<()> {
-    let alloc = running.alloc;
     let (name, lines) = row.split_once('\n').unwrap_or((row, ""));
-    running.tally.begin(rt, alloc, name)?;
-    let Some((first, last, lines)) = numbers_of(lines) else {
-        return running.tally.find_wrong(rt, "for", "no such line");
-    };
-    for count in first..last.saturating_add(1) {
-        take_lines(rt, running, lines, count)?;
+    running.tally.begin(rt, running.alloc, name)?;
+    match numbers_of(lines) {
+        Ok((range, lines)) => take_each(rt, running, lines, range),
+        Err(error) => running.tally.find_wrong(rt, "for", error.text()),
     }
-    Ok(())
 }
 
 /// Carries out the rows of a text, and the steps before the first one.
@@ -161,12 +181,10 @@ pub(crate) fn carry_out<R: Files + Drop, T: Print + Threads + Wait + Sync>(
     running: &mut Running<R>,
     text: &str,
 ) -> io::Result<()> {
-    for (place, row) in text.split("\nrow ").enumerate() {
-        if place == 0 {
-            take_lines(rt, running, row, 0)?;
-        } else {
-            take_row(rt, running, row)?;
-        }
+    let mut rows = text.split("\nrow ");
+    take_lines(rt, running, rows.next().unwrap_or(""), "0")?;
+    for row in rows {
+        take_row(rt, running, row)?;
     }
     Ok(())
 }

@@ -1,5 +1,6 @@
 // What the command line reads of words, as an answer writes it.
 use md_args::{CommandWords, DemoWords, RunWords, read_words};
+use row_lines::{RowError, text_of};
 use std::alloc::{AllocError, Global};
 
 /// A word of what was read: a name, a number, or none.
@@ -109,20 +110,24 @@ fn put_word(text: &mut String, word: Word<'_>) -> Result<(), AllocError> {
     }
 }
 
-/// Words as a text, with spaces between them.
-fn spelled(alloc: Global, words: &[Word<'_>]) -> Result<String, AllocError> {
-    let mut text = String::new(alloc);
+fn put_words(text: &mut String, words: &[Word<'_>]) -> Result<(), AllocError> {
     for word in words {
-        put_word(&mut text, *word)?;
+        put_word(text, *word)?;
     }
+    Ok(())
+}
+
+/// Words as a text, with spaces between them.
+fn spelled(alloc: Global, words: &[Word<'_>; 8]) -> Result<String, RowError> {
+    let mut text = String::new(alloc);
+    put_words(&mut text, words)?;
     Ok(text)
 }
 
 /// What words are read as: what the command has of them, or that they are refused.
-pub(crate) fn read(alloc: Global, words: &[String]) -> Result<String, AllocError> {
-    let read = match read_words(alloc, words)? {
-        Some(read) => command_of(&read),
-        None => three(Word::Name("refused"), Word::Nothing, Word::Nothing),
-    };
-    spelled(alloc, read.as_slice())
+pub(crate) fn read(alloc: Global, words: &Vec<String>) -> Result<String, RowError> {
+    match read_words(alloc, words)? {
+        Some(read) => spelled(alloc, &command_of(&read)),
+        None => text_of(alloc, "refused"),
+    }
 }

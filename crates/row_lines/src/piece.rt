@@ -1,26 +1,53 @@
 use crate::numbers::{number, readable};
 use crate::repeat::repeats;
 use crate::row_error::RowError;
+use crate::texts::text_of;
 use crate::words::{first_word, parted};
-use std::alloc::Global;
+use std::alloc::{AllocError, Global};
 
 /// More bytes than this are none of the language.
 const MOST: u64 = 0x100_0000;
 
-/// Puts bytes over those from a place on.
-fn put_bytes(into: &mut [u8], place: u64, values: &[u8]) -> Result<(), RowError> {
-    let place = readable(usize::try_from(place))?;
-    let rest = into.get_mut(place..).ok_or(RowError::NoSuchLine)?;
-    let part = rest.get_mut(..values.len()).ok_or(RowError::NoSuchLine)?;
-    part.copy_from_slice(values);
-    Ok(())
+/// The bytes from a place on; `NoSuchLine` where they end before it.
+pub fn rest_of(bytes: &[u8], place: usize) -> Result<&[u8], RowError> {
+    match bytes.get(place..) {
+        Some(rest) => Ok(rest),
+        None => Err(RowError::NoSuchLine),
+    }
+}
+
+/// So many bytes from a place on; `NoSuchLine` where they end before that.
+pub fn part_of(bytes: &[u8], place: usize, count: usize) -> Result<&[u8], RowError> {
+    match rest_of(bytes, place)?.get(..count) {
+        Some(part) => Ok(part),
+        None => Err(RowError::NoSuchLine),
+    }
+}
+
+/// Puts bytes over the first ones.
+fn put_first(into: &mut [u8], values: &[u8]) -> Result<(), RowError> {
+    match into.get_mut(..values.len()) {
+        Some(part) => {
+            part.copy_from_slice(values);
+            Ok(())
+        }
+        None => Err(RowError::NoSuchLine),
+    }
+}
+
+/// Puts bytes over those from a place on; `NoSuchLine` where there is no room.
+pub fn put_bytes(into: &mut [u8], place: usize, values: &[u8]) -> Result<(), RowError> {
+    match into.get_mut(place..) {
+        Some(rest) => put_first(rest, values),
+        None => Err(RowError::NoSuchLine),
+    }
 }
 
 /// Puts `BYTES`, or `N*BYTES` so many times, over what is there from an offset on; `NoSuchLine` where the text is neither
 /// or there is no room.
 pub fn put(alloc: Global, into: &mut [u8], place: u64, text: &str) -> Result<(), RowError> {
     let values = repeats(alloc, text)?;
-    put_bytes(into, place, &values)
+    put_bytes(into, readable(usize::try_from(place))?, &values)
 }
 
 /// Puts a piece.
@@ -44,6 +71,27 @@ pub fn pieces(alloc: Global, text: &str) -> Result<Vec<u8>, RowError> {
     Ok(built)
 }
 
+/// How many bytes are the same before the first that differs.
+fn same_ones(came: &[u8], wanted: &[u8]) -> usize {
+    let mut place = 0usize;
+    for (one, other) in came.iter().zip(wanted.iter()) {
+        if one != other {
+            break;
+        }
+        place = place.wrapping_add(1);
+    }
+    place
+}
+
+/// How bytes differ from those that are wanted.
+fn difference(alloc: Global, came: &[u8], wanted: &[u8]) -> Result<String, AllocError> {
+    let place = same_ones(came, wanted);
+    match (came.get(place), wanted.get(place)) {
+        (Some(one), Some(other)) => format!(in alloc; "{one:02X} at {place} for {other:02X}"),
+        _ => format!(in alloc; "{} bytes for {}", came.len(), wanted.len()),
+    }
+}
+
 /// The first place at which bytes differ from those that are wanted, or their lengths; `reported` where they do not.
 /// It fails where there is no memory for the text.
 pub fn compared(
@@ -52,15 +100,8 @@ pub fn compared(
     wanted: &[u8],
     reported: &str,
 ) -> Result<String, RowError> {
-    let mut place = 0u64;
-    for (one, other) in came.iter().zip(wanted.iter()) {
-        if one != other {
-            return Ok(format!(in alloc; "{one:02X} at {place} for {other:02X}")?);
-        }
-        place = place.wrapping_add(1);
+    if came == wanted {
+        return text_of(alloc, reported);
     }
-    if came.len() != wanted.len() {
-        return Ok(format!(in alloc; "{} bytes for {}", came.len(), wanted.len())?);
-    }
-    Ok(String::from_str(alloc, reported)?)
+    Ok(difference(alloc, came, wanted)?)
 }

@@ -4,7 +4,7 @@ use fm_port::{FmList, FmPort};
 use md_word::Key;
 use md_word::clock::BATCH;
 use psg_sound::{PsgList, PsgPort, PsgSynth};
-use row_lines::{RowError, byte, number, parted};
+use row_lines::{RowError, byte, number, parted, text_of};
 use std::alloc::{AllocError, Global};
 use std::fmt::Write;
 
@@ -101,10 +101,14 @@ impl Sound {
         let (chip, writes) = parted(words, ' ')?;
         let (from, to) = cycles.split_once("..").unwrap_or((cycles, cycles));
         for cycle in number(from)?..=number(to)? {
-            let key = key_of(cycle, chip)?;
-            for write in writes.split(' ') {
-                self.write_fm_byte(key, write)?;
-            }
+            self.write_fm_bytes(key_of(cycle, chip)?, writes)?;
+        }
+        Ok(())
+    }
+
+    fn write_fm_bytes(&mut self, key: Key, writes: &str) -> Result<(), RowError> {
+        for write in writes.split(' ') {
+            self.write_fm_byte(key, write)?;
         }
         Ok(())
     }
@@ -162,10 +166,9 @@ impl Sound {
 
     fn hear(&mut self) -> Result<(), RowError> {
         let levels = self.tell_levels()?;
+        self.heard.push_str(&levels)?;
         let sides = self.tell_sides()?;
-        self.heard.push_str(levels.as_str())?;
-        self.heard.push_str(sides.as_str())?;
-        Ok(())
+        Ok(self.heard.push_str(&sides)?)
     }
 
     /// The levels of the PSG in the last batch.
@@ -174,7 +177,7 @@ impl Sound {
         for level in self.levels {
             write!(text, "{level} ")?;
         }
-        Ok(String::from_str(self.alloc, text.trim_end())?)
+        text_of(self.alloc, text.trim_end())
     }
 
     /// The sums of the left and the right side of the FM chip in the last batch.
@@ -183,7 +186,7 @@ impl Sound {
         for (left, right) in self.sides {
             write!(text, "{left},{right} ")?;
         }
-        Ok(String::from_str(self.alloc, text.trim_end())?)
+        text_of(self.alloc, text.trim_end())
     }
 
     /// Whether the same was heard as was kept.
@@ -194,6 +197,6 @@ impl Sound {
         } else {
             "other than kept"
         };
-        Ok(String::from_str(self.alloc, reported)?)
+        text_of(self.alloc, reported)
     }
 }

@@ -2,6 +2,23 @@ use crate::sound::chips::Sound;
 use crate::sound::vgm::{body, head, play};
 use crate::sound::voices::{key, mixed, phase_step, sample, tick, voice};
 use row_lines::{Fixture, RowError, first_word};
+use std::alloc::Global;
+
+/// The answer to a question that concerns no chip of the row.
+fn answer_of(alloc: Global, verb: &str, words: &str) -> Result<String, RowError> {
+    match verb {
+        "wave" => sample(alloc, words),
+        "step" => phase_step(alloc, words),
+        "channel" => voice(alloc, words),
+        "tick" => tick(alloc, words),
+        "key" => key(alloc, words),
+        "mix" => mixed(alloc, words),
+        "body" => body(alloc, words),
+        "head" => head(alloc, words),
+        "play" => play(alloc, words),
+        _ => Err(RowError::NoSuchLine),
+    }
+}
 
 impl Fixture for Sound {
     fn begin(&mut self) -> Result<(), RowError> {
@@ -25,12 +42,6 @@ impl Fixture for Sound {
     fn answer(&mut self, asked: &str, wanted: &str) -> Result<String, RowError> {
         let (verb, words) = first_word(asked);
         match verb {
-            "wave" => sample(self.alloc, words),
-            "step" => phase_step(self.alloc, words),
-            "channel" => voice(self.alloc, words),
-            "tick" => tick(self.alloc, words),
-            "key" => key(self.alloc, words),
-            "mix" => mixed(self.alloc, words),
             "status" => self.status(words),
             "take" => self.take(words),
             "batch" => self.batch(words),
@@ -40,10 +51,7 @@ impl Fixture for Sound {
             "state" => self.state(words),
             "spell" => self.spell(words, wanted),
             "again" => self.again(words),
-            "body" => body(self.alloc, words),
-            "head" => head(self.alloc, words),
-            "play" => play(self.alloc, words),
-            _ => Err(RowError::NoSuchLine),
+            _ => answer_of(self.alloc, verb, words),
         }
     }
 }

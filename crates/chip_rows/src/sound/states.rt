@@ -4,7 +4,7 @@ use fm_chip::FmSynth;
 use fm_port::{FmPort, PORT_SIZE};
 use md_word::Unspell;
 use psg_sound::{PsgPort, PsgSynth};
-use row_lines::{RowError, compared, number, parted, pieces};
+use row_lines::{RowError, compared, decimal_of, number, parted, pieces};
 
 /// A chip, and a cycle.
 fn chip_and_cycle(words: &str) -> Result<(&str, u64), RowError> {
@@ -57,14 +57,22 @@ impl Sound {
         Ok(bytes)
     }
 
+    /// `reported` where a chip is spelled by these bytes.
+    fn compare(
+        &self,
+        chip: &str,
+        at: u64,
+        bytes: &[u8],
+        reported: &str,
+    ) -> Result<String, RowError> {
+        compared(self.alloc, &self.spelled(chip, at)?, bytes, reported)
+    }
+
     /// Reads a chip of bytes: `kept` where it is spelled by the same bytes, or the offset at which they are refused.
     fn read_again(&mut self, chip: &str, bytes: &[u8], at: u64) -> Result<String, RowError> {
         match self.read(chip, bytes, at) {
-            Ok(()) => {
-                let again = self.spelled(chip, at)?;
-                compared(self.alloc, &again, bytes, "kept")
-            }
-            Err(Unspell::Rule { place }) => Ok(format!(in self.alloc; "refused {place}")?),
+            Ok(()) => self.compare(chip, at, bytes, "kept"),
+            Err(Unspell::Rule { place }) => decimal_of(self.alloc, "refused ", place),
             Err(Unspell::NoMemory) => Err(RowError::Memory),
         }
     }
@@ -87,7 +95,6 @@ impl Sound {
     /// Whether a chip is spelled by the bytes that are wanted.
     pub fn spell(&mut self, words: &str, wanted: &str) -> Result<String, RowError> {
         let (chip, at) = chip_and_cycle(words)?;
-        let bytes = self.spelled(chip, at)?;
-        compared(self.alloc, &bytes, &pieces(self.alloc, wanted)?, wanted)
+        self.compare(chip, at, &pieces(self.alloc, wanted)?, wanted)
     }
 }

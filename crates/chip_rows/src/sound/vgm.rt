@@ -1,8 +1,12 @@
 // VGM files: made of journals, and played.
+ghost use Rattle.std.specs.Prelude.{◌≤◌, IfOk, vec_len};
+
 use md_files::put_entry;
 use md_vgm::{VgmFault, from_journal};
 use md_word::{Entry, Key};
-use row_lines::{RowError, byte, bytes, first_word, long, number, parted, word};
+use row_lines::{
+    RowError, append, byte, decimal_of, first_word, long, number, parted, repeats, word,
+};
 use std::alloc::Global;
 
 /// The longest journal or file.
@@ -12,82 +16,102 @@ const MOST: usize = 67_108_864;
 static HEAD: [u8; 64] =
     *b"Vgm \0\0\0\0\x50\x01\0\0\0\0\0\0\0\0\0\0\0\0\0\0\0\0\0\0\0\0\0\0\0\0\0\0\0\0\0\0\0\0\0\0\0\0\0\0\0\0\0\0\x0c\0\0\0\0\0\0\0\0\0\0\0";
 
-/// The entry `CYCLE:CHIP:KIND:ADDRESS:VALUE`.
-fn entry_of(text: &str) -> Result<Entry, RowError> {
-    let (cycle, rest) = parted(text, ':')?;
-    let (chip, rest) = parted(rest, ':')?;
-    let (kind, rest) = parted(rest, ':')?;
+fn key_of(cycle: &str, chip: &str) -> Result<Key, RowError> {
+    Ok(Key {
+        cycle: number(cycle)?,
+        chip: byte(chip)?,
+    })
+}
+
+/// The entry of a key and of `KIND:ADDRESS:VALUE`.
+fn entry_by(key: Key, text: &str) -> Result<Entry, RowError> {
+    let (kind, rest) = parted(text, ':')?;
     let (address, value) = parted(rest, ':')?;
     Ok(Entry {
-        key: Key {
-            cycle: number(cycle)?,
-            chip: byte(chip)?,
-        },
+        key,
         kind: byte(kind)?,
         address: long(address)?,
         value: word(value)?,
     })
 }
 
+/// The entry `CYCLE:CHIP:KIND:ADDRESS:VALUE`.
+fn entry_of(text: &str) -> Result<Entry, RowError> {
+    let (cycle, rest) = parted(text, ':')?;
+    let (chip, rest) = parted(rest, ':')?;
+    entry_by(key_of(cycle, chip)?, rest)
+}
+
 fn append_entry(alloc: Global, into: &mut Vec<u8>, text: &str) -> Result<(), RowError> {
     let entry = entry_of(text)?;
     let mut record = Vec::with_capacity(alloc, 16)?;
     put_entry(&entry, &mut record);
-    Ok(into.extend_from_slice(&record)?)
+    append(into, &record)
 }
 
-/// Appends bytes, or so often `COUNT*BYTES`.
-fn append_bytes(alloc: Global, into: &mut Vec<u8>, text: &str) -> Result<(), RowError> {
-    let (count, digits) = text.split_once('*').unwrap_or(("1", text));
-    let piece = bytes(alloc, digits)?;
-    for _ in 0..number(count)? {
-        into.extend_from_slice(&piece)?;
+/// Appends an entry, bytes, which may be `COUNT*BYTES`, or those of the word `head`.
+fn append_word(alloc: Global, into: &mut Vec<u8>, word: &str) -> Result<(), RowError> {
+    if word == "head" {
+        append(into, &HEAD)
+    } else if word.contains(':') {
+        append_entry(alloc, into, word)
+    } else {
+        append(into, &repeats(alloc, word)?)
+    }
+}
+
+fn append_all(alloc: Global, into: &mut Vec<u8>, words: &str) -> Result<(), RowError> {
+    for word in words.split_whitespace() {
+        append_word(alloc, into, word)?;
     }
     Ok(())
 }
 
-/// Whether it is PAL, and the bytes of entries, of bytes and of the word `head`.
-fn build(alloc: Global, words: &str) -> Result<(bool, Vec<u8>), RowError> {
+/// The bytes of entries, of bytes and of the word `head`.
+fn build(alloc: Global, words: &str) -> Result<Vec<u8>, RowError>
+    ensures { IfOk result (λ built. vec_len built ≤ 67108864) }
+{
     let mut built = Vec::new(alloc);
-    let (region, words) = first_word(words);
-    for word in words.split_whitespace() {
-        if word == "head" {
-            built.extend_from_slice(&HEAD)?;
-        } else if word.contains(':') {
-            append_entry(alloc, &mut built, word)?;
-        } else {
-            append_bytes(alloc, &mut built, word)?;
-        }
+    append_all(alloc, &mut built, words)?;
+    if built.len() > MOST {
+        return Err(RowError::NoSuchLine);
     }
+    Ok(built)
+}
+
+/// Whether it is PAL.
+fn is_pal(region: &str) -> Result<bool, RowError> {
     match region {
-        "ntsc" => Ok((false, built)),
-        "pal" => Ok((true, built)),
+        "ntsc" => Ok(false),
+        "pal" => Ok(true),
         _ => Err(RowError::NoSuchLine),
     }
 }
 
 /// The text of a fault.
 fn fault(alloc: Global, fault: VgmFault) -> Result<String, RowError> {
-    Ok(match fault {
-        VgmFault::Form { place } => format!(in alloc; "form {place}")?,
-        VgmFault::Dense { place } => format!(in alloc; "dense {place}")?,
-        VgmFault::Long { place } => format!(in alloc; "long {place}")?,
-        VgmFault::NoMemory => return Err(RowError::Memory),
-    })
+    match fault {
+        VgmFault::Form { place } => decimal_of(alloc, "form ", place),
+        VgmFault::Dense { place } => decimal_of(alloc, "dense ", place),
+        VgmFault::Long { place } => decimal_of(alloc, "long ", place),
+        VgmFault::NoMemory => Err(RowError::Memory),
+    }
+}
+
+/// A file from an offset on and up to another.
+fn part(alloc: Global, file: &[u8], from: usize, to: usize) -> Result<String, RowError> {
+    match file.get(from..to.min(file.len())) {
+        Some(part) => Ok(hex::encode(alloc, part)?),
+        None => Err(RowError::NoSuchName),
+    }
 }
 
 /// The file of a journal, from an offset on and up to another.
 fn made(alloc: Global, words: &str, from: usize, to: usize) -> Result<String, RowError> {
-    let (pal, journal) = build(alloc, words)?;
-    if journal.len() > MOST {
-        return Err(RowError::NoSuchLine);
-    }
-    match from_journal(alloc, &journal, pal) {
-        Ok(file) => {
-            let to = to.min(file.len());
-            let part = file.get(from..to).ok_or(RowError::NoSuchName)?;
-            Ok(hex::encode(alloc, part)?)
-        }
+    let (region, words) = first_word(words);
+    let journal = build(alloc, words)?;
+    match from_journal(alloc, &journal, is_pal(region)?) {
+        Ok(file) => part(alloc, &file, from, to),
         Err(error) => fault(alloc, error),
     }
 }
@@ -104,12 +128,10 @@ pub fn body(alloc: Global, words: &str) -> Result<String, RowError> {
 
 /// The length of the sound file of a VGM file.
 pub fn play(alloc: Global, words: &str) -> Result<String, RowError> {
-    let (pal, file) = build(alloc, words)?;
-    if file.len() > MOST {
-        return Err(RowError::NoSuchLine);
-    }
-    match md_vgm::play(alloc, &file, pal) {
-        Ok(sound) => Ok(format!(in alloc; "sound {}", sound.len())?),
+    let (region, words) = first_word(words);
+    let file = build(alloc, words)?;
+    match md_vgm::play(alloc, &file, is_pal(region)?) {
+        Ok(sound) => decimal_of(alloc, "sound ", sound.len() as u64),
         Err(error) => fault(alloc, error),
     }
 }

@@ -4,17 +4,20 @@ ghost use Rattle.std.specs.Prelude.{◌<◌, IfOk};
 use fm_env::{Envelope, EnvelopeState};
 use fm_voice::{channel, step_of, wave};
 use md_files::mix;
-use row_lines::{RowError, parted, readable};
+use row_lines::{RowError, decimal_of, parted, readable};
 use std::alloc::Global;
 use std::fmt::Write;
+
+fn number_of(word: &str) -> Result<i32, RowError> {
+    readable(word.parse::<i32>())
+}
 
 /// So many decimal numbers.
 fn numbers<const N: usize>(words: &str) -> Result<[i32; N], RowError> {
     let mut values = [0; N];
     let mut rest = words.split(' ');
     for value in values.iter_mut() {
-        let word = rest.next().ok_or(RowError::NoSuchLine)?;
-        *value = readable(word.parse::<i32>())?;
+        *value = number_of(rest.next().unwrap_or(""))?;
     }
     match rest.next() {
         None => Ok(values),
@@ -46,8 +49,11 @@ pub fn phase_step(alloc: Global, words: &str) -> Result<String, RowError> {
     let octave = below(octave, 8)?;
     let detune = below(detune, 8)? as u8;
     let multiple = below(multiple, 16)? as u8;
-    let step = step_of(number, 0, octave, detune, multiple);
-    Ok(format!(in alloc; "{step}")?)
+    decimal_of(
+        alloc,
+        "",
+        u64::from(step_of(number, 0, octave, detune, multiple)),
+    )
 }
 
 /// The level of a channel: the algorithm, the place of all four operators, and their attenuations.

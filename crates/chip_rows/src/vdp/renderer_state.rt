@@ -61,6 +61,18 @@ impl Video {
             "dot" => self.tell_dot(rest, answer),
             "drop" => self.drop_frame(rest),
             "vram" => self.copy_memory(rest),
+            _ => self.obey_line_buffer(alloc, verb, rest, answer),
+        }
+    }
+
+    fn obey_line_buffer(
+        &mut self,
+        alloc: Global,
+        verb: &str,
+        rest: &str,
+        answer: &mut Answer,
+    ) -> Result<(), RowError> {
+        match verb {
             "sheet" => self.begin_line_buffer(rest),
             "ahead" => self.draw_ahead(rest),
             "has" => self.tell_lines(rest, answer),

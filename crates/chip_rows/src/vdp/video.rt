@@ -73,6 +73,18 @@ impl Video {
             "status" => self.read_status(rest, answer),
             "word" => self.transfer(rest),
             "settle" => self.settle(rest),
+            _ => self.obey_time(alloc, verb, rest, answer),
+        }
+    }
+
+    fn obey_time(
+        &mut self,
+        alloc: Global,
+        verb: &str,
+        rest: &str,
+        answer: &mut Answer,
+    ) -> Result<(), RowError> {
+        match verb {
             "busy" => self.tell_busy(rest, answer),
             "level" => self.tell_level(rest, answer),
             "acknowledge" => self.acknowledge(rest),

@@ -1,6 +1,9 @@
-use m68k_alu::{Quotient, compute, divide};
+ghost use Rattle.std.specs.Prelude.{◌<◌, IfOk};
+ghost use Rattle.md_word.specs.Width.{modulus_of};
+
+use m68k_alu::{Out, Quotient, compute, divide};
 use md_word::{Flags, Size, Task};
-use row_lines::{RowError, long, parted, readable, word};
+use row_lines::{RowError, long, long_of, parted, readable, text_of, word};
 use std::alloc::{AllocError, Global};
 
 static TASKS: [(&str, Task); 33] = [
@@ -63,9 +66,22 @@ fn codes(text: &str) -> Result<Flags, RowError> {
     })
 }
 
-fn codes_reported(alloc: Global, flags: Flags) -> Result<String, AllocError> {
-    let [x, n, z, v, c] = [flags.x, flags.n, flags.z, flags.v, flags.c].map(u8::from);
-    format!(in alloc; "{x}{n}{z}{v}{c}")
+fn put_codes(text: &mut String, flags: Flags) -> Result<(), AllocError> {
+    for is_set in [flags.x, flags.n, flags.z, flags.v, flags.c] {
+        text.push(if is_set { '1' } else { '0' })?;
+    }
+    Ok(())
+}
+
+/// A value of a size.
+fn operand(text: &str, size: Size) -> Result<u32, RowError>
+    ensures { IfOk result (λ value. value < modulus_of size) }
+{
+    let value = long(text)?;
+    if u64::from(value) >= size.modulus() {
+        return Err(RowError::NoSuchLine);
+    }
+    Ok(value)
 }
 
 /// The result of an operation, and its condition codes.
@@ -73,24 +89,23 @@ pub fn computed(alloc: Global, name: &str, size: Size, rest: &str) -> Result<Str
     let task = task_of(name)?;
     let (source, rest) = parted(rest, ' ')?;
     let (target, before) = parted(rest, ' ')?;
-    let source = long(source)?;
-    let target = long(target)?;
-    let most = size.modulus();
-    if u64::from(source) >= most || u64::from(target) >= most {
-        return Err(RowError::NoSuchLine);
-    }
-    let out = compute(task, size, source, target, codes(before)?);
-    let after = codes_reported(alloc, out.flags)?;
-    Ok(format!(in alloc; "{:08X} {after}", out.value)?)
+    let (source, target) = (operand(source, size)?, operand(target, size)?);
+    Ok(reported(alloc, compute(task, size, source, target, codes(before)?))?)
+}
+
+fn reported(alloc: Global, out: Out) -> Result<String, AllocError> {
+    let mut text = format!(in alloc; "{:08X} ", out.value)?;
+    put_codes(&mut text, out.flags)?;
+    Ok(text)
 }
 
 /// What a division by a word gives: the remainder and the quotient, or that it is by 0 or overflows.
 pub fn divided(alloc: Global, signed: bool, rest: &str) -> Result<String, RowError> {
     let (source, target) = parted(rest, ' ')?;
     match divide(signed, word(source)?, long(target)?) {
-        Quotient::Value(value) => Ok(format!(in alloc; "{value:08X}")?),
-        Quotient::Zero => Ok(String::from_str(alloc, "by zero")?),
-        Quotient::Overflow => Ok(String::from_str(alloc, "overflow")?),
+        Quotient::Value(value) => long_of(alloc, "", value),
+        Quotient::Zero => text_of(alloc, "by zero"),
+        Quotient::Overflow => text_of(alloc, "overflow"),
     }
 }
 
@@ -102,5 +117,7 @@ pub fn flags_of(alloc: Global, rest: &str) -> Result<String, RowError> {
         "overflow" => Quotient::Overflow,
         _ => Quotient::Value(long(gave)?),
     };
-    Ok(codes_reported(alloc, quotient.flags(codes(before)?))?)
+    let mut text = String::new(alloc);
+    put_codes(&mut text, quotient.flags(codes(before)?))?;
+    Ok(text)
 }

@@ -1,12 +1,15 @@
 use crate::m68k::asked::Asked;
-use crate::m68k::changes::{change, piece, range_of};
+use crate::m68k::changes::{change, range_of};
 use crate::m68k::events::{ahead, begun, pins, sample, take};
 use crate::m68k::registers::{registers, value_of};
 use crate::m68k::requests::put_access;
 use m68k_chip::{CHIP_SIZE, Chip68};
 use md_word::{Request68, Unspell};
 use rom_header::Cart;
-use row_lines::{RowError, first_word, hexadecimal, number, parted, word};
+use row_lines::{
+    RowError, decimal_of, digits_of, first_word, hexadecimal, long_of, number, part_of, parted,
+    text_of, word,
+};
 use std::alloc::Global;
 use std::sync::Arc;
 
@@ -70,8 +73,8 @@ impl Board {
     pub fn sample(&mut self, alloc: Global, rest: &str) -> Result<String, RowError> {
         let pins = pins(rest)?;
         match sample(self.chip()?, pins) {
-            Some(cycle) => Ok(format!(in alloc; "{cycle}")?),
-            None => Ok(String::from_str(alloc, "no sample")?),
+            Some(cycle) => decimal_of(alloc, "", cycle),
+            None => text_of(alloc, "no sample"),
         }
     }
 
@@ -81,9 +84,9 @@ impl Board {
         let pins = pins(level)?;
         let end = number(end)?;
         match ahead(self.chip()?, pins, end) {
-            Some((cycle, true)) => Ok(format!(in alloc; "sample {cycle}")?),
-            Some((cycle, false)) => Ok(format!(in alloc; "access {cycle}")?),
-            None => Ok(String::from_str(alloc, "no sample")?),
+            Some((cycle, true)) => decimal_of(alloc, "sample ", cycle),
+            Some((cycle, false)) => decimal_of(alloc, "access ", cycle),
+            None => text_of(alloc, "no sample"),
         }
     }
 
@@ -92,30 +95,29 @@ impl Board {
         let value = if rest.is_empty() { 0 } else { word(rest)? };
         match take(self.chip()?, value) {
             Some((cycle, request)) => access_reported(alloc, cycle, request, value),
-            None => Ok(String::from_str(alloc, "no access")?),
+            None => text_of(alloc, "no access"),
         }
     }
 
     /// `begins`
     pub fn begins(&mut self, alloc: Global) -> Result<String, RowError> {
         match begun(self.chip()?) {
-            Some(at) => Ok(format!(in alloc; "{at:08X}")?),
-            None => Ok(String::from_str(alloc, "none")?),
+            Some(at) => long_of(alloc, "", at),
+            None => text_of(alloc, "none"),
         }
     }
 
     /// `halted`
     pub fn halted(&mut self, alloc: Global) -> Result<String, RowError> {
         match self.chip()?.halted() {
-            Some(since) => Ok(format!(in alloc; "since {since}")?),
-            None => Ok(String::from_str(alloc, "no")?),
+            Some(since) => decimal_of(alloc, "since ", since),
+            None => text_of(alloc, "no"),
         }
     }
 
     /// `register NAME`
     pub fn register(&mut self, alloc: Global, rest: &str) -> Result<String, RowError> {
-        let value = value_of(self.chip()?.regs(), rest)?;
-        Ok(format!(in alloc; "{value:08X}")?)
+        long_of(alloc, "", value_of(self.chip()?.regs(), rest)?)
     }
 
     /// `ram ADDRESS COUNT`
@@ -123,7 +125,10 @@ impl Board {
         let (at, count) = parted(rest, ' ')?;
         let at = hexadecimal(at)? % 0x1_0000;
         let count = number(count)? % 0x1_0000;
-        piece(alloc, self.chip()?.ram(), at as usize, count as usize)
+        digits_of(
+            alloc,
+            part_of(self.chip()?.ram(), at as usize, count as usize)?,
+        )
     }
 
     fn bytes_at(&mut self, alloc: Global, cycle: &str) -> Result<Vec<u8>, RowError> {
@@ -136,7 +141,7 @@ impl Board {
         let (cycle, rest) = parted(rest, ' ')?;
         let (from, count) = range_of(rest)?;
         let bytes = self.bytes_at(alloc, cycle)?;
-        piece(alloc, bytes.as_slice(), from, count)
+        digits_of(alloc, part_of(&bytes, from, count)?)
     }
 
     /// `keep CYCLE`: keeps the bytes that keep the 68000
@@ -149,7 +154,7 @@ impl Board {
     pub fn same(&mut self, alloc: Global, rest: &str) -> Result<String, RowError> {
         let bytes = self.bytes_at(alloc, rest)?;
         let is_same = bytes.as_slice() == self.bytes.as_slice();
-        Ok(String::from_str(alloc, if is_same { "yes" } else { "no" })?)
+        text_of(alloc, if is_same { "yes" } else { "no" })
     }
 
     /// `return CYCLE`: the 68000 is the one that its own bytes keep
@@ -164,9 +169,9 @@ impl Board {
         match Chip68::unspell(alloc, bytes, at, self.cart(alloc)?) {
             Ok(chip) => {
                 self.chip = Some(chip);
-                Ok(String::from_str(alloc, "accepted")?)
+                text_of(alloc, "accepted")
             }
-            Err(Unspell::Rule { place }) => Ok(format!(in alloc; "refused at {place}")?),
+            Err(Unspell::Rule { place }) => decimal_of(alloc, "refused at ", place),
             Err(Unspell::NoMemory) => Err(RowError::Memory),
         }
     }

@@ -10,7 +10,7 @@ use m68k_ea::{Place, place, step, stepped};
 use m68k_except::{Frame, frame};
 use m68k_time::clocks;
 use md_word::{Mode, Regs, Size};
-use row_lines::{RowError, first_word, parted};
+use row_lines::{RowError, decimal_of, first_word, long_of, parted, text_of};
 use std::alloc::{AllocError, Global};
 
 /// The answer to a question that concerns no chip.
@@ -60,7 +60,7 @@ fn sized(
 fn clocks_of(alloc: Global, regs: &Regs, rest: &str) -> Result<String, RowError> {
     let asked = Asked::of(regs, rest)?;
     let taken = clocks(&decode(&asked.words).op, asked.spent);
-    Ok(format!(in alloc; "{taken}")?)
+    decimal_of(alloc, "", u64::from(taken))
 }
 
 /// What is no instruction: which of the three kinds, its first word, and its bytes.
@@ -88,7 +88,7 @@ fn illegal(alloc: Global, regs: &Regs, rest: &str) -> Result<String, RowError> {
             sum = sum.wrapping_add(1);
         }
     }
-    Ok(format!(in alloc; "{sum}")?)
+    decimal_of(alloc, "", sum)
 }
 
 fn is_mode(mode: Mode) -> bool
@@ -123,23 +123,25 @@ fn place_of(alloc: Global, regs: &Regs, size: Size, rest: &str) -> Result<String
         Place::Immediate(value) => ("#", value),
         Place::Odd(at) => ("odd ", at),
     };
-    Ok(format!(in alloc; "{kind}{value:08X}")?)
+    long_of(alloc, kind, value)
 }
 
 /// A register after a step, by both functions.
-fn step_of(alloc: Global, regs: &Regs, size: Size, rest: &str) -> Result<String, RowError> {
-    let (name, rest) = parted(rest, ' ')?;
-    let asked = Asked::of(regs, rest)?;
+fn steps_of(asked: &Asked, size: Size, name: &str) -> Result<(u32, u32), RowError> {
     let mode = source_of(&asked.words)?;
     let mut moved = asked.regs;
     step(mode, size, &mut moved);
-    let other = value_of(&stepped(mode, size, &asked.regs), name)?;
-    let value = value_of(&moved, name)?;
+    let other = stepped(mode, size, &asked.regs);
+    Ok((value_of(&moved, name)?, value_of(&other, name)?))
+}
+
+fn step_of(alloc: Global, regs: &Regs, size: Size, rest: &str) -> Result<String, RowError> {
+    let (name, rest) = parted(rest, ' ')?;
+    let (value, other) = steps_of(&Asked::of(regs, rest)?, size, name)?;
     if value == other {
-        Ok(format!(in alloc; "{value:08X}")?)
-    } else {
-        Ok(format!(in alloc; "{value:08X}, and by stepped {other:08X}")?)
+        return long_of(alloc, "", value);
     }
+    Ok(format!(in alloc; "{value:08X}, and by stepped {other:08X}")?)
 }
 
 /// The words that an exception pushes.
@@ -154,15 +156,15 @@ fn frame_of(alloc: Global, regs: &Regs, rest: &str) -> Result<String, RowError> 
         asked.is_read,
     );
     match found {
-        Frame::Halted => Ok(String::from_str(alloc, "halted")?),
-        Frame::Words(words) => Ok(words_reported(alloc, words.as_slice())?),
+        Frame::Halted => text_of(alloc, "halted"),
+        Frame::Words(words) => words_reported(alloc, words.as_slice()),
     }
 }
 
-fn words_reported(alloc: Global, words: &[u16]) -> Result<String, AllocError> {
+fn words_reported(alloc: Global, words: &[u16]) -> Result<String, RowError> {
     let mut text = String::new(alloc);
     put_words(&mut text, words)?;
-    String::from_str(alloc, text.as_str().trim_start())
+    text_of(alloc, text.trim_start())
 }
 
 fn put_words(text: &mut String, words: &[u16]) -> Result<(), AllocError> {

@@ -44,11 +44,15 @@ fn set_numbered(regs: &mut Regs, name: &str, value: u32) -> Result<(), RowError>
     }
 }
 
+fn set_one(regs: &mut Regs, token: &str) -> Result<(), RowError> {
+    let (name, value) = parted(token, '=')?;
+    set(regs, name, long(value)?)
+}
+
 /// Sets each register of a list.
 pub fn set_all(regs: &mut Regs, text: &str) -> Result<(), RowError> {
     for token in text.split_whitespace() {
-        let (name, value) = parted(token, '=')?;
-        set(regs, name, long(value)?)?;
+        set_one(regs, token)?;
     }
     Ok(())
 }

@@ -4,7 +4,7 @@ use arrayvec::ArrayVec;
 use m68k_exec::{Finish, Progress, Step, go};
 use md_word::{Regs, Request68, Spent};
 use rom_header::Cart;
-use row_lines::{RowError, long, parted, word};
+use row_lines::{RowError, long, parted, text_of, word};
 use std::alloc::{AllocError, Global};
 
 /// A sample of the 68000: what is before it, and what came of it.
@@ -29,6 +29,16 @@ fn image() -> [u8; 0x400] {
     }
     rom[0x100..0x104].copy_from_slice(b"SEGA");
     rom
+}
+
+/// The answer to an access that is wanted, where a word is one: of a read its value.
+fn answer_in(token: &str) -> Result<Option<u16>, RowError> {
+    let (kind, value) = token.split_once('=').unwrap_or(("", ""));
+    if kind.starts_with("R:") || kind.starts_with("r:") {
+        return Ok(Some(word(value)?));
+    }
+    let is_access = kind.contains(':') || kind == "ACK";
+    Ok(if is_access { Some(0) } else { None })
 }
 
 impl Sample {
@@ -87,16 +97,17 @@ impl Sample {
     /// Takes the answers of the accesses that are wanted: of a read its value.
     fn take_answers(&mut self, wanted: &str) -> Result<(), RowError> {
         for token in wanted.split_whitespace() {
-            if let Some((kind, value)) = token.split_once('=') {
-                let is_read = kind.starts_with("R:") || kind.starts_with("r:");
-                let is_access = is_read || kind.contains(':') || kind == "ACK";
-                let value = if is_read { word(value)? } else { 0 };
-                if is_access && !self.answers.is_full() {
-                    self.answers.push(value);
-                }
-            }
+            self.take_answer(answer_in(token)?);
         }
         Ok(())
+    }
+
+    fn take_answer(&mut self, answer: Option<u16>) {
+        if let Some(answer) = answer
+            && !self.answers.is_full()
+        {
+            self.answers.push(answer);
+        }
     }
 
     /// Runs it with no answer, one, and so on, and prints its accesses.
@@ -170,16 +181,33 @@ impl Sample {
         put_register(text, "US", before.usp, after.usp)?;
         put_register(text, "SS", before.ssp, after.ssp)?;
         put_register(text, "PC", next, after.pc)?;
-        if before.sr != after.sr {
-            write!(text, " SR={:04X}", after.sr)?;
-        }
-        Ok(())
+        put_status(text, before.sr, after.sr)
     }
+}
+
+fn put_status(text: &mut String, before: u16, after: u16) -> Result<(), AllocError> {
+    if before != after {
+        write!(text, " SR={after:04X}")?;
+    }
+    Ok(())
 }
 
 fn put_register(text: &mut String, name: &str, before: u32, after: u32) -> Result<(), AllocError> {
     if before != after {
         write!(text, " {name}={after:08X}")?;
+    }
+    Ok(())
+}
+
+fn put_numbered(
+    text: &mut String,
+    kind: char,
+    number: usize,
+    before: u32,
+    after: u32,
+) -> Result<(), AllocError> {
+    if before != after {
+        write!(text, " {kind}{number}={after:08X}")?;
     }
     Ok(())
 }
@@ -190,10 +218,8 @@ fn put_changed(
     before: &[u32],
     after: &[u32],
 ) -> Result<(), AllocError> {
-    for (n, (before, after)) in before.iter().zip(after).enumerate() {
-        if before != after {
-            write!(text, " {kind}{n}={after:08X}")?;
-        }
+    for n in 0..before.len().min(after.len()) {
+        put_numbered(text, kind, n, before[n], after[n])?;
     }
     Ok(())
 }
@@ -217,40 +243,33 @@ fn put_spent(text: &mut String, spent: &Spent, accesses: usize) -> Result<(), Al
     if usize::from(spent.accesses) != accesses {
         write!(text, " ACCESSES={}", spent.accesses)?;
     }
-    if spent.taken {
-        text.push_str(" TAKEN")?;
-    }
-    if spent.expired {
-        text.push_str(" EXPIRED")?;
-    }
-    if spent.count != 0 {
-        write!(text, " N={:X}", spent.count)?;
-    }
-    if spent.cause != 0 {
-        write!(text, " E={:X}", spent.cause)?;
+    put_mark(text, spent.taken, " TAKEN")?;
+    put_mark(text, spent.expired, " EXPIRED")?;
+    put_digit(text, 'N', spent.count)?;
+    put_digit(text, 'E', spent.cause)
+}
+
+fn put_digit(text: &mut String, name: char, value: u8) -> Result<(), AllocError> {
+    if value != 0 {
+        write!(text, " {name}={value:X}")?;
     }
     Ok(())
 }
 
+fn put_mark(text: &mut String, is_set: bool, mark: &str) -> Result<(), AllocError> {
+    text.push_str(if is_set { mark } else { "" })
+}
+
 fn put_marks(text: &mut String, finish: &Finish) -> Result<(), AllocError> {
-    if finish.stopped {
-        text.push_str(" STOP")?;
-    }
-    if finish.halted {
-        text.push_str(" HALT")?;
-    }
-    if finish.trace {
-        text.push_str(" TRACE")?;
-    }
-    Ok(())
+    put_mark(text, finish.stopped, " STOP")?;
+    put_mark(text, finish.halted, " HALT")?;
+    put_mark(text, finish.trace, " TRACE")
 }
 
 /// What comes of a sample: shared accesses, private writes, registers that changed, and what was spent.
 pub fn sampled(alloc: Global, regs: &Regs, asked: &str, wanted: &str) -> Result<String, RowError> {
     let mut sample = Sample::begun(regs);
     let mut text = String::new(alloc);
-    match sample.tell(alloc, asked, wanted, &mut text) {
-        Ok(()) => Ok(String::from_str(alloc, text.as_str().trim_start())?),
-        Err(error) => Err(error),
-    }
+    sample.tell(alloc, asked, wanted, &mut text)?;
+    text_of(alloc, text.trim_start())
 }

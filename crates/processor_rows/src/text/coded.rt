@@ -1,6 +1,6 @@
 use asm_m68k::words_of;
 use asm_z80::bytes_of;
-use md_asm_text::split;
+use md_asm_text::{Token, split};
 use md_disasm::{text68, text80};
 use row_lines::{RowError, long, parted, word};
 use std::alloc::{AllocError, Global};
@@ -106,13 +106,21 @@ impl Coded {
     /// fails where memory runs out.
     pub fn read(&self, alloc: Global, text: &str) -> Result<Option<Coded>, AllocError> {
         let tokens = split(alloc, text.as_bytes())?;
+        self.read_tokens(alloc, &tokens)
+    }
+
+    fn read_tokens(
+        &self,
+        alloc: Global,
+        tokens: &[Token<'_>],
+    ) -> Result<Option<Coded>, AllocError> {
         if self.is_z80 {
-            match bytes_of(alloc, tokens.as_slice(), (self.at % 0x1_0000) as u16)? {
+            match bytes_of(alloc, tokens, (self.at % 0x1_0000) as u16)? {
                 Some(bytes) => Ok(Some(self.of_bytes(bytes.as_slice()))),
                 None => Ok(None),
             }
         } else {
-            match words_of(alloc, tokens.as_slice(), self.at)? {
+            match words_of(alloc, tokens, self.at)? {
                 Some(words) => Ok(Some(self.of_words(words.as_slice()))),
                 None => Ok(None),
             }
@@ -158,13 +166,17 @@ impl Coded {
     /// Appends the words or bytes that are given.
     fn put_values(&self, text: &mut String) -> Result<(), AllocError> {
         for value in self.values.iter().take(self.count) {
-            if self.is_z80 {
-                write!(text, " {value:02X}")?;
-            } else {
-                write!(text, " {value:04X}")?;
-            }
+            self.put_value(text, *value)?;
         }
         Ok(())
+    }
+
+    fn put_value(&self, text: &mut String, value: u16) -> Result<(), AllocError> {
+        if self.is_z80 {
+            write!(text, " {value:02X}")
+        } else {
+            write!(text, " {value:04X}")
+        }
     }
 
     /// The words or bytes that a text is read as, or `none`.

@@ -1,7 +1,7 @@
 use crate::text::coded::{Coded, begun};
 use crate::text::pattern::Pattern;
 use crate::text::sources::{assembled_bytes, fault_of};
-use row_lines::RowError;
+use row_lines::{RowError, decimal_of, text_of};
 use std::alloc::{AllocError, Global};
 
 /// The answer to a question that goes through a range. It fails where it is none, or where memory runs out.
@@ -21,7 +21,7 @@ fn distinct(alloc: Global, coded: Coded, patterns: &str) -> Result<String, RowEr
     put_texts(alloc, &mut texts, coded, patterns)?;
     texts.sort()?;
     texts.dedup();
-    Ok(format!(in alloc; "{}", texts.len())?)
+    decimal_of(alloc, "", texts.len() as u64)
 }
 
 fn put_texts(
@@ -54,12 +54,11 @@ fn put_each(
 /// Whether each instruction is read from its own text.
 fn read_back(alloc: Global, coded: Coded, patterns: &str) -> Result<String, RowError> {
     for part in patterns.split(", ") {
-        let pattern = Pattern::of(part, coded.most())?;
-        if let Some(value) = first_other(alloc, coded, &pattern)? {
+        if let Some(value) = first_other(alloc, coded, &Pattern::of(part, coded.most())?)? {
             return Ok(format!(in alloc; "{part} at {value:04X}")?);
         }
     }
-    Ok(String::from_str(alloc, "none different")?)
+    text_of(alloc, "none different")
 }
 
 fn first_other(alloc: Global, coded: Coded, pattern: &Pattern) -> Result<Option<u16>, AllocError> {
@@ -132,9 +131,13 @@ fn compare(alloc: Global, source: &[u8], place: usize, bytes: &[u8]) -> Result<S
     if let Some(fault) = assembled_bytes(alloc, source, &mut image)? {
         return fault_of(alloc, fault);
     }
-    if image.as_slice().get(place..) == Some(bytes) {
-        Ok(String::from_str(alloc, "none different")?)
-    } else {
-        Ok(String::from_str(alloc, "other bytes")?)
-    }
+    let is_same = image.as_slice().get(place..) == Some(bytes);
+    text_of(
+        alloc,
+        if is_same {
+            "none different"
+        } else {
+            "other bytes"
+        },
+    )
 }

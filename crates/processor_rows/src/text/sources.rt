@@ -1,5 +1,5 @@
 use md_asm::{AsmFault, assemble};
-use row_lines::{RowError, hexadecimal, number, parted};
+use row_lines::{RowError, digits_of, hexadecimal, number, part_of, parted};
 use std::alloc::{AllocError, Global};
 
 /// The byte of a letter after a backslash.
@@ -70,7 +70,5 @@ pub fn token(alloc: Global, image: &[u8], rest: &str) -> Result<String, RowError
     let (place, count) = parted(rest, ' ')?;
     let place = hexadecimal(place)? % 0x1_0000_0000;
     let count = number(count)? % 0x1_0000_0000;
-    let following = image.get(place as usize..).ok_or(RowError::NoSuchLine)?;
-    let part = following.get(..count as usize).ok_or(RowError::NoSuchLine)?;
-    Ok(hex::encode_upper(alloc, part)?)
+    digits_of(alloc, part_of(image, place as usize, count as usize)?)
 }

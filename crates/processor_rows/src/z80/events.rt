@@ -5,22 +5,27 @@ use crate::z80::fixture::Z80;
 use crate::z80::setting::cartridge;
 use md_word::{Pins80, Request80, Unspell};
 use rom_header::Cart;
-use row_lines::{RowError, compared, number, parted, pieces};
+use row_lines::{RowError, compared, decimal_of, number, parted, pieces};
 use std::alloc::Global;
 use std::sync::Arc;
 use z80_chip::{Chip80, FULL_SIZE};
 
 fn shared(alloc: Global) -> Result<Arc<Cart>, RowError> {
-    let cart = cartridge(alloc)?;
-    Arc::new(alloc, cart).map_err(|_| RowError::Memory)
+    match Arc::new(alloc, cartridge(alloc)?) {
+        Ok(cart) => Ok(cart),
+        Err(_) => Err(RowError::Memory),
+    }
 }
 
 /// Sets up the Z80 at power-on. It fails where there is no memory for it.
 pub fn power_on(fixture: &mut Z80) -> Result<(), RowError> {
-    let cart = shared(fixture.alloc)?;
-    let chip = Chip80::power_on(fixture.alloc, cart).map_err(|_| RowError::Memory)?;
-    fixture.chip = Some(chip);
-    Ok(())
+    match Chip80::power_on(fixture.alloc, shared(fixture.alloc)?) {
+        Ok(chip) => {
+            fixture.chip = Some(chip);
+            Ok(())
+        }
+        Err(_) => Err(RowError::Memory),
+    }
 }
 
 /// Takes the sample that is next with these pins, and where the Z80 does nothing all below `end`. No such thing where
@@ -58,12 +63,15 @@ fn pins_of(text: &str) -> Result<Pins80, RowError> {
 /// `NoSuchName` where no Z80 is set up or no sample is next, `NoSuchLine` where the words are none.
 pub fn sample(fixture: &mut Z80, words: &str) -> Result<String, RowError> {
     let (pins, end) = words.split_once(' ').unwrap_or((words, "0"));
-    let alloc = fixture.alloc;
-    let chip = fixture.chip()?;
-    take(chip, &pins_of(pins)?, number(end)?)?;
-    let next = chip.next();
+    take(fixture.chip()?, &pins_of(pins)?, number(end)?)?;
+    event(fixture)
+}
+
+/// The event that is next.
+fn event(fixture: &mut Z80) -> Result<String, RowError> {
+    let next = fixture.chip()?.next();
     let kind = if next.sample { "" } else { " access" };
-    Ok(format!(in alloc; "{}{kind}", next.key.cycle)?)
+    Ok(format!(in fixture.alloc; "{}{kind}", next.key.cycle)?)
 }
 
 /// The read that is next. No such thing where none is.
@@ -93,27 +101,35 @@ fn spelled(alloc: Global, chip: &Chip80, at: u64) -> Result<Vec<u8>, RowError> {
     Ok(bytes)
 }
 
-/// Reads a Z80 of bytes: `kept` where it is spelled by the same bytes, or the offset at which they are refused.
-/// `NoSuchLine` where the words are none.
-pub fn state(fixture: &mut Z80, words: &str) -> Result<String, RowError> {
+/// `reported` where the Z80 is spelled by these bytes.
+fn compare(fixture: &mut Z80, at: u64, bytes: &[u8], reported: &str) -> Result<String, RowError> {
     let alloc = fixture.alloc;
-    let (at, text) = parted(words, ' ')?;
-    let at = number(at)?;
-    let bytes = pieces(alloc, text)?;
-    match Chip80::unspell(alloc, &bytes, at, shared(alloc)?) {
+    let spelled = spelled(alloc, fixture.chip()?, at)?;
+    compared(alloc, &spelled, bytes, reported)
+}
+
+fn unspell(fixture: &mut Z80, bytes: &[u8], at: u64) -> Result<String, RowError> {
+    let alloc = fixture.alloc;
+    match Chip80::unspell(alloc, bytes, at, shared(alloc)?) {
         Ok(chip) => {
-            let again = spelled(alloc, &chip, at)?;
             fixture.chip = Some(chip);
-            compared(alloc, &again, &bytes, "kept")
+            compare(fixture, at, bytes, "kept")
         }
-        Err(Unspell::Rule { place }) => Ok(format!(in alloc; "refused {place}")?),
+        Err(Unspell::Rule { place }) => decimal_of(alloc, "refused ", place),
         Err(Unspell::NoMemory) => Err(RowError::Memory),
     }
 }
 
+/// Reads a Z80 of bytes: `kept` where it is spelled by the same bytes, or the offset at which they are refused.
+/// `NoSuchLine` where the words are none.
+pub fn state(fixture: &mut Z80, words: &str) -> Result<String, RowError> {
+    let (at, text) = parted(words, ' ')?;
+    let bytes = pieces(fixture.alloc, text)?;
+    unspell(fixture, &bytes, number(at)?)
+}
+
 /// Whether the Z80 is spelled by the bytes that are wanted; `NoSuchName` where no Z80 is set up.
 pub fn spell(fixture: &mut Z80, at: &str, wanted: &str) -> Result<String, RowError> {
-    let alloc = fixture.alloc;
-    let bytes = spelled(alloc, fixture.chip()?, number(at)?)?;
-    compared(alloc, &bytes, &pieces(alloc, wanted)?, wanted)
+    let bytes = pieces(fixture.alloc, wanted)?;
+    compare(fixture, number(at)?, &bytes, wanted)
 }

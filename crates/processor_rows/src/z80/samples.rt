@@ -9,12 +9,27 @@ use std::alloc::{AllocError, Global};
 use std::fmt::Write;
 use z80_exec::{Finish80, Progress80, Regs80, Step80, go};
 
-/// What the shared read of this number answers, of those that are wanted, `r:4000=58 ..`.
-fn read_in(wanted: &str, number: usize) -> Result<u8, RowError> {
-    let mut reads = wanted.split(' ').filter(|word| word.starts_with("r:"));
-    let read = reads.nth(number).ok_or(RowError::NoSuchName)?;
+fn value_in(read: &str) -> Result<u8, RowError> {
     let (_, value) = parted(read, '=')?;
     byte(value)
+}
+
+/// What the shared read of this number answers, of those that are wanted, `r:4000=58 ..`.
+fn read_in(wanted: &str, number: usize) -> Result<u8, RowError> {
+    let mut left = number;
+    for word in wanted.split(' ') {
+        if word.starts_with("r:") {
+            if left == 0 {
+                return value_in(word);
+            }
+            left -= 1;
+        }
+    }
+    Err(RowError::NoSuchName)
+}
+
+fn put_access(text: &mut String, kind: char, at: u16, value: u8) -> Result<(), AllocError> {
+    write!(text, "{kind}:{at:04X}={value:02X} ")
 }
 
 /// Writes out a shared access, and gives its answer.
@@ -28,11 +43,11 @@ fn tell_access(
         Request80::Read(at) => {
             let value = read_in(wanted, *reads)?;
             *reads = reads.wrapping_add(1);
-            write!(text, "r:{at:04X}={value:02X} ")?;
+            put_access(text, 'r', *at, value)?;
             Ok(value)
         }
         Request80::Write(at, value) => {
-            write!(text, "w:{at:04X}={value:02X} ")?;
+            put_access(text, 'w', *at, *value)?;
             Ok(0)
         }
         _ => Err(RowError::NoSuchName),
@@ -49,6 +64,19 @@ fn usual(setting: &Setting) -> Values {
     values
 }
 
+fn put_writes(text: &mut String, writes: &[(u16, u8)]) -> Result<(), AllocError> {
+    for (at, value) in writes {
+        write!(text, ".{at:04X}={value:02X} ")?;
+    }
+    Ok(())
+}
+
+fn put_finish(text: &mut String, finish: &Finish80) -> Result<(), AllocError> {
+    text.push_str(if finish.halted { "HALT " } else { "" })?;
+    text.push_str(if finish.after_ei { "EI " } else { "" })?;
+    write!(text, "T={}", finish.t)
+}
+
 /// Writes out what a sample results in.
 fn tell_finish(
     text: &mut String,
@@ -57,13 +85,9 @@ fn tell_finish(
     writes: &[(u16, u8)],
     setting: &Setting,
 ) -> Result<(), AllocError> {
-    for (at, value) in writes {
-        write!(text, ".{at:04X}={value:02X} ")?;
-    }
+    put_writes(text, writes)?;
     tell(text, &values_of(regs), &usual(setting))?;
-    text.push_str(if finish.halted { "HALT " } else { "" })?;
-    text.push_str(if finish.after_ei { "EI " } else { "" })?;
-    write!(text, "T={}", finish.t)
+    put_finish(text, finish)
 }
 
 /// What a sample results in, which runs with no answer, one, and so on, where its shared reads answer as is wanted.

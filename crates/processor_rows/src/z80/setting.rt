@@ -33,26 +33,40 @@ fn image(alloc: Global) -> Result<Vec<u8>, AllocError> {
 
 /// That cartridge. It fails where there is no memory for it.
 pub fn cartridge(alloc: Global) -> Result<Cart, RowError> {
-    let image = image(alloc)?;
-    Cart::accept(alloc, image).map_err(|_| RowError::Memory)
+    match Cart::accept(alloc, image(alloc)?) {
+        Ok(cart) => Ok(cart),
+        Err(_) => Err(RowError::Memory),
+    }
 }
 
 impl Setting {
     /// What words say: bytes of an instruction, registers, bytes of RAM `@1000=58`, the bank register `BANK=` and
     /// the cause `CAUSE=`. `NoSuchLine` where a word is none, or a register does not fit.
     pub fn read(alloc: Global, words: &str) -> Result<Setting, RowError> {
-        let parcel = first(alloc).map_err(|_| RowError::Memory)?;
-        let mut setting = Setting {
-            parcel,
-            values: USUAL,
-            cause: 0,
-            next: 0x100,
-        };
-        for word in words.split(' ') {
-            setting.take(word)?;
+        let mut setting = Setting::begun(alloc)?;
+        setting.take_all(words)?;
+        Ok(setting)
+    }
+
+    /// What is set up where nothing is said of it.
+    fn begun(alloc: Global) -> Result<Setting, RowError> {
+        match first(alloc) {
+            Ok(parcel) => Ok(Setting {
+                parcel,
+                values: USUAL,
+                cause: 0,
+                next: 0x100,
+            }),
+            Err(_) => Err(RowError::Memory),
         }
-        if values_of(&registers_of(&setting.values)) == setting.values {
-            Ok(setting)
+    }
+
+    fn take_all(&mut self, words: &str) -> Result<(), RowError> {
+        for word in words.split(' ') {
+            self.take(word)?;
+        }
+        if values_of(&registers_of(&self.values)) == self.values {
+            Ok(())
         } else {
             Err(RowError::NoSuchLine)
         }
@@ -76,12 +90,18 @@ impl Setting {
         if let Some(at) = name.strip_prefix('@') {
             return self.put(word(at)?, byte(value)?);
         }
-        match name {
-            "CAUSE" => self.cause = byte(value)?,
-            "BANK" => self.set_bank(word(value)?)?,
-            name => set(&mut self.values, name, word(value)?)?,
+        if name == "CAUSE" {
+            self.cause = byte(value)?;
+            return Ok(());
         }
-        Ok(())
+        self.set_word(name, word(value)?)
+    }
+
+    fn set_word(&mut self, name: &str, value: u16) -> Result<(), RowError> {
+        match name {
+            "BANK" => self.set_bank(value),
+            _ => set(&mut self.values, name, value),
+        }
     }
 
     fn set_bank(&mut self, bank: u16) -> Result<(), RowError> {

@@ -1,10 +1,10 @@
 // A file as a line writes it: parts, of which each is added to what those before it made, or changes that.
 use crate::store::Store;
+use md_demo::demo_cart;
 use md_outer::{Depot, FileDepot};
-use md_top::demo_cart;
 use rand_core::utils::NextWord;
 use rand_pcg::Lcg64Xsh32;
-use row_lines::{RowError, bytes, number, parted, readable};
+use row_lines::{RowError, append, bytes, number, parted, place_of, put_bytes, rest_of};
 use sha2::{Digest, Sha256};
 use std::alloc::{AllocError, Global};
 use std::rt::Files;
@@ -12,49 +12,36 @@ use std::rt::Files;
 /// The most bytes of a file of the folder.
 const MOST: u64 = 1 << 24;
 
-/// A number of bytes, or a place among them.
-pub(crate) fn place(text: &str) -> Result<usize, RowError> {
-    readable(usize::try_from(number(text)?))
-}
-
 /// What a file holds.
-pub(crate) fn file<'a>(store: &'a Store, name: &str) -> Result<&'a [u8], RowError> {
+pub fn file<'a>(store: &'a Store, name: &str) -> Result<&'a [u8], RowError> {
     store.file(name).ok_or(RowError::NoSuchName)
 }
 
 /// Writes over what stands at a place.
-fn write_at(made: &mut Vec<u8>, place: usize, over: &[u8]) -> Result<(), RowError> {
-    let mut at = place;
-    for byte in over {
-        if at >= made.len() {
-            return Err(RowError::NoSuchLine);
-        }
-        made[at] = *byte;
-        at += 1;
-    }
-    Ok(())
+fn write_at(made: &mut [u8], at: &str, over: &[u8]) -> Result<(), RowError> {
+    put_bytes(made, place_of(at)?, over)
 }
 
 /// `at:PLACE:BYTES` writes over what stands at a place.
-fn overwrite(alloc: Global, made: &mut Vec<u8>, text: &str) -> Result<(), RowError> {
+fn overwrite(alloc: Global, made: &mut [u8], text: &str) -> Result<(), RowError> {
     let (at, over) = parted(text, ':')?;
-    write_at(made, place(at)?, &bytes(alloc, over)?)
+    write_at(made, at, &bytes(alloc, over)?)
 }
 
 /// `over:PLACE:FILE` does so with what a file holds.
-fn overwrite_by(made: &mut Vec<u8>, store: &Store, text: &str) -> Result<(), RowError> {
+fn overwrite_by(made: &mut [u8], store: &Store, text: &str) -> Result<(), RowError> {
     let (at, name) = parted(text, ':')?;
-    write_at(made, place(at)?, file(store, name)?)
+    write_at(made, at, file(store, name)?)
 }
 
 /// Adds bytes in hexadecimal.
 fn add_bytes(alloc: Global, made: &mut Vec<u8>, text: &str) -> Result<(), RowError> {
-    Ok(made.extend_from_slice(&bytes(alloc, text)?)?)
+    append(made, &bytes(alloc, text)?)
 }
 
-fn add_again(made: &mut Vec<u8>, piece: &[u8], times: usize) -> Result<(), AllocError> {
+fn add_again(made: &mut Vec<u8>, piece: &[u8], times: usize) -> Result<(), RowError> {
     for _time in 0..times {
-        made.extend_from_slice(piece)?;
+        append(made, piece)?;
     }
     Ok(())
 }
@@ -62,7 +49,7 @@ fn add_again(made: &mut Vec<u8>, piece: &[u8], times: usize) -> Result<(), Alloc
 /// Adds `N:BYTES`, bytes N times.
 fn add_times(alloc: Global, made: &mut Vec<u8>, text: &str) -> Result<(), RowError> {
     let (times, piece) = parted(text, ':')?;
-    Ok(add_again(made, &bytes(alloc, piece)?, place(times)?)?)
+    add_again(made, &bytes(alloc, piece)?, place_of(times)?)
 }
 
 /// Adds what a text stands for: `|` is the end of a line, and `~` the byte FFh.
@@ -77,31 +64,33 @@ fn add_text(made: &mut Vec<u8>, text: &str) -> Result<(), AllocError> {
     Ok(())
 }
 
+/// What stands in a file from a place on.
+pub fn file_from<'a>(store: &'a Store, name: &str, from: &str) -> Result<&'a [u8], RowError> {
+    rest_of(file(store, name)?, place_of(from)?)
+}
+
 /// Adds `PLACE:FILE`, what stands in a file from a place on.
 fn add_from(made: &mut Vec<u8>, store: &Store, text: &str) -> Result<(), RowError> {
     let (from, name) = parted(text, ':')?;
-    let rest = file(store, name)?
-        .get(place(from)?..)
-        .ok_or(RowError::NoSuchLine)?;
-    Ok(made.extend_from_slice(rest)?)
+    append(made, file_from(store, name, from)?)
 }
 
 fn add_copy(made: &mut Vec<u8>, store: &Store, name: &str) -> Result<(), RowError> {
-    Ok(made.extend_from_slice(file(store, name)?)?)
-}
-
-/// The digest of a file.
-pub(crate) fn digest(store: &Store, name: &str) -> Result<[u8; 32], RowError> {
-    Ok(Sha256::digest(file(store, name)?))
-}
-
-/// Its digits.
-pub(crate) fn digits(alloc: Global, store: &Store, name: &str) -> Result<String, RowError> {
-    Ok(hex::encode(alloc, digest(store, name)?.as_slice())?)
+    append(made, file(store, name)?)
 }
 
 fn add_digest(made: &mut Vec<u8>, store: &Store, name: &str) -> Result<(), RowError> {
-    Ok(made.extend_from_slice(digest(store, name)?.as_slice())?)
+    append(made, &Sha256::digest(file(store, name)?))
+}
+
+/// Bytes in hexadecimal.
+pub fn lower_digits(alloc: Global, bytes: &[u8]) -> Result<String, RowError> {
+    Ok(hex::encode(alloc, bytes)?)
+}
+
+/// The digits of a file's digest.
+pub fn digits(alloc: Global, store: &Store, name: &str) -> Result<String, RowError> {
+    lower_digits(alloc, &Sha256::digest(file(store, name)?))
 }
 
 fn add_digits(
@@ -110,28 +99,34 @@ fn add_digits(
     store: &Store,
     name: &str,
 ) -> Result<(), RowError> {
-    Ok(made.extend_from_slice(digits(alloc, store, name)?.as_bytes())?)
+    append(made, digits(alloc, store, name)?.as_bytes())
 }
 
 /// Adds the demonstration cartridge of a number.
 fn add_demo(alloc: Global, made: &mut Vec<u8>, text: &str) -> Result<(), RowError> {
-    let cart = demo_cart(alloc, number(text)?).map_err(|_| RowError::Memory)?;
-    Ok(made.extend_from_slice(&cart)?)
+    match demo_cart(alloc, number(text)?) {
+        Ok(cart) => append(made, &cart),
+        Err(_) => Err(RowError::Memory),
+    }
 }
 
-fn add_words(made: &mut Vec<u8>, words: &mut Lcg64Xsh32, count: usize) -> Result<(), AllocError> {
+fn add_words(made: &mut Vec<u8>, words: &mut Lcg64Xsh32, count: usize) -> Result<(), RowError> {
     for _word in 0..count {
-        made.extend_from_slice(&words.next_word().to_be_bytes())?;
+        append(made, &words.next_word().to_be_bytes())?;
     }
     Ok(())
 }
 
-/// Adds `STATE:STREAM:COUNT`, so many 32-bit words of PCG's generator XSH RR, each its high byte first.
+/// PCG's generator XSH RR of a state and a stream.
+fn generator(state: &str, stream: &str) -> Result<Lcg64Xsh32, RowError> {
+    Ok(Lcg64Xsh32::new(number(state)?, number(stream)?))
+}
+
+/// Adds `STATE:STREAM:COUNT`, so many 32-bit words of that generator, each its high byte first.
 fn add_random(made: &mut Vec<u8>, text: &str) -> Result<(), RowError> {
     let (state, rest) = parted(text, ':')?;
     let (stream, count) = parted(rest, ':')?;
-    let mut words = Lcg64Xsh32::new(number(state)?, number(stream)?);
-    Ok(add_words(made, &mut words, place(count)?)?)
+    add_words(made, &mut generator(state, stream)?, place_of(count)?)
 }
 
 /// Keeps of all bytes the bits of a mask, over and over.
@@ -149,13 +144,13 @@ fn mask(alloc: Global, made: &mut Vec<u8>, text: &str) -> Result<(), RowError> {
 
 /// `pad:N` makes them N with zeros, where they are fewer.
 fn pad(made: &mut Vec<u8>, text: &str) -> Result<(), RowError> {
-    let length = place(text)?.max(made.len());
+    let length = place_of(text)?.max(made.len());
     Ok(made.resize(length, 0)?)
 }
 
 /// `cut:N` leaves the first N.
 fn cut(made: &mut Vec<u8>, text: &str) -> Result<(), RowError> {
-    made.truncate(place(text)?);
+    made.truncate(place_of(text)?);
     Ok(())
 }
 
@@ -200,13 +195,41 @@ fn add_data<R: Files + Drop>(
     name: &str,
 ) -> Result<(), RowError> {
     match folder.fetch(alloc, name, MOST) {
-        Ok(data) => Ok(made.extend_from_slice(&data)?),
+        Ok(data) => append(made, &data),
         Err(_) => Err(RowError::NoSuchName),
     }
 }
 
+/// Adds a part, or changes what those before it made.
+fn add_part<R: Files + Drop>(
+    alloc: Global,
+    made: &mut Vec<u8>,
+    folder: &mut FileDepot<R>,
+    store: &Store,
+    part: &str,
+) -> Result<(), RowError> {
+    let (kind, rest) = parted(part, ':')?;
+    if kind == "data" {
+        return add_data(alloc, made, folder, rest);
+    }
+    take_part(alloc, made, store, kind, rest)
+}
+
+fn add_parts<R: Files + Drop>(
+    alloc: Global,
+    made: &mut Vec<u8>,
+    folder: &mut FileDepot<R>,
+    store: &Store,
+    parts: &str,
+) -> Result<(), RowError> {
+    for part in parts.split_whitespace() {
+        add_part(alloc, made, folder, store, part)?;
+    }
+    Ok(())
+}
+
 /// The bytes that parts make, one after the other; after all others may stand a text, `text:ANY`.
-pub(crate) fn build<R: Files + Drop>(
+pub fn build<R: Files + Drop>(
     alloc: Global,
     folder: &mut FileDepot<R>,
     store: &Store,
@@ -214,14 +237,7 @@ pub(crate) fn build<R: Files + Drop>(
 ) -> Result<Vec<u8>, RowError> {
     let mut made = Vec::new(alloc);
     let (parts, text) = parts.split_once("text:").unwrap_or((parts, ""));
-    for part in parts.split_whitespace() {
-        let (kind, rest) = parted(part, ':')?;
-        if kind == "data" {
-            add_data(alloc, &mut made, folder, rest)?;
-        } else {
-            take_part(alloc, &mut made, store, kind, rest)?;
-        }
-    }
+    add_parts(alloc, &mut made, folder, store, parts)?;
     add_text(&mut made, text)?;
     Ok(made)
 }

@@ -2,19 +2,19 @@ use std::alloc::{AllocError, Global};
 
 /// Files by their names, of which each has one.
 #[derive(Drop)]
-pub(crate) struct NamedFiles {
+pub struct NamedFiles {
     pub list: Vec<(String, Vec<u8>)>,
 }
 
 impl NamedFiles {
-    pub(crate) fn new(alloc: Global) -> NamedFiles {
+    pub fn new(alloc: Global) -> NamedFiles {
         NamedFiles {
             list: Vec::new(alloc),
         }
     }
 
     /// What a file holds; none where there is no such file.
-    pub(crate) fn find(&self, name: &str) -> Option<&[u8]> {
+    pub fn find(&self, name: &str) -> Option<&[u8]> {
         for file in self.list.iter() {
             if file.0.as_str() == name {
                 return Some(file.1.as_slice());
@@ -23,12 +23,7 @@ impl NamedFiles {
         None
     }
 
-    pub(crate) fn add(
-        &mut self,
-        alloc: Global,
-        name: &str,
-        bytes: Vec<u8>,
-    ) -> Result<(), AllocError> {
+    pub fn add(&mut self, alloc: Global, name: &str, bytes: Vec<u8>) -> Result<(), AllocError> {
         self.list.push((String::from_str(alloc, name)?, bytes))?;
         Ok(())
     }

@@ -5,14 +5,14 @@ use std::alloc::{AllocError, Global};
 use std::mem;
 
 /// The number of a fetch, of a begin or append, and of a print that fails, each counted from 0.
-pub(crate) type Failing = [Option<u64>; 3];
+pub type Failing = [Option<u64>; 3];
 
 /// The most bytes of a file that is begun.
 const ROOM: u64 = 1 << 24;
 
 /// The files of a row, and those that each row may copy.
 #[derive(Drop)]
-pub(crate) struct Store {
+pub struct Store {
     kept: NamedFiles,
     given: NamedFiles,
     /// Made of the given files with the first words.
@@ -23,7 +23,7 @@ pub(crate) struct Store {
 }
 
 /// A list of a number, or of none.
-pub(crate) fn list_of(alloc: Global, number: Option<u64>) -> Result<Vec<u64>, AllocError> {
+pub fn list_of(alloc: Global, number: Option<u64>) -> Result<Vec<u64>, AllocError> {
     let mut list = Vec::new(alloc);
     if let Some(number) = number {
         list.push(number)?;
@@ -39,7 +39,7 @@ fn depot_of(alloc: Global, files: NamedFiles, failing: Failing) -> Result<MemDep
 }
 
 impl Store {
-    pub(crate) fn new(alloc: Global) -> Store {
+    pub fn new(alloc: Global) -> Store {
         Store {
             kept: NamedFiles::new(alloc),
             given: NamedFiles::new(alloc),
@@ -50,7 +50,7 @@ impl Store {
     }
 
     /// Goes on to the next row, with none of the files of this one.
-    pub(crate) fn begin(&mut self, alloc: Global) {
+    pub fn begin(&mut self, alloc: Global) {
         self.given = NamedFiles::new(alloc);
         self.depot = None;
         self.failing = [None; 3];
@@ -58,7 +58,7 @@ impl Store {
     }
 
     /// What a file of the row holds; or one that was kept.
-    pub(crate) fn file(&self, name: &str) -> Option<&[u8]> {
+    pub fn file(&self, name: &str) -> Option<&[u8]> {
         match self.own(name) {
             Some(bytes) => Some(bytes),
             None => self.kept.find(name),
@@ -66,7 +66,7 @@ impl Store {
     }
 
     /// What a file of the row holds; `out` is the text that the last words printed.
-    pub(crate) fn own(&self, name: &str) -> Option<&[u8]> {
+    pub fn own(&self, name: &str) -> Option<&[u8]> {
         if name == "out" {
             return Some(self.out.as_slice());
         }
@@ -77,12 +77,7 @@ impl Store {
     }
 
     /// Gives the row a file that it has not; `NoSuchLine` after the first words.
-    pub(crate) fn give(
-        &mut self,
-        alloc: Global,
-        name: &str,
-        bytes: Vec<u8>,
-    ) -> Result<(), RowError> {
+    pub fn give(&mut self, alloc: Global, name: &str, bytes: Vec<u8>) -> Result<(), RowError> {
         if self.depot.is_some() || self.given.find(name).is_some() {
             return Err(RowError::NoSuchLine);
         }
@@ -90,12 +85,7 @@ impl Store {
     }
 
     /// Keeps a file for the rows after this one; `NoSuchLine` where one of its name is kept.
-    pub(crate) fn keep(
-        &mut self,
-        alloc: Global,
-        name: &str,
-        bytes: Vec<u8>,
-    ) -> Result<(), RowError> {
+    pub fn keep(&mut self, alloc: Global, name: &str, bytes: Vec<u8>) -> Result<(), RowError> {
         if self.kept.find(name).is_some() {
             return Err(RowError::NoSuchLine);
         }
@@ -103,7 +93,7 @@ impl Store {
     }
 
     /// The depot, which holds the given files at first.
-    pub(crate) fn depot(&mut self, alloc: Global) -> Result<&mut MemDepot, AllocError> {
+    pub fn depot(&mut self, alloc: Global) -> Result<&mut MemDepot, AllocError> {
         if self.depot.is_none() {
             let files = mem::replace(&mut self.given, NamedFiles::new(alloc));
             self.depot = Some(depot_of(alloc, files, self.failing)?);
