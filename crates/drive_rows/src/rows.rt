@@ -108,7 +108,7 @@ fn take_filled<R: Files + Drop, T: Print + Threads + Wait + Sync>(
     take_line(rt, running, &line)
 }
 
-/// Carries out the lines of a row with a number.
+/// Carries out the lines of a row with a number, which is spelled.
 fn take_lines<R: Files + Drop, T: Print + Threads + Wait + Sync>(
     rt: &T,
     running: &mut Running<R>,
@@ -122,7 +122,7 @@ fn take_lines<R: Files + Drop, T: Print + Threads + Wait + Sync>(
     Ok(())
 }
 
-/// Carries out the lines of a row with a number.
+/// The same, of a number that is not spelled yet.
 fn take_numbered<R: Files + Drop, T: Print + Threads + Wait + Sync>(
     rt: &T,
     running: &mut Running<R>,
@@ -133,7 +133,7 @@ fn take_numbered<R: Files + Drop, T: Print + Threads + Wait + Sync>(
     take_lines(rt, running, lines, &count)
 }
 
-/// `FIRST LAST`.
+/// The numbers `FIRST LAST`.
 fn range_of(text: &str) -> Result<(u64, u64), RowError> {
     let (first, last) = parted(text, ' ')?;
     Ok((number(first)?, number(last)?))
