@@ -24,6 +24,7 @@ use Rattle.md_asm.proofs.Alone68.{filled_row, first_row, is_quick, second_row}
 use Rattle.md_asm.proofs.Fits.{number_of}
 use Rattle.md_asm.proofs.Kept68.{decoded_kept, is_branch, made_kept, op_kept}
 use Rattle.md_asm.proofs.Low68.{append_low, cons_low, extension_low, none_low}
+use Rattle.md_asm.proofs.First68.{made_is}
 use Rattle.md_asm.proofs.Quick68.{all_changed, decoded8, op8, word8}
 use Rattle.md_asm.proofs.Rows68.{row_kept}
 
@@ -58,9 +59,6 @@ reach d row at long from is whole =
       is = rw own is;
       whole = rw own whole;
     }
-
-made_is : (row : Row) (w : ℕ) (tail : List ℕ) → w < 65536 → nested w ≡ Some row → instruction_of (w ∷ tail) ≡ made row (w ∷ tail)
-made_is row w tail low is = decoded_is_picked (w ∷ tail) low ∙ ap (λ (r : Option Row). picked r (w ∷ tail)) is
 
 -- words that decode to a row's instruction
 pub record AreOf (row : Row) (w : ℕ) (tail : List ℕ) : Type 0 where
