@@ -1,7 +1,6 @@
 -- Words of the 68000 with 8 for the number in the first word, and 2 for the displacement of a branch there: they are of
 -- the same row.
 use Rattle.std.proofs.Common.{◌≡◌, ℕ, ◌/◌, ◌%◌, ◌<◌, ◌==◌, Bool, true, false, List, ◌∷◌, refl, ap, ◌∙◌, sym, arith, Option, Some, None, if◌then◌else◌}
-use Rattle.std.proofs.lemmas.Bool.Decides.{nat_tests}
 use Rattle.md_word.specs.declared.task.Task.{Task}
 use Rattle.m68k_decode.specs.declared.decoded.Decoded.{Decoded}
 use Rattle.m68k_decode.specs.declared.displacement.Displacement.{Displacement}
@@ -16,7 +15,7 @@ use Rattle.m68k_decode.specs.Rows as rows
 use Rattle.m68k_decode.specs.Rows.{Row}
 use Rattle.asm_m68k.proofs.FirstWord.{first_again}
 use Rattle.asm_m68k.specs.Encoding.{first_word}
-use Rattle.md_asm.proofs.First68.{bcc_digit, bra_digit, branch_row, bsr_digit, equal, high_low, high_with, low_low, low_number, low_other, low_register_stays, low_with, made_again, made_is, moveq_digit, moveq_row, quick_digit, quick_is, quick_row, same_kind, same_left, same_register, same_size, shift_digit, shift_row, trap_row, upper_stays}
+use Rattle.md_asm.proofs.First68.{bcc_digit, bra_digit, branch_row, bsr_digit, equal, high_low, high_with, low_low, low_number, low_other, low_register_stays, low_with, made_again, made_is, moveq_row, quick_digit, quick_is, quick_row, same_kind, same_left, same_register, same_size, shift_digit, shift_row, trap_row, upper_stays}
 
 abbrev pub displacement8 : Displacement → Displacement
 displacement8 (displacements.Byte by) = displacements.Byte 2

@@ -9,11 +9,10 @@ use Rattle.m68k_decode.specs.declared.displacement.Displacement.TheVariants as d
 use Rattle.m68k_decode.specs.declared.op.Op.{Op}
 use Rattle.m68k_decode.specs.declared.op.Op.TheVariants as ops
 use Rattle.m68k_decode.specs.Fields.{condition_of, displacement_of, low_register, number_at}
-use Rattle.m68k_decode.specs.Instructions.{instruction_of, made, picked}
+use Rattle.m68k_decode.specs.Instructions.{instruction_of, made}
 use Rattle.m68k_decode.specs.Nested.{nested}
 use Rattle.m68k_decode.specs.Rows as rows
 use Rattle.m68k_decode.specs.Rows.{Row}
-use Rattle.m68k_decode.proofs.Table.{decoded_is_picked}
 use Rattle.md_disasm.specs.Rows68.{Row68, row_of, target}
 use Rattle.asm_m68k.specs.Encoding.{extension}
 use Rattle.asm_m68k.specs.Table.{AreWords, IsInstruction}

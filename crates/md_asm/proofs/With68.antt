@@ -1,14 +1,13 @@
 -- An instruction of the 68000 is there with any other number of the range in the place of one of its own.
-use Rattle.std.proofs.Common.{◌≡◌, inl, inr, ℕ, suc, ◌+◌, ◌/◌, ◌%◌, ◌<◌, ◌≤◌, ◌==◌, Bool, true, false, ◌&&◌, nat_le, nat_lt, List, ◌∷◌, refl, ◌∙◌, sym, arith, Some, if◌then◌else◌}
-use Rattle.std.proofs.lemmas.Bool.{and_parts, cases_lt}
-use Rattle.std.proofs.lemmas.Bool.Decides.{nat_tests}
+use Rattle.std.proofs.Common.{◌≡◌, ℕ, suc, ◌+◌, ◌/◌, ◌%◌, ◌<◌, ◌≤◌, ◌==◌, Bool, true, false, ◌&&◌, nat_le, nat_lt, List, ◌∷◌, refl, ◌∙◌, sym, arith, Some, if◌then◌else◌}
+use Rattle.std.proofs.lemmas.Bool.{and_parts}
 use Rattle.md_word.specs.Fields.{bit_of}
 use Rattle.md_word.specs.Width.{modulus_of}
 use Rattle.md_word.specs.declared.mode.Mode.{Mode}
 use Rattle.md_word.specs.declared.mode.Mode.TheVariants as modes
 use Rattle.md_word.specs.declared.size.Size.{Size}
 use Rattle.md_word.specs.declared.size.Size.TheVariants.{Byte, Word, Long}
-use Rattle.m68k_decode.specs.Fields.{condition_of, displacement_of, high_mode, high_register, low_mode, low_register, mode_of, number_at, paired, quick, size_of, word_or_long, words_of_mode, words_of_number}
+use Rattle.m68k_decode.specs.Fields.{condition_of, displacement_of, high_mode, high_register, low_mode, low_register, number_at, paired, quick, size_of, word_or_long, words_of_mode, words_of_number}
 use Rattle.m68k_decode.specs.Instructions.{made}
 use Rattle.m68k_decode.specs.Nested.{nested}
 use Rattle.m68k_decode.specs.Rows as rows
