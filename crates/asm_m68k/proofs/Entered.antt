@@ -1,11 +1,11 @@
--- Every word that has a row, but ILLEGAL, has what its row needs: shown by computing it for all words.
-use Rattle.std.proofs.Common.{◌≡◌, ℕ, ◌/◌, ◌<◌, Bool, true, false, ◌&&◌, map, Option, Some, None, zero, suc, refl, arith}
+-- Every word that has a row, but ILLEGAL, has what its row needs: so has each choice of the nested cases.
+use Rattle.std.proofs.Common.{◌≡◌, ℕ, ◌<◌, Bool, true, false, ◌&&◌, Option, Some, None, refl, rules, if◌then◌else◌}
 use Rattle.std.proofs.lemmas.Bool.{and_parts}
 use Rattle.md_word.specs.declared.task.Task.{Task}
 use Rattle.md_word.specs.declared.task.Task.TheVariants as tasks
-use Rattle.md_word.proofs.Agree.{range, same_at}
+use Rattle.md_word.specs.declared.size.Size.TheVariants.{Word, Long}
 use Rattle.m68k_decode.specs.Addressing.{control_or_postincrement, low_mode_number, memory_alterable}
-use Rattle.m68k_decode.specs.Nested.{nested, group_0, by_register, by_number, to_status, immediates, group_1, group_2_or_3, group_4, with_register, with_status, unaries, tests, group_48, group_4e, controls, group_5, group_6, group_7, group_8, sums, group_b, group_c, exchanges, group_e}
+use Rattle.m68k_decode.specs.Nested.{nested, when, group_0, by_register, by_number, to_status, immediates, group_1, group_2_or_3, group_4, with_register, with_status, unaries, tests, group_48, group_4e, controls, group_5, group_6, group_7, group_8, sums, group_b, group_c, exchanges, group_e}
 use Rattle.m68k_decode.specs.Rows as rows
 use Rattle.m68k_decode.specs.Rows.{Row}
 use Rattle.asm_m68k.specs.Table.{IsBit, IsDecimal, IsEntered, IsEnteredWord, IsExtended, IsImmediate, IsInstruction, IsLogic, IsQuick, IsSum, IsUnary}
@@ -130,88 +130,84 @@ abbrev found_holds : ℕ → Option Row → Bool
 found_holds w None = true
 found_holds w (Some row) = holds w row
 
-all_0 : map (λ w. found_holds w (nested w)) (range 4096 0x0000) ≡ map (λ w. true) (range 4096 0x0000)
-unfolding range nested group_0 by_register by_number to_status immediates
-all_0 = refl
+-- each choice of the nested cases has it
+either : (w : ℕ) (b : Bool) (x y : Option Row) → found_holds w x ≡ true → found_holds w y ≡ true → found_holds w (if b then x else y) ≡ true
+either w true x y h k = h
+either w false x y h k = k
 
-all_1 : map (λ w. found_holds w (nested w)) (range 4096 0x1000) ≡ map (λ w. true) (range 4096 0x1000)
-unfolding range nested group_1
-all_1 = refl
+-- a row that has it, whatever its mode
+allowed : (w : ℕ) (b : Bool) (row : Row) → holds w row ≡ true → found_holds w (when b row) ≡ true
+allowed w true row h = h
+allowed w false row h = refl
 
-all_2 : map (λ w. found_holds w (nested w)) (range 4096 0x2000) ≡ map (λ w. true) (range 4096 0x2000)
-unfolding range nested group_2_or_3
-all_2 = refl
+-- one that has it by its mode
+to_memory : (w : ℕ) (b : Bool) (own : Task) → memory_alterable (low_mode_number w) ≡ b → sum own ≡ true → found_holds w (when b (rows.ToMemory own)) ≡ true
+to_memory w true own is h = rw (is, h) refl
+to_memory w false own is h = refl
 
-all_3 : map (λ w. found_holds w (nested w)) (range 4096 0x3000) ≡ map (λ w. true) (range 4096 0x3000)
-unfolding range nested group_2_or_3
-all_3 = refl
+list_loaded : (w : ℕ) (b : Bool) → control_or_postincrement (low_mode_number w) ≡ b → found_holds w (when b rows.MovemToRegisters) ≡ true
+list_loaded w true is = is
+list_loaded w false is = refl
 
-all_4 : map (λ w. found_holds w (nested w)) (range 4096 0x4000) ≡ map (λ w. true) (range 4096 0x4000)
-unfolding range nested group_4 with_register with_status unaries tests group_48 group_4e controls
-all_4 = refl
+all_0 : (w : ℕ) → found_holds w (group_0 w) ≡ true
+unfolding group_0 by_register by_number to_status immediates
+all_0 w = search (rules, either, allowed) depth 16
 
-all_5 : map (λ w. found_holds w (nested w)) (range 4096 0x5000) ≡ map (λ w. true) (range 4096 0x5000)
-unfolding range nested group_5
-all_5 = refl
+all_1 : (w : ℕ) → found_holds w (group_1 w) ≡ true
+unfolding group_1
+all_1 w = search (rules, allowed) depth 10
 
-all_6 : map (λ w. found_holds w (nested w)) (range 4096 0x6000) ≡ map (λ w. true) (range 4096 0x6000)
-unfolding range nested group_6
-all_6 = refl
+all_2 : (w : ℕ) → found_holds w (group_2_or_3 Long w) ≡ true
+unfolding group_2_or_3
+all_2 w = search (rules, either, allowed) depth 10
 
-all_7 : map (λ w. found_holds w (nested w)) (range 4096 0x7000) ≡ map (λ w. true) (range 4096 0x7000)
-unfolding range nested group_7
-all_7 = refl
+all_3 : (w : ℕ) → found_holds w (group_2_or_3 Word w) ≡ true
+unfolding group_2_or_3
+all_3 w = search (rules, either, allowed) depth 10
 
-all_8 : map (λ w. found_holds w (nested w)) (range 4096 0x8000) ≡ map (λ w. true) (range 4096 0x8000)
-unfolding range nested group_8
-all_8 = refl
+all_4 : (w : ℕ) → found_holds w (group_4 w) ≡ true
+unfolding group_4 with_register with_status unaries tests group_48 group_4e controls
+all_4 w = search (rules, either, allowed, list_loaded) depth 16
 
-all_9 : map (λ w. found_holds w (nested w)) (range 4096 0x9000) ≡ map (λ w. true) (range 4096 0x9000)
-unfolding range nested sums
-all_9 = refl
+all_5 : (w : ℕ) → found_holds w (group_5 w) ≡ true
+unfolding group_5
+all_5 w = search (rules, either, allowed) depth 10
 
-all_a : map (λ w. found_holds w (nested w)) (range 4096 0xa000) ≡ map (λ w. true) (range 4096 0xa000)
-unfolding range nested
-all_a = refl
+all_6 : (w : ℕ) → found_holds w (group_6 w) ≡ true
+unfolding group_6
+all_6 w = search (rules, either) depth 10
 
-all_b : map (λ w. found_holds w (nested w)) (range 4096 0xb000) ≡ map (λ w. true) (range 4096 0xb000)
-unfolding range nested group_b
-all_b = refl
+all_7 : (w : ℕ) → found_holds w (group_7 w) ≡ true
+unfolding group_7
+all_7 w = search (rules, allowed) depth 10
 
-all_c : map (λ w. found_holds w (nested w)) (range 4096 0xc000) ≡ map (λ w. true) (range 4096 0xc000)
-unfolding range nested group_c exchanges
-all_c = refl
+all_8 : (w : ℕ) → found_holds w (group_8 w) ≡ true
+unfolding group_8
+all_8 w = search (rules, either, allowed, to_memory) depth 10
 
-all_d : map (λ w. found_holds w (nested w)) (range 4096 0xd000) ≡ map (λ w. true) (range 4096 0xd000)
-unfolding range nested sums
-all_d = refl
+all_9 : (w : ℕ) → found_holds w (sums tasks.Sub tasks.Subx w) ≡ true
+unfolding sums
+all_9 w = search (rules, either, allowed, to_memory) depth 10
 
-all_e : map (λ w. found_holds w (nested w)) (range 4096 0xe000) ≡ map (λ w. true) (range 4096 0xe000)
-unfolding range nested group_e
-all_e = refl
+all_b : (w : ℕ) → found_holds w (group_b w) ≡ true
+unfolding group_b
+all_b w = search (rules, either, allowed) depth 10
 
-all_f : map (λ w. found_holds w (nested w)) (range 4096 0xf000) ≡ map (λ w. true) (range 4096 0xf000)
-unfolding range nested
-all_f = refl
+all_c : (w : ℕ) → found_holds w (group_c w) ≡ true
+unfolding group_c exchanges
+all_c w = search (rules, either, allowed, to_memory) depth 10
 
-all_at : (d w : ℕ) → w < 65536 → w / 4096 ≡ d → found_holds w (nested w) ≡ true
-all_at zero w below h = same_at (λ w. found_holds w (nested w)) (λ w. true) 4096 0x0000 all_0 w (omega arith) (omega arith)
-all_at (suc zero) w below h = same_at (λ w. found_holds w (nested w)) (λ w. true) 4096 0x1000 all_1 w (omega arith) (omega arith)
-all_at (suc (suc zero)) w below h = same_at (λ w. found_holds w (nested w)) (λ w. true) 4096 0x2000 all_2 w (omega arith) (omega arith)
-all_at (suc (suc (suc zero))) w below h = same_at (λ w. found_holds w (nested w)) (λ w. true) 4096 0x3000 all_3 w (omega arith) (omega arith)
-all_at (suc (suc (suc (suc zero)))) w below h = same_at (λ w. found_holds w (nested w)) (λ w. true) 4096 0x4000 all_4 w (omega arith) (omega arith)
-all_at (suc (suc (suc (suc (suc zero))))) w below h = same_at (λ w. found_holds w (nested w)) (λ w. true) 4096 0x5000 all_5 w (omega arith) (omega arith)
-all_at (suc (suc (suc (suc (suc (suc zero)))))) w below h = same_at (λ w. found_holds w (nested w)) (λ w. true) 4096 0x6000 all_6 w (omega arith) (omega arith)
-all_at (suc (suc (suc (suc (suc (suc (suc zero))))))) w below h = same_at (λ w. found_holds w (nested w)) (λ w. true) 4096 0x7000 all_7 w (omega arith) (omega arith)
-all_at (suc (suc (suc (suc (suc (suc (suc (suc zero)))))))) w below h = same_at (λ w. found_holds w (nested w)) (λ w. true) 4096 0x8000 all_8 w (omega arith) (omega arith)
-all_at (suc (suc (suc (suc (suc (suc (suc (suc (suc zero))))))))) w below h = same_at (λ w. found_holds w (nested w)) (λ w. true) 4096 0x9000 all_9 w (omega arith) (omega arith)
-all_at (suc (suc (suc (suc (suc (suc (suc (suc (suc (suc zero)))))))))) w below h = same_at (λ w. found_holds w (nested w)) (λ w. true) 4096 0xa000 all_a w (omega arith) (omega arith)
-all_at (suc (suc (suc (suc (suc (suc (suc (suc (suc (suc (suc zero))))))))))) w below h = same_at (λ w. found_holds w (nested w)) (λ w. true) 4096 0xb000 all_b w (omega arith) (omega arith)
-all_at (suc (suc (suc (suc (suc (suc (suc (suc (suc (suc (suc (suc zero)))))))))))) w below h = same_at (λ w. found_holds w (nested w)) (λ w. true) 4096 0xc000 all_c w (omega arith) (omega arith)
-all_at (suc (suc (suc (suc (suc (suc (suc (suc (suc (suc (suc (suc (suc zero))))))))))))) w below h = same_at (λ w. found_holds w (nested w)) (λ w. true) 4096 0xd000 all_d w (omega arith) (omega arith)
-all_at (suc (suc (suc (suc (suc (suc (suc (suc (suc (suc (suc (suc (suc (suc zero)))))))))))))) w below h = same_at (λ w. found_holds w (nested w)) (λ w. true) 4096 0xe000 all_e w (omega arith) (omega arith)
-all_at (suc (suc (suc (suc (suc (suc (suc (suc (suc (suc (suc (suc (suc (suc (suc zero))))))))))))))) w below h = same_at (λ w. found_holds w (nested w)) (λ w. true) 4096 0xf000 all_f w (omega arith) (omega arith)
-all_at (suc (suc (suc (suc (suc (suc (suc (suc (suc (suc (suc (suc (suc (suc (suc (suc d)))))))))))))))) w below h = absurd (omega arith)
+all_d : (w : ℕ) → found_holds w (sums tasks.Add tasks.Addx w) ≡ true
+unfolding sums
+all_d w = search (rules, either, allowed, to_memory) depth 10
+
+all_e : (w : ℕ) → found_holds w (group_e w) ≡ true
+unfolding group_e
+all_e w = search (rules, either, allowed) depth 10
+
+all_hold : (w : ℕ) → found_holds w (nested w) ≡ true
+unfolding nested
+all_hold w = search (rules, either, all_0, all_1, all_2, all_3, all_4, all_5, all_6, all_7, all_8, all_9, all_b, all_c, all_d, all_e) depth 20
 
 row_is : (w : ℕ) (row : Row) → holds w row ≡ true → IsInstruction (Some row) → IsEntered row w
 row_is w (rows.Immediate task) h i = immediate_is task h
@@ -235,4 +231,4 @@ found_is w None h i = i
 found_is w (Some row) h i = row_is w row h i
 
 pub every_word : (w : ℕ) → w < 65536 → IsInstruction (nested w) → IsEnteredWord w (nested w)
-every_word w below i = found_is w (nested w) (all_at (w / 4096) w below refl) i
+every_word w below i = found_is w (nested w) (all_hold w) i

@@ -19,6 +19,7 @@ use Rattle.asm_z80.specs.Instruction.{is_db}
 use Rattle.asm_z80.proofs.Operands.{shown}
 use Rattle.asm_z80.proofs.Sources.{led_tokens}
 use Rattle.md_asm.specs.Contents.{under}
+use Rattle.md_asm.proofs.Among.{refuted}
 use Rattle.md_asm.proofs.Fits.{number_of}
 use Rattle.md_asm.proofs.Fill80.{IsDecoded, IsReached, ix_decoded, iy_decoded, not_odd, plain_decoded, reach, row_named, row_read}
 use Rattle.md_asm.proofs.Pages80.{both_numbered, far_condition, is_far, is_two}
@@ -96,7 +97,7 @@ near_alone (ops.DecrementAndJump by) at near far = (
       to_number _ (target at by) n e (rw there at (loop_there (target at by))),
   λ n is. cc,
 )
-near_alone _ at near far = cc
+near_alone _ at near far = refuted near
 
 -- ---- LD (IX+d),n
 
@@ -125,7 +126,7 @@ two_alone (ops.Load (places.AtIy by) (places.Number m)) at two first second = (
   λ n is. iy_there by 8 (under true n) (byte_fits by first) eight,
   λ n is. iy_there 8 m (under true n) eight (byte_fits m second),
 )
-two_alone _ at two first second = cc
+two_alone _ at two first second = refuted two
 
 -- ---- all others have one number, and their text is the same at all addresses
 

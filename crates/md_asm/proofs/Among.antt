@@ -12,6 +12,10 @@ use Rattle.md_asm.proofs.Fits.{is_plain, is_single, number_of}
 pub below : (n limit : ℕ) → nat_lt n limit ≡ true → n < limit
 below n limit h = grind (arith, nat_tests)
 
+-- a test that fails does not hold
+pub refuted : {A : Type 0} → false ≡ true → A
+refuted h = absurd (cc)
+
 pub no_number : (n : ℕ) → nat_lt n 0 ≡ true → ⊥
 no_number n h = let e = below n 0 h in omega (arith, e)
 

@@ -1,22 +1,21 @@
--- Words of the 68000 with 8 for the number in the first word, and 2 for the displacement of a branch there: by computing
--- both for all words of a first digit.
-use Rattle.std.proofs.Common.{◌≡◌, ℕ, zero, suc, ◌/◌, ◌<◌, Bool, true, false, not, ◌||◌, ◌==◌, List, ◌∷◌, map, refl, ap, ◌∙◌, sym, arith, Option}
-use Rattle.std.proofs.lemmas.Bool.Decides.{nat_tests}
-use Rattle.std.proofs.lemmas.Bool.{lt-ltb}
-use Rattle.std.specs.Prelude.{nat_lt}
-use Rattle.md_word.proofs.Agree.{range, same_at}
+-- Words of the 68000 with 8 for the number in the first word, and 2 for the displacement of a branch there: they are of
+-- the same row.
+use Rattle.std.proofs.Common.{◌≡◌, ℕ, ◌/◌, ◌%◌, ◌<◌, ◌==◌, Bool, true, false, List, ◌∷◌, refl, ap, ◌∙◌, sym, arith, Option, Some, None, if◌then◌else◌}
+use Rattle.md_word.specs.declared.task.Task.{Task}
 use Rattle.m68k_decode.specs.declared.decoded.Decoded.{Decoded}
 use Rattle.m68k_decode.specs.declared.displacement.Displacement.{Displacement}
 use Rattle.m68k_decode.specs.declared.displacement.Displacement.TheVariants as displacements
 use Rattle.m68k_decode.specs.declared.op.Op.{Op}
 use Rattle.m68k_decode.specs.declared.op.Op.TheVariants as ops
-use Rattle.m68k_decode.specs.Nested.{nested, group_0, by_register, by_number, to_status, immediates, group_1, group_2_or_3, group_4, with_register, with_status, unaries, tests, group_48, group_4e, controls, group_5, group_6, group_7, group_8, sums, group_b, group_c, exchanges, group_e}
-use Rattle.m68k_decode.specs.Fields.{high_register, low_register, size_of, word_or_long, mode_of, low_mode, high_mode, paired, quick, condition_of, displacement_of, shift_of, number_at}
-use Rattle.m68k_decode.specs.Instructions.{instruction_of, made, picked, unmatched}
+use Rattle.m68k_decode.specs.Nested.{nested}
+use Rattle.m68k_decode.specs.Fields.{condition_of, displacement_of, high_register, low_mode, low_register, quick, size_of}
+use Rattle.m68k_decode.specs.Instructions.{instruction_of, made, of_words, picked, unmatched}
 use Rattle.m68k_decode.proofs.Table.{decoded_is_picked}
-use Rattle.asm_m68k.proofs.FirstWord.{first_again}
+use Rattle.m68k_decode.specs.Rows as rows
 use Rattle.m68k_decode.specs.Rows.{Row}
+use Rattle.asm_m68k.proofs.FirstWord.{first_again}
 use Rattle.asm_m68k.specs.Encoding.{first_word}
+use Rattle.md_asm.proofs.First68.{bcc_digit, bra_digit, branch_row, bsr_digit, equal, high_low, high_with, low_low, low_number, low_other, low_register_stays, low_with, made_again, made_is, moveq_row, quick_digit, quick_is, quick_row, same_kind, same_left, same_register, same_size, shift_digit, shift_row, trap_row, upper_stays}
 
 abbrev pub displacement8 : Displacement → Displacement
 displacement8 (displacements.Byte by) = displacements.Byte 2
@@ -40,166 +39,153 @@ decoded8 d = record { op = op8 d.op; length = d.length }
 abbrev pub word8 : List ℕ → ℕ → ℕ
 word8 tail w = first_word (op8 (picked (nested w) (w ∷ tail)).op)
 
-abbrev pub Shape : Type 0
-Shape = Decoded × Bool × Option Row
-
-abbrev pub changed : List ℕ → ℕ → Shape
-changed tail w = (picked (nested (word8 tail w)) (word8 tail w ∷ tail), nat_lt (word8 tail w) 65536, nested (word8 tail w))
-
-abbrev pub wanted : List ℕ → ℕ → Shape
-wanted tail w = (decoded8 (picked (nested w) (w ∷ tail)), true, nested w)
-
-agree_7 : (tail : List ℕ) → map (changed tail) (range 4096 0x7000) ≡ map (wanted tail) (range 4096 0x7000)
-unfolding range nested made unmatched first_word group_7 high_register low_register size_of word_or_long mode_of low_mode high_mode paired quick condition_of displacement_of shift_of number_at
-agree_7 tail = refl
-
-agree_5 : (tail : List ℕ) → map (changed tail) (range 4096 0x5000) ≡ map (wanted tail) (range 4096 0x5000)
-unfolding range nested made unmatched first_word group_5 high_register low_register size_of word_or_long mode_of low_mode high_mode paired quick condition_of displacement_of shift_of number_at
-agree_5 tail = refl
-
-agree_4 : (tail : List ℕ) → map (changed tail) (range 4096 0x4000) ≡ map (wanted tail) (range 4096 0x4000)
-unfolding range nested made unmatched first_word group_4 with_register with_status unaries tests group_48 group_4e controls high_register low_register size_of word_or_long mode_of low_mode high_mode paired quick condition_of displacement_of shift_of number_at
-agree_4 tail = refl
-
-agree_6 : (tail : List ℕ) → map (changed tail) (range 4096 0x6000) ≡ map (wanted tail) (range 4096 0x6000)
-unfolding range nested made unmatched first_word group_6 high_register low_register size_of word_or_long mode_of low_mode high_mode paired quick condition_of displacement_of shift_of number_at
-agree_6 tail = refl
-
-agree_e : (tail : List ℕ) → map (changed tail) (range 4096 0xe000) ≡ map (wanted tail) (range 4096 0xe000)
-unfolding range nested made unmatched first_word group_e high_register low_register size_of word_or_long mode_of low_mode high_mode paired quick condition_of displacement_of shift_of number_at
-agree_e tail = refl
-
--- the others have none there
-abbrev pub is_first : Op → Bool
-is_first (ops.Quick own size n mode) = true
-is_first (ops.Trap n) = true
-is_first (ops.Moveq n value) = true
-is_first (ops.ShiftByNumber own size n r) = true
-is_first (ops.Bra displacement) = true
-is_first (ops.Bsr displacement) = true
-is_first (ops.Bcc condition displacement) = true
-is_first op = false
-
-abbrev pub first : List ℕ → ℕ → Bool
-first tail w = is_first (picked (nested w) (w ∷ tail)).op
-
-none_0 : (tail : List ℕ) → map (first tail) (range 4096 0x0000) ≡ map (λ w. false) (range 4096 0x0000)
-unfolding range nested made unmatched group_0 by_register by_number to_status immediates high_register low_register size_of word_or_long mode_of low_mode high_mode paired quick condition_of displacement_of shift_of number_at
-none_0 tail = refl
-
-none_1 : (tail : List ℕ) → map (first tail) (range 4096 0x1000) ≡ map (λ w. false) (range 4096 0x1000)
-unfolding range nested made unmatched group_1 high_register low_register size_of word_or_long mode_of low_mode high_mode paired quick condition_of displacement_of shift_of number_at
-none_1 tail = refl
-
-none_2 : (tail : List ℕ) → map (first tail) (range 4096 0x2000) ≡ map (λ w. false) (range 4096 0x2000)
-unfolding range nested made unmatched group_2_or_3 high_register low_register size_of word_or_long mode_of low_mode high_mode paired quick condition_of displacement_of shift_of number_at
-none_2 tail = refl
-
-none_3 : (tail : List ℕ) → map (first tail) (range 4096 0x3000) ≡ map (λ w. false) (range 4096 0x3000)
-unfolding range nested made unmatched group_2_or_3 high_register low_register size_of word_or_long mode_of low_mode high_mode paired quick condition_of displacement_of shift_of number_at
-none_3 tail = refl
-
-none_8 : (tail : List ℕ) → map (first tail) (range 4096 0x8000) ≡ map (λ w. false) (range 4096 0x8000)
-unfolding range nested made unmatched group_8 high_register low_register size_of word_or_long mode_of low_mode high_mode paired quick condition_of displacement_of shift_of number_at
-none_8 tail = refl
-
-none_9 : (tail : List ℕ) → map (first tail) (range 4096 0x9000) ≡ map (λ w. false) (range 4096 0x9000)
-unfolding range nested made unmatched sums high_register low_register size_of word_or_long mode_of low_mode high_mode paired quick condition_of displacement_of shift_of number_at
-none_9 tail = refl
-
-none_a : (tail : List ℕ) → map (first tail) (range 4096 0xa000) ≡ map (λ w. false) (range 4096 0xa000)
-unfolding range nested made unmatched high_register low_register size_of word_or_long mode_of low_mode high_mode paired quick condition_of displacement_of shift_of number_at
-none_a tail = refl
-
-none_b : (tail : List ℕ) → map (first tail) (range 4096 0xb000) ≡ map (λ w. false) (range 4096 0xb000)
-unfolding range nested made unmatched group_b high_register low_register size_of word_or_long mode_of low_mode high_mode paired quick condition_of displacement_of shift_of number_at
-none_b tail = refl
-
-none_c : (tail : List ℕ) → map (first tail) (range 4096 0xc000) ≡ map (λ w. false) (range 4096 0xc000)
-unfolding range nested made unmatched group_c exchanges high_register low_register size_of word_or_long mode_of low_mode high_mode paired quick condition_of displacement_of shift_of number_at
-none_c tail = refl
-
-none_d : (tail : List ℕ) → map (first tail) (range 4096 0xd000) ≡ map (λ w. false) (range 4096 0xd000)
-unfolding range nested made unmatched sums high_register low_register size_of word_or_long mode_of low_mode high_mode paired quick condition_of displacement_of shift_of number_at
-none_d tail = refl
-
-none_f : (tail : List ℕ) → map (first tail) (range 4096 0xf000) ≡ map (λ w. false) (range 4096 0xf000)
-unfolding range nested made unmatched high_register low_register size_of word_or_long mode_of low_mode high_mode paired quick condition_of displacement_of shift_of number_at
-none_f tail = refl
-
-op8_same : (op : Op) → is_first op ≡ false → op8 op ≡ op
-op8_same (ops.Quick own size n mode) h = cc
-op8_same (ops.Trap n) h = cc
-op8_same (ops.Moveq n value) h = cc
-op8_same (ops.ShiftByNumber own size n r) h = cc
-op8_same (ops.Bra displacement) h = cc
-op8_same (ops.Bsr displacement) h = cc
-op8_same (ops.Bcc condition displacement) h = cc
-op8_same op h = refl
-
--- where there is none the word stays
-stays : (w : ℕ) (tail : List ℕ) → w < 65536 → first tail w ≡ false → changed tail w ≡ wanted tail w
-stays w tail below h =
-    let same : op8 (picked (nested w) (w ∷ tail)).op ≡ (picked (nested w) (w ∷ tail)).op = op8_same (picked (nested w) (w ∷ tail)).op h in
-    let word : first_word (picked (nested w) (w ∷ tail)).op ≡ w = rw (← decoded_is_picked (w ∷ tail) below) (first_again w tail below) in
-    let low : nat_lt w 65536 ≡ true = lt-ltb w 65536 below in
-    rw (same, word, low) refl
-
--- the first digits of words that have none
-abbrev pub is_bare : ℕ → Bool
-is_bare d = not (d == 4 || (d == 5 || (d == 6 || (d == 7 || d == 14))))
-
-pub none_first : (d w : ℕ) (tail : List ℕ) → w < 65536 → w / 4096 ≡ d → is_bare d ≡ true → first tail w ≡ false
-none_first zero w tail below h bare = same_at (first tail) (λ w. false) 4096 0x0000 (none_0 tail) w (omega arith) (omega arith)
-none_first (suc zero) w tail below h bare = same_at (first tail) (λ w. false) 4096 0x1000 (none_1 tail) w (omega arith) (omega arith)
-none_first (suc (suc zero)) w tail below h bare = same_at (first tail) (λ w. false) 4096 0x2000 (none_2 tail) w (omega arith) (omega arith)
-none_first (suc (suc (suc zero))) w tail below h bare = same_at (first tail) (λ w. false) 4096 0x3000 (none_3 tail) w (omega arith) (omega arith)
-none_first (suc (suc (suc (suc zero)))) w tail below h bare = cc
-none_first (suc (suc (suc (suc (suc zero))))) w tail below h bare = cc
-none_first (suc (suc (suc (suc (suc (suc zero)))))) w tail below h bare = cc
-none_first (suc (suc (suc (suc (suc (suc (suc zero))))))) w tail below h bare = cc
-none_first (suc (suc (suc (suc (suc (suc (suc (suc zero)))))))) w tail below h bare = same_at (first tail) (λ w. false) 4096 0x8000 (none_8 tail) w (omega arith) (omega arith)
-none_first (suc (suc (suc (suc (suc (suc (suc (suc (suc zero))))))))) w tail below h bare = same_at (first tail) (λ w. false) 4096 0x9000 (none_9 tail) w (omega arith) (omega arith)
-none_first (suc (suc (suc (suc (suc (suc (suc (suc (suc (suc zero)))))))))) w tail below h bare = same_at (first tail) (λ w. false) 4096 0xa000 (none_a tail) w (omega arith) (omega arith)
-none_first (suc (suc (suc (suc (suc (suc (suc (suc (suc (suc (suc zero))))))))))) w tail below h bare = same_at (first tail) (λ w. false) 4096 0xb000 (none_b tail) w (omega arith) (omega arith)
-none_first (suc (suc (suc (suc (suc (suc (suc (suc (suc (suc (suc (suc zero)))))))))))) w tail below h bare = same_at (first tail) (λ w. false) 4096 0xc000 (none_c tail) w (omega arith) (omega arith)
-none_first (suc (suc (suc (suc (suc (suc (suc (suc (suc (suc (suc (suc (suc zero))))))))))))) w tail below h bare = same_at (first tail) (λ w. false) 4096 0xd000 (none_d tail) w (omega arith) (omega arith)
-none_first (suc (suc (suc (suc (suc (suc (suc (suc (suc (suc (suc (suc (suc (suc zero)))))))))))))) w tail below h bare = cc
-none_first (suc (suc (suc (suc (suc (suc (suc (suc (suc (suc (suc (suc (suc (suc (suc zero))))))))))))))) w tail below h bare = same_at (first tail) (λ w. false) 4096 0xf000 (none_f tail) w (omega arith) (omega arith)
-none_first (suc (suc (suc (suc (suc (suc (suc (suc (suc (suc (suc (suc (suc (suc (suc (suc d)))))))))))))))) w tail below h bare = absurd (omega arith)
-
-same_by : (d w : ℕ) (tail : List ℕ) → w < 65536 → w / 4096 ≡ d → (b : Bool) → is_bare d ≡ b → changed tail w ≡ wanted tail w
-same_by d w tail below h true bare = stays w tail below (none_first d w tail below h bare)
-same_by zero w tail below h false bare = cc
-same_by (suc zero) w tail below h false bare = cc
-same_by (suc (suc zero)) w tail below h false bare = cc
-same_by (suc (suc (suc zero))) w tail below h false bare = cc
-same_by (suc (suc (suc (suc zero)))) w tail below h false bare = same_at (changed tail) (wanted tail) 4096 0x4000 (agree_4 tail) w (omega arith) (omega arith)
-same_by (suc (suc (suc (suc (suc zero))))) w tail below h false bare = same_at (changed tail) (wanted tail) 4096 0x5000 (agree_5 tail) w (omega arith) (omega arith)
-same_by (suc (suc (suc (suc (suc (suc zero)))))) w tail below h false bare = same_at (changed tail) (wanted tail) 4096 0x6000 (agree_6 tail) w (omega arith) (omega arith)
-same_by (suc (suc (suc (suc (suc (suc (suc zero))))))) w tail below h false bare = same_at (changed tail) (wanted tail) 4096 0x7000 (agree_7 tail) w (omega arith) (omega arith)
-same_by (suc (suc (suc (suc (suc (suc (suc (suc zero)))))))) w tail below h false bare = cc
-same_by (suc (suc (suc (suc (suc (suc (suc (suc (suc zero))))))))) w tail below h false bare = cc
-same_by (suc (suc (suc (suc (suc (suc (suc (suc (suc (suc zero)))))))))) w tail below h false bare = cc
-same_by (suc (suc (suc (suc (suc (suc (suc (suc (suc (suc (suc zero))))))))))) w tail below h false bare = cc
-same_by (suc (suc (suc (suc (suc (suc (suc (suc (suc (suc (suc (suc zero)))))))))))) w tail below h false bare = cc
-same_by (suc (suc (suc (suc (suc (suc (suc (suc (suc (suc (suc (suc (suc zero))))))))))))) w tail below h false bare = cc
-same_by (suc (suc (suc (suc (suc (suc (suc (suc (suc (suc (suc (suc (suc (suc zero)))))))))))))) w tail below h false bare = same_at (changed tail) (wanted tail) 4096 0xe000 (agree_e tail) w (omega arith) (omega arith)
-same_by (suc (suc (suc (suc (suc (suc (suc (suc (suc (suc (suc (suc (suc (suc (suc zero))))))))))))))) w tail below h false bare = cc
-same_by (suc (suc (suc (suc (suc (suc (suc (suc (suc (suc (suc (suc (suc (suc (suc (suc d)))))))))))))))) w tail below h false bare = absurd (omega arith)
-
 -- a word with 8 for its number is one of the same row, and decodes to the instruction with 8
 pub record IsChanged (w : ℕ) (tail : List ℕ) : Type 0 where
   pub low : word8 tail w < 65536
   pub row : nested (word8 tail w) ≡ nested w
   pub is : instruction_of (word8 tail w ∷ tail) ≡ decoded8 (instruction_of (w ∷ tail))
 
+-- ---- what the other word of a row decodes to
+
+quick_made : (own : Task) (v w : ℕ) (tail : List ℕ) → v / 64 % 4 ≡ w / 64 % 4 → quick (v ∷ tail) ≡ 8
+    → low_mode (size_of (w ∷ tail)) 1 (v ∷ tail) ≡ low_mode (size_of (w ∷ tail)) 1 (w ∷ tail)
+    → made (rows.Quick own) (v ∷ tail) ≡ decoded8 (made (rows.Quick own) (w ∷ tail))
+unfolding made size_of
+quick_made own v w tail size number mode = rw (size, number, mode) refl
+
+shift_made : (v w : ℕ) (tail : List ℕ) → v / 64 % 4 ≡ w / 64 % 4 → v / 8 % 4 ≡ w / 8 % 4 → v / 256 % 2 ≡ w / 256 % 2 → v % 8 ≡ w % 8 → quick (v ∷ tail) ≡ 8
+    → made rows.ShiftByNumber (v ∷ tail) ≡ decoded8 (made rows.ShiftByNumber (w ∷ tail))
+unfolding made size_of low_register
+shift_made v w tail size kind left register number = rw (size, kind, left, register, number) refl
+
+moveq_made : (v w : ℕ) (tail : List ℕ) → v / 512 % 8 ≡ w / 512 % 8 → v % 256 ≡ 8 → made rows.Moveq (v ∷ tail) ≡ decoded8 (made rows.Moveq (w ∷ tail))
+unfolding made high_register
+moveq_made v w tail register number = rw (register, number) refl
+
+-- the number in bits 11 to 9 is that of its eights
+number_by : (n : ℕ) (b : Bool) → (n == 0) ≡ b → n < 8 → (if b then 8 else n) % 8 ≡ n
+number_by n true is low = let e = equal n 0 is in omega (arith, e)
+number_by n false is low = omega arith
+
+number_of : (w : ℕ) (tail : List ℕ) → quick (w ∷ tail) % 8 ≡ w / 512 % 8
+unfolding quick high_register
+number_of w tail = number_by (w / 512 % 8) (w / 512 % 8 == 0) refl (omega arith)
+
+-- a branch whose displacement is in the first word, or after it
+near : (w : ℕ) (tail : List ℕ) → (w % 256 == 0) ≡ false → displacement_of (w ∷ tail) ≡ displacements.Byte (w % 256)
+unfolding displacement_of
+near w tail h = rw h refl
+
+far : (w : ℕ) (tail : List ℕ) → (w % 256 == 0) ≡ true → displacement8 (displacement_of (w ∷ tail)) ≡ displacement_of (w ∷ tail)
+unfolding displacement_of
+far w tail h = rw h refl
+
+condition_stays : (v w : ℕ) (tail : List ℕ) → v / 256 ≡ w / 256 → condition_of (v ∷ tail) ≡ condition_of (w ∷ tail)
+unfolding condition_of
+condition_stays v w tail h = rw h refl
+
+module _ (w : ℕ) (tail : List ℕ) (below : w < 65536) where
+  -- where there is no such number the word stays
+  stays : op8 (picked (nested w) (w ∷ tail)).op ≡ (picked (nested w) (w ∷ tail)).op → IsChanged w tail
+  stays same =
+      let own : (picked (nested w) (w ∷ tail)) ≡ instruction_of (w ∷ tail) = sym (decoded_is_picked (w ∷ tail) below) in
+      let again : first_word (picked (nested w) (w ∷ tail)).op ≡ w = rw own (first_again w tail below) in
+      let word : word8 tail w ≡ w = ap first_word same ∙ again in
+      let kept : decoded8 (instruction_of (w ∷ tail)) ≡ instruction_of (w ∷ tail) =
+          rw (← own) (ap (λ (op : Op). record { op = op; length = (picked (nested w) (w ∷ tail)).length }) same) in
+      record { low = rw word below; row = rw word refl; is = rw word (sym kept) }
+
+  -- another word of the row
+  other : (row : Row) (v : ℕ) → nested w ≡ Some row → v < 65536 → nested v ≡ Some row → first_word (op8 (made row (w ∷ tail)).op) ≡ v
+      → made row (v ∷ tail) ≡ decoded8 (made row (w ∷ tail)) → IsChanged w tail
+  other row v is low there first decoded =
+      let word : word8 tail w ≡ v = ap (λ (found : Option Row). first_word (op8 (picked found (w ∷ tail)).op)) is ∙ first in
+      record {
+        low = rw word low;
+        row = rw word (there ∙ sym is);
+        is = rw word (made_is row v tail low there ∙ decoded ∙ ap decoded8 (sym (made_is row w tail below is)));
+      }
+
+  quick_changed : (own : Task) → nested w ≡ Some (rows.Quick own) → IsChanged w tail
+  unfolding made first_word
+  quick_changed own is =
+      let again = made_again (rows.Quick own) w tail below is in
+      let digit = quick_digit own w below is in
+      other (rows.Quick own) (high_with 8 w) is (high_low 8 w below) (quick_row own 8 w below is) (omega (arith, again, digit, number_of w tail))
+      (quick_made own (high_with 8 w) w tail (same_size 8 w below) (quick_is 8 w tail below (omega arith) (omega arith)) (low_other (size_of (w ∷ tail)) 8 w tail below))
+
+  shift_changed : nested w ≡ Some rows.ShiftByNumber → IsChanged w tail
+  unfolding made first_word
+  shift_changed is =
+      let again = made_again rows.ShiftByNumber w tail below is in
+      let digit = shift_digit w below is in
+      other rows.ShiftByNumber (high_with 8 w) is (high_low 8 w below) (shift_row 8 w below is) (omega (arith, again, digit, number_of w tail))
+      (shift_made (high_with 8 w) w tail (same_size 8 w below) (same_kind 8 w below) (same_left 8 w below) (same_register 8 w below) (quick_is 8 w tail below (omega arith) (omega arith)))
+
+  moveq_changed : nested w ≡ Some rows.Moveq → IsChanged w tail
+  unfolding made first_word high_register
+  moveq_changed is =
+      let again = made_again rows.Moveq w tail below is in
+      other rows.Moveq (low_with 8 w) is (low_low 8 w below (omega arith)) (moveq_row 8 w below (omega arith) is) (omega (arith, again))
+      (moveq_made (low_with 8 w) w tail (low_register_stays 8 w (omega arith)) (low_number 8 w (omega arith)))
+
+  trap_changed : nested w ≡ Some rows.Trap → IsChanged w tail
+  unfolding made first_word
+  trap_changed is = other rows.Trap 0x4e48 is (omega arith) (trap_row 8 (omega arith)) refl refl
+
+  bra_changed : (b : Bool) → (w % 256 == 0) ≡ b → nested w ≡ Some rows.Bra → IsChanged w tail
+  unfolding made first_word
+  bra_changed true h is = stays (rw (is, far w tail h) refl)
+  bra_changed false h is =
+      let again = made_again rows.Bra w tail below is in
+      let own = near w tail h in
+      let new = near (low_with 2 w) tail (rw (low_number 2 w (omega arith)) refl) in
+      other rows.Bra (low_with 2 w) is (low_low 2 w below (omega arith)) (branch_row rows.Bra 2 w (omega arith) (bra_digit w below is) is)
+      (rw own (let e = rw own at again in omega (arith, e))) (rw (own, new, low_number 2 w (omega arith)) refl)
+
+  bsr_changed : (b : Bool) → (w % 256 == 0) ≡ b → nested w ≡ Some rows.Bsr → IsChanged w tail
+  unfolding made first_word
+  bsr_changed true h is = stays (rw (is, far w tail h) refl)
+  bsr_changed false h is =
+      let again = made_again rows.Bsr w tail below is in
+      let own = near w tail h in
+      let new = near (low_with 2 w) tail (rw (low_number 2 w (omega arith)) refl) in
+      other rows.Bsr (low_with 2 w) is (low_low 2 w below (omega arith)) (branch_row rows.Bsr 2 w (omega arith) (bsr_digit w below is) is)
+      (rw own (let e = rw own at again in omega (arith, e))) (rw (own, new, low_number 2 w (omega arith)) refl)
+
+  bcc_changed : (b : Bool) → (w % 256 == 0) ≡ b → nested w ≡ Some rows.Bcc → IsChanged w tail
+  unfolding made first_word
+  bcc_changed true h is = stays (rw (is, far w tail h) refl)
+  bcc_changed false h is =
+      let again = made_again rows.Bcc w tail below is in
+      let own = near w tail h in
+      let new = near (low_with 2 w) tail (rw (low_number 2 w (omega arith)) refl) in
+      other rows.Bcc (low_with 2 w) is (low_low 2 w below (omega arith)) (branch_row rows.Bcc 2 w (omega arith) (bcc_digit w below is) is)
+      (rw own (let e = rw own at again in omega (arith, e)))
+      (rw (own, new, low_number 2 w (omega arith), condition_stays (low_with 2 w) w tail (upper_stays 2 w (omega arith))) refl)
+
+  -- what is no instruction
+  none_same : (a b : Bool) → op8 (if a then of_words 1 (ops.LineA w) else (if b then of_words 1 (ops.LineF w) else of_words 1 (ops.Illegal w))).op
+      ≡ (if a then of_words 1 (ops.LineA w) else (if b then of_words 1 (ops.LineF w) else of_words 1 (ops.Illegal w))).op
+  none_same true b = refl
+  none_same false true = refl
+  none_same false false = refl
+
+  unmatched_same : op8 (unmatched (w ∷ tail)).op ≡ (unmatched (w ∷ tail)).op
+  unfolding unmatched
+  unmatched_same = none_same (w / 4096 == 10) (w / 4096 == 15)
+
+  changed_by : (found : Option Row) → nested w ≡ found → IsChanged w tail
+  unfolding made
+  changed_by None is = stays (rw is unmatched_same)
+  changed_by (Some (rows.Quick own)) is = quick_changed own is
+  changed_by (Some rows.ShiftByNumber) is = shift_changed is
+  changed_by (Some rows.Moveq) is = moveq_changed is
+  changed_by (Some rows.Trap) is = trap_changed is
+  changed_by (Some rows.Bra) is = bra_changed (w % 256 == 0) refl is
+  changed_by (Some rows.Bsr) is = bsr_changed (w % 256 == 0) refl is
+  changed_by (Some rows.Bcc) is = bcc_changed (w % 256 == 0) refl is
+  changed_by (Some row) is = stays (rw is refl)
+
 pub all_changed : (w : ℕ) (tail : List ℕ) → w < 65536 → IsChanged w tail
-all_changed w tail below =
-    let same = same_by (w / 4096) w tail below refl (is_bare (w / 4096)) refl in
-    let tested : nat_lt (word8 tail w) 65536 ≡ true = ap (λ (s : Shape). s.1) same in
-    let low : word8 tail w < 65536 = grind (arith, nat_tests) in record {
-      low = low;
-      row = ap (λ (s : Shape). s.2) same;
-      is = decoded_is_picked (word8 tail w ∷ tail) low ∙ ap (λ (s : Shape). s.0) same ∙ ap decoded8 (sym (decoded_is_picked (w ∷ tail) below));
-    }
+all_changed w tail below = changed_by w tail below (nested w) refl

@@ -9,11 +9,10 @@ use Rattle.m68k_decode.specs.declared.displacement.Displacement.TheVariants as d
 use Rattle.m68k_decode.specs.declared.op.Op.{Op}
 use Rattle.m68k_decode.specs.declared.op.Op.TheVariants as ops
 use Rattle.m68k_decode.specs.Fields.{condition_of, displacement_of, low_register, number_at}
-use Rattle.m68k_decode.specs.Instructions.{instruction_of, made, picked}
+use Rattle.m68k_decode.specs.Instructions.{instruction_of, made}
 use Rattle.m68k_decode.specs.Nested.{nested}
 use Rattle.m68k_decode.specs.Rows as rows
 use Rattle.m68k_decode.specs.Rows.{Row}
-use Rattle.m68k_decode.proofs.Table.{decoded_is_picked}
 use Rattle.md_disasm.specs.Rows68.{Row68, row_of, target}
 use Rattle.asm_m68k.specs.Encoding.{extension}
 use Rattle.asm_m68k.specs.Table.{AreWords, IsInstruction}
@@ -24,6 +23,7 @@ use Rattle.md_asm.proofs.Alone68.{filled_row, first_row, is_quick, second_row}
 use Rattle.md_asm.proofs.Fits.{number_of}
 use Rattle.md_asm.proofs.Kept68.{decoded_kept, is_branch, made_kept, op_kept}
 use Rattle.md_asm.proofs.Low68.{append_low, cons_low, extension_low, none_low}
+use Rattle.md_asm.proofs.First68.{made_is}
 use Rattle.md_asm.proofs.Quick68.{all_changed, decoded8, op8, word8}
 use Rattle.md_asm.proofs.Rows68.{row_kept}
 
@@ -58,9 +58,6 @@ reach d row at long from is whole =
       is = rw own is;
       whole = rw own whole;
     }
-
-made_is : (row : Row) (w : ℕ) (tail : List ℕ) → w < 65536 → nested w ≡ Some row → instruction_of (w ∷ tail) ≡ made row (w ∷ tail)
-made_is row w tail low is = decoded_is_picked (w ∷ tail) low ∙ ap (λ (r : Option Row). picked r (w ∷ tail)) is
 
 -- words that decode to a row's instruction
 pub record AreOf (row : Row) (w : ℕ) (tail : List ℕ) : Type 0 where

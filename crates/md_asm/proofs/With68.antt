@@ -1,14 +1,13 @@
 -- An instruction of the 68000 is there with any other number of the range in the place of one of its own.
-use Rattle.std.proofs.Common.{◌≡◌, inl, inr, ℕ, suc, ◌+◌, ◌/◌, ◌%◌, ◌<◌, ◌≤◌, ◌==◌, Bool, true, false, ◌&&◌, nat_le, nat_lt, List, ◌∷◌, refl, ◌∙◌, sym, arith, Some, if◌then◌else◌}
-use Rattle.std.proofs.lemmas.Bool.{and_parts, cases_lt}
-use Rattle.std.proofs.lemmas.Bool.Decides.{nat_tests}
+use Rattle.std.proofs.Common.{◌≡◌, ℕ, suc, ◌+◌, ◌/◌, ◌%◌, ◌<◌, ◌≤◌, ◌==◌, Bool, true, false, ◌&&◌, nat_le, nat_lt, List, ◌∷◌, refl, ◌∙◌, sym, arith, Some, if◌then◌else◌}
+use Rattle.std.proofs.lemmas.Bool.{and_parts}
 use Rattle.md_word.specs.Fields.{bit_of}
 use Rattle.md_word.specs.Width.{modulus_of}
 use Rattle.md_word.specs.declared.mode.Mode.{Mode}
 use Rattle.md_word.specs.declared.mode.Mode.TheVariants as modes
 use Rattle.md_word.specs.declared.size.Size.{Size}
 use Rattle.md_word.specs.declared.size.Size.TheVariants.{Byte, Word, Long}
-use Rattle.m68k_decode.specs.Fields.{condition_of, displacement_of, high_mode, high_register, low_mode, low_register, mode_of, number_at, paired, quick, size_of, word_or_long, words_of_mode, words_of_number}
+use Rattle.m68k_decode.specs.Fields.{condition_of, displacement_of, high_mode, high_register, low_mode, low_register, number_at, paired, quick, size_of, word_or_long, words_of_mode, words_of_number}
 use Rattle.m68k_decode.specs.Instructions.{made}
 use Rattle.m68k_decode.specs.Nested.{nested}
 use Rattle.m68k_decode.specs.Rows as rows
@@ -23,7 +22,7 @@ use Rattle.asm_m68k.specs.Table.{AreWords}
 use Rattle.md_asm.specs.Contents.{under}
 use Rattle.md_asm.specs.Ranges.{main_allows, mode_limit}
 use Rattle.md_asm.proofs.Among.{at_most, below, no_number}
-use Rattle.md_asm.proofs.First68.{high_low, high_with, low_low, low_with, moveq_row, quick_row, trap_row}
+use Rattle.md_asm.proofs.First68.{high_low, high_with, low_low, low_number, low_other, low_register_stays, low_with, moveq_row, quick_is, quick_row, same_kind, same_left, same_register, same_size, shift_row, trap_row}
 use Rattle.md_asm.proofs.Low68.{cons_low}
 use Rattle.md_asm.proofs.Put68.{high_put, high_same, low_put, low_same, mode_few, number_few, number_put, number_same, same_after, same_front, with_counted}
 use Rattle.md_asm.proofs.Reach68.{AreOf, IsDecoded, IsReached, bcc_by, bra_by, bsr_by, byte_under, dbcc_decoded, near, own_decoded, reach, word_under}
@@ -159,69 +158,14 @@ target_put size n w tail fits all =
 
 -- ---- numbers in the first word
 
-equal : (a b : ℕ) → (a == b) ≡ true → a ≡ b
-equal a b h = grind (arith, nat_tests)
-
-differ : (a b : ℕ) → (a == b) ≡ false → a ≡ b → ⊥
-differ a b h same = grind (arith, nat_tests)
-
 quick_parts : (n : ℕ) → (nat_le 1 n && nat_le n 8) ≡ true → (1 ≤ n) × (n ≤ 8)
 quick_parts n h = let p = and_parts (nat_le 1 n) (nat_le n 8) h in (at_most 1 n p.0, at_most n 8 p.1)
-
-high_number : (n w : ℕ) → w < 65536 → high_with n w / 512 % 8 ≡ n % 8
-high_number n w h = omega arith
-
-quick_low : (n : ℕ) → 1 ≤ n → n ≤ 8 → (n % 8 ≡ 0 → ⊥) → n % 8 ≡ n
-quick_low n low high none = elim (cases_lt n 8) [
-  | inl less ↦ omega arith
-  | inr more ↦ absurd (none (omega arith))
-]
-
-quick_by : (n : ℕ) (b : Bool) → (n % 8 == 0) ≡ b → 1 ≤ n → n ≤ 8 → (if b then 8 else n % 8) ≡ n
-quick_by n true is low high = let e = equal (n % 8) 0 is in omega (arith, e)
-quick_by n false is low high = quick_low n low high (differ (n % 8) 0 is)
-
-quick_is : (n w : ℕ) (tail : List ℕ) → w < 65536 → 1 ≤ n → n ≤ 8 → quick (high_with n w ∷ tail) ≡ n
-unfolding quick high_register
-quick_is n w tail h low high = rw (high_number n w h) (quick_by n (n % 8 == 0) refl low high)
-
-same_size : (n w : ℕ) → w < 65536 → high_with n w / 64 % 4 ≡ w / 64 % 4
-same_size n w h = omega arith
-
-same_mode : (n w : ℕ) → w < 65536 → high_with n w / 8 % 8 ≡ w / 8 % 8
-same_mode n w h = omega arith
-
-same_register : (n w : ℕ) → w < 65536 → high_with n w % 8 ≡ w % 8
-same_register n w h = omega arith
-
-same_kind : (n w : ℕ) → w < 65536 → high_with n w / 8 % 4 ≡ w / 8 % 4
-same_kind n w h = omega arith
-
-same_left : (n w : ℕ) → w < 65536 → high_with n w / 256 % 2 ≡ w / 256 % 2
-same_left n w h = omega arith
-
-low_number : (n w : ℕ) → n < 256 → low_with n w % 256 ≡ n
-low_number n w k = omega arith
-
-low_register_stays : (n w : ℕ) → n < 256 → low_with n w / 512 % 8 ≡ w / 512 % 8
-low_register_stays n w k = omega arith
 
 vector_is : (n : ℕ) → n < 16 → (0x4e40 + n) % 16 ≡ n
 vector_is n h = omega arith
 
 vector_fits : (n : ℕ) → n < 16 → 0x4e40 + n < 65536
 vector_fits n h = omega arith
-
--- the mode of a word with other bits 11 to 9, from the same words after it
-one_other : (m r : ℕ) (size : Size) (v w : ℕ) (tail : List ℕ) → mode_of m r size 1 (v ∷ tail) ≡ mode_of m r size 1 (w ∷ tail)
-unfolding mode_of number_at
-one_other m r Byte v w tail = refl
-one_other m r Word v w tail = refl
-one_other m r Long v w tail = refl
-
-low_other : (size : Size) (n w : ℕ) (tail : List ℕ) → w < 65536 → low_mode size 1 (high_with n w ∷ tail) ≡ low_mode size 1 (w ∷ tail)
-unfolding low_mode
-low_other size n w tail h = rw (same_mode n w h, same_register n w h) (one_other (w / 8 % 8) (w % 8) size (high_with n w) w tail)
 
 -- ---- branches
 
@@ -272,7 +216,7 @@ module _ (at n : ℕ) (a : at < 4294967296) where
   first_there rows.Chk w tail of h = let p = low_put Word 1 n w tail (omega arith) (omega arith) of.all h in there rows.Chk w tail p.rest at _ a of p.put.all (rw p.is refl)
   first_there (rows.Quick own) w tail of h =
       let k = quick_parts n h in
-      other (rows.Quick own) w (high_with n w) tail at _ a of (high_low n w of.low) (quick_row n w (rows.Quick own) of.low of.is refl)
+      other (rows.Quick own) w (high_with n w) tail at _ a of (high_low n w of.low) (quick_row own n w of.low of.is)
       (rw (same_size n w of.low, quick_is n w tail of.low k.0 k.1, low_other (size_of (w ∷ tail)) n w tail of.low) refl)
   first_there rows.Scc w tail of h = let p = low_put Byte 1 n w tail (omega arith) (omega arith) of.all h in there rows.Scc w tail p.rest at _ a of p.put.all (rw p.is refl)
   first_there rows.Bra w tail of h =
@@ -297,7 +241,7 @@ module _ (at n : ℕ) (a : at < 4294967296) where
   first_there rows.Cmpm w tail of h = absurd (no_number n h)
   first_there rows.ShiftByNumber w tail of h =
       let k = quick_parts n h in
-      other rows.ShiftByNumber w (high_with n w) tail at _ a of (high_low n w of.low) (quick_row n w rows.ShiftByNumber of.low of.is refl)
+      other rows.ShiftByNumber w (high_with n w) tail at _ a of (high_low n w of.low) (shift_row n w of.low of.is)
       (rw (same_size n w of.low, same_kind n w of.low, same_left n w of.low, same_register n w of.low, quick_is n w tail of.low k.0 k.1) refl)
   first_there rows.ShiftMemory w tail of h = let p = low_put Word 1 n w tail (omega arith) (omega arith) of.all h in there rows.ShiftMemory w tail p.rest at _ a of p.put.all (rw p.is refl)
   first_there row w tail of h = cc

@@ -25,7 +25,7 @@ use Rattle.asm_z80.proofs.Pages.{by_index, by_page}
 use Rattle.md_asm.specs.Contents.{under}
 use Rattle.md_asm.specs.Ranges.{byte_allows, place_limit, sub_allows}
 use Rattle.md_asm.proofs.Alone80.{IsThere, if_there, is_near, jump_there, loop_there, still, target_under}
-use Rattle.md_asm.proofs.Among.{at_most, below, no_number}
+use Rattle.md_asm.proofs.Among.{at_most, below, no_number, refuted}
 use Rattle.md_asm.proofs.Fill80.{IsDecoded, IsReached, bits_decoded, extended_decoded, ix_bits_decoded, ix_decoded, iy_bits_decoded, iy_decoded, not_odd, plain_decoded, reach, row_named}
 use Rattle.md_asm.proofs.Line.{is_free}
 use Rattle.md_asm.proofs.Named80.{op_free}
@@ -283,7 +283,7 @@ near_there : (op : Op80) (n at : ℕ) → is_near op ≡ true → is_far op ≡ 
 near_there (ops.JumpRelative by) n at near far h = somewhere (row_with n (row_of (ops.JumpRelative by) at)) n (rw (target_under n h) at (jump_there n))
 near_there (ops.JumpRelativeIf condition by) n at near far h = somewhere (row_with n (row_of (ops.JumpRelativeIf condition by) at)) n (rw (target_under n h) at (if_there condition n far))
 near_there (ops.DecrementAndJump by) n at near far h = somewhere (row_with n (row_of (ops.DecrementAndJump by) at)) n (rw (target_under n h) at (loop_there n))
-near_there _ n at near far h = cc
+near_there _ n at near far h = refuted near
 
 -- ---- any number that an operand allows
 
@@ -325,11 +325,15 @@ other_first (ops.Restart address) n at a far other h =
     restart_there n at a (at_most n 56 p.0) p.1
 other_first (ops.JumpRelative by) n at a far other h = near_there (ops.JumpRelative by) n at refl far (below n 65536 h)
 other_first (ops.DecrementAndJump by) n at a far other h = near_there (ops.DecrementAndJump by) n at refl far (below n 65536 h)
-other_first _ n at a far other h = cc
+other_first (ops.JumpRelativeIf condition by) n at a far other h = cc
+other_first _ n at a far other h = refuted other
 
 other_second : (op : Op80) (n at : ℕ) → is_far op ≡ false → is_other op ≡ true → sub_allows op (row_of op at).second n ≡ true → IsSomewhere (row_with n (row_of op at))
 other_second (ops.JumpRelativeIf condition by) n at far other h = near_there (ops.JumpRelativeIf condition by) n at refl far (below n 65536 h)
-other_second _ n at far other h = cc
+other_second (ops.Restart address) n at far other h = cc
+other_second (ops.JumpRelative by) n at far other h = cc
+other_second (ops.DecrementAndJump by) n at far other h = cc
+other_second _ n at far other h = refuted other
 
 not_near : (op : Op80) → is_other op ≡ false → is_near op ≡ false
 not_near (ops.Restart address) h = cc
