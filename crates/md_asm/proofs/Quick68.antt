@@ -92,7 +92,7 @@ module _ (w : ℕ) (tail : List ℕ) (below : w < 65536) where
       let again : first_word (picked (nested w) (w ∷ tail)).op ≡ w = rw own (first_again w tail below) in
       let word : word8 tail w ≡ w = ap first_word same ∙ again in
       let kept : decoded8 (instruction_of (w ∷ tail)) ≡ instruction_of (w ∷ tail) =
-          rw (← own) (ap (λ (op : Op). record { op = op; length = (picked (nested w) (w ∷ tail)).length }) same) in
+      rw (← own) (ap (λ (op : Op). record { op = op; length = (picked (nested w) (w ∷ tail)).length }) same) in
       record { low = rw word below; row = rw word refl; is = rw word (sym kept) }
 
   -- another word of the row
