@@ -9,9 +9,7 @@ use Rattle.md_word.specs.declared.size.Size.{Size}
 use Rattle.md_word.specs.declared.size.Size.TheVariants.{Byte, Word, Long}
 use Rattle.md_word.specs.declared.task.Task.{Task}
 use Rattle.md_word.specs.declared.task.Task.TheVariants as tasks
-use Rattle.m68k_decode.specs.declared.condition.Condition.{Condition}
-use Rattle.m68k_decode.specs.declared.condition.Condition.TheVariants as conditions
-use Rattle.asm_m68k.specs.Encoding.{condition_code, exchange, group_of, long_code, mode_code, move_size_code, quick_code, size_code, task_code}
+use Rattle.asm_m68k.specs.Encoding.{exchange, group_of, long_code, mode_code, move_size_code, quick_code, size_code, task_code}
 use Rattle.asm_m68k.specs.declared.form.Form.{Form}
 use Rattle.asm_m68k.specs.declared.form.Form.TheVariants as forms
 use Rattle.asm_m68k.specs.Building as building
@@ -128,10 +126,6 @@ pub long_below : (size : Size) → long_code size < 2
 long_below Byte = omega arith
 long_below Word = omega arith
 long_below Long = omega arith
-
-pub condition_low : (condition : Condition) → condition_code condition < 16
-condition_low conditions.True = omega arith
-condition_low _ = omega arith
 
 pub exchange_low : (x y : ℕ) → x < 16 → y < 16 → exchange x y < 65536
 exchange_low x y h k = by (nat_lt y 8) (nat_lt x 8)

@@ -20,7 +20,8 @@ use Rattle.asm_m68k.specs.Checked.{tried}
 use Rattle.asm_m68k.specs.Table.{AreWords}
 use Rattle.md_asm.proofs.Low68.{cons_low, append_low, mode_low, none_low, size_low}
 use Rattle.asm_laws.proofs.Sound68.{AreLongs, IsSound, read_sound}
-use Rattle.asm_laws.proofs.Codes68.{base_low, code_low, condition_low, cut, either_low, exchange_low, group_low, list_low, listed_low, long_below, mode_read, move_below, offset_low, quick_low, register_low, size_below, task_low}
+use Rattle.md_asm.proofs.First68.{condition_low}
+use Rattle.asm_laws.proofs.Codes68.{base_low, code_low, cut, either_low, exchange_low, group_low, list_low, listed_low, long_below, mode_read, move_below, offset_low, quick_low, register_low, size_below, task_low}
 
 -- ---- instructions
 

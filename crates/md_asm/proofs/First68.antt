@@ -150,7 +150,7 @@ shift_low kind left =
     (either_task (kind == 1) _ _ (either_task left _ _ (omega arith) (omega arith))
     (either_task (kind == 2) _ _ (either_task left _ _ (omega arith) (omega arith)) (either_task left _ _ (omega arith) (omega arith))))
 
-condition_low : (condition : Condition) → condition_code condition < 16
+pub condition_low : (condition : Condition) → condition_code condition < 16
 condition_low conditions.True = omega arith
 condition_low conditions.False = omega arith
 condition_low conditions.High = omega arith
