@@ -22,6 +22,13 @@ medians of rounds of 9 to 21 runs of 300 frames:
     where the VDP is written to all the time        0.90 and 0.95
     the shortest frames                             0.89, 0.94 and 1.00
 
+Seen on another host of four processors, left alone, medians of eleven runs of 300 frames with 2, 3 and 5 workers:
+
+    show                                            1.11, 1.09, 1.13
+    game                                            1.24, 0.99, 1.11
+    chord                                           1.00, 0.95, 0.88
+    the shortest frames                             0.88, 0.81, 0.85
+
 By the least times of five to seven runs of 100 frames five workers made 1.12 on show, 0.94 to 1.00 on chord, and 0.92
 on the shortest frames. Nothing written, two made 1.00 on show, 0.91 on the shortest frames, and 0.90 on scale and
 where the VDP is written to all the time. While the host gave a sixth and more of the time that was wanted to others,
