@@ -3,9 +3,9 @@
 
     bench/mutants.py [CRATE..]     those of these crates, or of all that have some
 
-`rt ci` tries the mutants of each crate's must-fail/, those of the wrong bodies that the promises name. A mutant costs
-a check of its crate and more, so further ones are in bench/mutants/CRATE/, and this script tries them, on a copy of
-the repository in which they are in place of the others. The libraries below a crate are proved where no earlier run
+`rt ci` tries the mutants of each crate's must-fail/, those of the bodies that the emulator must not have above all. A
+mutant costs a check of its crate and more, so further ones are in bench/mutants/CRATE/, and this script tries them, on
+a copy of the repository in which they are in place of the others. The libraries below a crate are proved where no earlier run
 has proved the same text. The last line tells how many were refused; the status is 1 where one was not.
 """
 import pathlib
