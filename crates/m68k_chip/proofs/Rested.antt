@@ -1,8 +1,9 @@
 -- A 68000 that is halted or stopped goes ahead.
 use Rattle.std.proofs.Common.{◌≡◌, ℕ, zero, suc, ◌+◌, ◌-◌, ◌*◌, ◌<◌, ◌≤◌, true, List, None, refl, sym, ap, subst, ◌∙◌, arith}
 use Rattle.std.proofs.lemmas.Grind.{div_ceil_times}
+use Rattle.md_word.specs.Clock.{gaps_to}
 use Rattle.m68k_chip.specs.Cases.{case_of, cause_of, is_rest}
-use Rattle.m68k_chip.specs.Events.{WentAhead, at_sample, begun, begun_after, begun_with, step, steps_to}
+use Rattle.m68k_chip.specs.Events.{WentAhead, at_sample, begun, begun_after, begun_with, step}
 use Rattle.m68k_chip.specs.Validity.{IsBetween, IsChip68}
 use Rattle.m68k_chip.specs.States.{State68, next_of, none_left}
 use Rattle.m68k_chip.specs.declared.case.Case.{Case}
@@ -32,7 +33,7 @@ module _ (cart : List ℕ) (state : State68) (level : ℕ) (rest : is_rest (case
   all-rest (suc n) = ap (λ x. begun cart x level) (all-rest n) ∙ next (state.start + step * suc n) ∙ ap (at_sample state) (omega arith)
 
   -- it went ahead to the first sample that is not below a cycle
-  pub rested-ahead : (end n : ℕ) (after : State68) → n ≡ 1 + steps_to (state.start + step) end → after ≡ at_sample state (state.start + step + step * steps_to (state.start + step) end) → WentAhead n end cart level state after
+  pub rested-ahead : (end n : ℕ) (after : State68) → n ≡ 1 + gaps_to step (state.start + step) end → after ≡ at_sample state (state.start + step + step * gaps_to step (state.start + step) end) → WentAhead n end cart level state after
   unfolding next_of
   rested-ahead end n after number is = subst (λ m. WentAhead m end cart level state after) (let e : suc count ≡ n = omega (arith, number) in e) (record {
     some = omega arith;
@@ -42,7 +43,7 @@ module _ (cart : List ℕ) (state : State68) (level : ℕ) (rest : is_rest (case
   })
     where
       count : ℕ
-      count = steps_to (state.start + step) end
+      count = gaps_to step (state.start + step) end
 
       sample : (k : ℕ) → 1 ≤ k → k < suc count → (next_of (begun_after k cart state level)).sample ≡ true
       sample zero some most = absurd (omega arith)
@@ -54,10 +55,6 @@ module _ (cart : List ℕ) (state : State68) (level : ℕ) (rest : is_rest (case
       below : (k : ℕ) → 1 ≤ k → k < suc count → (begun_after k cart state level).next < end
       below zero some most = absurd (omega arith)
       below (suc k) some most = subst (λ (x : State68). x.next < end) (sym (all-rest k)) (low k (omega arith))
-
--- no step to a cycle falls short of it
-pub rested-late : (end start next : ℕ) → next ≡ start + step * steps_to start end → end ≤ next
-rested-late end start next is = let most = (div_ceil_times (end - start) step (omega arith)).0 in omega (arith, is, most)
 
 -- one that waits on is valid
 pub rested-valid : (cart : List ℕ) (state : State68) (cycle : ℕ) → IsChip68 (of cart state) → IsBetween state → state.transfer ≡ none_left → state.next ≤ cycle

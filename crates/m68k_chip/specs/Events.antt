@@ -1,6 +1,6 @@
 -- What an event of the 68000 leaves, and what it asks for. Cycles are master cycles, of which a clock
 -- has 7. M68000 User's Manual, the bus cycles; the places of events are this project's profile.
-use Rattle.std.specs.Prelude.{◌≡◌, ℕ, zero, suc, ◌+◌, ◌-◌, ◌*◌, ◌/◌, ◌%◌, ◌^◌, ◌<◌, ◌≤◌, nat_le, min, true, ◌==◌, if◌then◌else◌, List, [], ◌∷◌, ◌++◌, length, Option, Some, None, Result, Ok, Err}
+use Rattle.std.specs.Prelude.{◌≡◌, ℕ, zero, suc, ◌+◌, ◌-◌, ◌*◌, ◌/◌, ◌%◌, ◌^◌, ◌<◌, ◌≤◌, nat_le, true, ◌==◌, if◌then◌else◌, List, [], ◌∷◌, ◌++◌, length, Option, Some, None, Result, Ok, Err}
 use Rattle.md_word.specs.Clock.{main_gap}
 use Rattle.md_word.specs.declared.main_bus.Answer68.{Answer68}
 use Rattle.md_word.specs.declared.main_bus.Request68.{Request68}
@@ -88,10 +88,6 @@ begun_with cart state (Some cause) = went_on cart state cause []
 -- after a sample at which an interrupt of this level is asked for, 0 for none
 unfoldable pub begun : List ℕ → State68 → ℕ → State68
 begun cart state level = begun_with cart state (cause_of (case_of state level))
-
--- how many steps lead from a cycle to the first one that is not before another
-abbrev pub steps_to : ℕ → ℕ → ℕ
-steps_to start end = (end - start) / step + min 1 ((end - start) % step)
 
 -- after n samples at which an interrupt of this level is asked for
 unfoldable pub begun_after : ℕ → List ℕ → State68 → ℕ → State68

@@ -1,5 +1,6 @@
 //! A sample of the interrupt level: what the 68000 finds there, and the event that follows.
 ghost use Rattle.std.specs.Prelude.{◌≡◌, ◌+◌, ◌*◌, ◌<◌, ◌≤◌, ℕ, List, []};
+ghost use Rattle.md_word.specs.Clock as clock;
 ghost use Rattle.md_word.specs.Clock.{cycle_limit};
 ghost use Rattle.m68k_exec.specs.Sample.Caches.{IsCacheOf};
 ghost use Rattle.m68k_chip.specs.Cases as cases;
@@ -46,9 +47,9 @@ impl Sequencer {
     pub fn rest_ahead(&mut self, end: u64) -> u64
         requires start { self.old.start < cycle_limit }
         requires end { end ≤ cycle_limit }
-        ensures samples { result ≡ 1 + events.steps_to (self.old.start + events.step) end }
+        ensures samples { result ≡ 1 + clock.gaps_to events.step (self.old.start + events.step) end }
         ensures state { (ram : List ℕ) → state_of self.new ram ≡ events.at_sample (state_of self.old ram)
-            (self.old.start + events.step + events.step * events.steps_to (self.old.start + events.step) end) }
+            (self.old.start + events.step + events.step * clock.gaps_to events.step (self.old.start + events.step) end) }
     {
         let first = self.start + STEP;
         let steps = end.saturating_sub(first).div_ceil(STEP);

@@ -1,6 +1,6 @@
 -- The clocks of the machine, in cycles of the master clock of 53,693,175 Hz.
 -- Genesis Technical Overview; the batch, the last cycle and the cycle limit are this project's profile.
-use Rattle.std.specs.Prelude.{ℕ, ◌^◌}
+use Rattle.std.specs.Prelude.{ℕ, ◌+◌, ◌-◌, ◌/◌, ◌%◌, ◌^◌, min}
 
 -- a clock of the 68000
 abbrev pub main_clock : ℕ
@@ -45,3 +45,7 @@ main_gap = 28
 -- the least number of cycles between two events of the Z80: an access takes three of its clocks
 abbrev pub sub_gap : ℕ
 sub_gap = 45
+
+-- how many gaps lead from a cycle to the first one that is not before another
+abbrev pub gaps_to : ℕ → ℕ → ℕ → ℕ
+gaps_to gap start end = (end - start) / gap + min 1 ((end - start) % gap)

@@ -31,7 +31,7 @@ pub use pins::{Pins68, Pins80};
 pub use regs::{Regs, SUPERVISOR, TRACE};
 pub use size::{Size, extend};
 pub use spent::Spent;
-pub use sub_bus::{Answer80, Parcel, Request80};
+pub use sub_bus::{Answer80, Parcel, Request80, SUB_RAM_SIZE};
 pub use task::Task;
 pub use task80::Task80;
 pub use unspell::{NoMemory, Unspell};

@@ -1,10 +1,13 @@
 ghost use Rattle.std.specs.Prelude.{◌<◌};
 
+/// How many bytes the Z80's RAM has. Source: Genesis Technical Overview, the memory map of the Z80.
+pub const SUB_RAM_SIZE: usize = 8_192;
+
 /// What moves between the Z80 and the bus when the bus is granted: each memory has one owner.
 #[derive(Drop)]
 pub struct Parcel {
     /// The 8 KiB of RAM.
-    pub ram: Box<[u8; 8192]>,
+    pub ram: Box<[u8; SUB_RAM_SIZE]>,
     /// The bank register: the window shows the 32 KiB of the 68000's space from here times 8000h.
     pub bank: u16,
     pub ghost bank_in_range: { bank < 512 },

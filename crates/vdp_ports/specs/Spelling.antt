@@ -1,15 +1,15 @@
 -- The bytes of a saved state that keep the VDP. This project's profile.
-use Rattle.std.specs.Prelude.{◌≡◌, ℕ, ◌<◌, ◌≤◌, Bool, false, List}
+use Rattle.std.specs.Prelude.{◌≡◌, ℕ, ◌+◌, ◌*◌, ◌<◌, ◌≤◌, Bool, false, List}
 use Rattle.md_fields.specs.Fields.{spelling}
 use Rattle.md_fields.specs.Items.{IsRefused, IsRight, Keeps}
 use Rattle.vdp_ports.specs.Numbers.{numbers_of}
 use Rattle.vdp_ports.specs.Rules.{HasRules}
 use Rattle.vdp_ports.specs.Saved.{vdp_fields}
-use Rattle.vdp_ports.specs.Vdp.{Vdp}
+use Rattle.vdp_ports.specs.Vdp.{Vdp, vram_size}
 
--- how many bytes there are
+-- how many bytes there are: registers, VRAM, colours, vertical scroll values, and the numbers after them
 abbrev pub vdp_size : ℕ
-vdp_size = 65813
+vdp_size = 24 + vram_size + 2 * 64 + 2 * 40 + 45
 
 -- the bytes that keep a VDP; the rules, and so the cycle and the region, have no part in them
 abbrev pub vdp_bytes : Vdp → List ℕ

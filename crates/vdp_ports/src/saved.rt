@@ -16,13 +16,17 @@ use md_word::NoMemory;
 use std::alloc::Global;
 use std::marker::Model;
 
-/// How many bytes of a saved state keep a VDP.
-pub const VDP_SIZE: usize = 65_813;
-
-/// The offsets of VRAM and CRAM among them.
+/// The offsets of VRAM, CRAM, VSRAM and of the numbers after them among the bytes that keep a VDP.
 const VRAM: usize = 24;
 
 const CRAM: usize = VRAM + VRAM_SIZE;
+
+const VSRAM: usize = CRAM + 2 * 64;
+
+const NUMBERS: usize = VSRAM + 2 * 40;
+
+/// How many bytes of a saved state keep a VDP.
+pub const VDP_SIZE: usize = NUMBERS + 45;
 
 /// How many codes there are.
 const CODES: u8 = 64;
@@ -137,25 +141,25 @@ impl<'a> SavedVdp<'a> {
             registers: &bytes[..VRAM],
             vram: &bytes[VRAM..CRAM],
             cram: words_at(bytes, CRAM),
-            vsram: words_at(bytes, 65_688),
-            pending: u8_at(bytes, 65_768),
-            code: u8_at(bytes, 65_769),
-            a: u16_at(bytes, 65_770),
-            armed: u8_at(bytes, 65_772),
-            dma_kind: u8_at(bytes, 65_773),
-            byte: u8_at(bytes, 65_774),
-            source: u16_at(bytes, 65_775),
-            address: u16_at(bytes, 65_777),
-            left: u32_at(bytes, 65_779),
-            next_stamp: u64_at(bytes, 65_783),
-            vertical: u8_at(bytes, 65_791),
-            horizontal: u8_at(bytes, 65_792),
-            overflow: u8_at(bytes, 65_793),
-            collision: u8_at(bytes, 65_794),
-            line_counter: u8_at(bytes, 65_795),
-            int_from: u64_at(bytes, 65_796),
-            int_to: u64_at(bytes, 65_804),
-            tall: u8_at(bytes, 65_812),
+            vsram: words_at(bytes, VSRAM),
+            pending: u8_at(bytes, NUMBERS),
+            code: u8_at(bytes, NUMBERS + 1),
+            a: u16_at(bytes, NUMBERS + 2),
+            armed: u8_at(bytes, NUMBERS + 4),
+            dma_kind: u8_at(bytes, NUMBERS + 5),
+            byte: u8_at(bytes, NUMBERS + 6),
+            source: u16_at(bytes, NUMBERS + 7),
+            address: u16_at(bytes, NUMBERS + 9),
+            left: u32_at(bytes, NUMBERS + 11),
+            next_stamp: u64_at(bytes, NUMBERS + 15),
+            vertical: u8_at(bytes, NUMBERS + 23),
+            horizontal: u8_at(bytes, NUMBERS + 24),
+            overflow: u8_at(bytes, NUMBERS + 25),
+            collision: u8_at(bytes, NUMBERS + 26),
+            line_counter: u8_at(bytes, NUMBERS + 27),
+            int_from: u64_at(bytes, NUMBERS + 28),
+            int_to: u64_at(bytes, NUMBERS + 36),
+            tall: u8_at(bytes, NUMBERS + 44),
         }
     }
 
@@ -192,7 +196,7 @@ impl<'a> SavedVdp<'a> {
     }
 
     /// The numbers that the bytes keep, where the rules hold of them. The error is the offset of the first
-    /// field whose rule fails, or the lesser of the number of bytes and 65,813 where it is not 65,813.
+    /// field whose rule fails, or the lesser of the number of bytes and `VDP_SIZE` where they differ.
     pub fn checked(bytes: &'a [u8], at: u64, pal: bool) -> Result<SavedVdp<'a>, usize>
         ensures found { IfOk result (λ n. Keeps (vdp_fields at pal) bytes.now n × IsRight (vdp_fields at pal) n) }
         ensures refused { IfErr result (λ place. IsRefused vdp_size (vdp_fields at pal) bytes.now place) }

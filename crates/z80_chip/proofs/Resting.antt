@@ -1,11 +1,12 @@
 -- A Z80 that rests: it has no RAM, or its reset is held.
 use Rattle.std.proofs.Common.{◌≡◌, ℕ, zero, suc, ◌+◌, ◌-◌, ◌*◌, ◌<◌, ◌≤◌, Bool, true, false, List, Option, is_some, refl, sym, ap, subst, ◌∙◌, arith, if◌then◌else◌}
 use Rattle.std.proofs.lemmas.Grind.{div_ceil_times}
+use Rattle.md_word.specs.Clock.{gaps_to}
 use Rattle.md_word.specs.declared.pins.Pins80.{Pins80}
 use Rattle.z80_exec.specs.Sample.Entries.{after_reset}
 use Rattle.z80_parcel.specs.Parcels.{Store}
 use Rattle.z80_chip.specs.Cases.{bus_case, case_of, is_interrupted, is_reset, is_rest, running_case, seen}
-use Rattle.z80_chip.specs.Events.{WentAhead, at_sample, begun, begun_after, begun_as, step, steps_to, waited}
+use Rattle.z80_chip.specs.Events.{WentAhead, at_sample, begun, begun_after, begun_as, step, waited}
 use Rattle.z80_chip.specs.Validity.{IsChip80}
 use Rattle.z80_chip.specs.States.{State80, is_sample, next_of}
 use Rattle.z80_chip.specs.declared.case.Case.{Case}
@@ -84,19 +85,19 @@ module _ (cart : List ℕ) (state : State80) (pins : Pins80) (rest : is_rest (ca
   first-start = ap (λ (x : State80). x.start) first
 
   -- a Z80 that rests went ahead to the first sample that is not below a cycle
-  pub rested-ahead : (end : ℕ) (begun' after : State80) → begun' ≡ begun cart state pins → after ≡ waited begun' (step * steps_to begun'.start end) → (n : ℕ) → n ≡ steps_to begun'.start end → WentAhead (1 + n) end cart pins state after
-  rested-ahead end begun' after first-is is n same = subst (λ m. WentAhead m end cart pins state after) (let e = same ∙ ap (λ (x : State80). steps_to x.start end) (first-is ∙ first) in omega (arith, e)) (record {
+  pub rested-ahead : (end : ℕ) (begun' after : State80) → begun' ≡ begun cart state pins → after ≡ waited begun' (step * gaps_to step begun'.start end) → (n : ℕ) → n ≡ gaps_to step begun'.start end → WentAhead (1 + n) end cart pins state after
+  rested-ahead end begun' after first-is is n same = subst (λ m. WentAhead m end cart pins state after) (let e = same ∙ ap (λ (x : State80). gaps_to step x.start end) (first-is ∙ first) in omega (arith, e)) (record {
     some = omega arith;
     sample = sample;
     below = below;
-    is = is ∙ ap (λ (x : State80). waited x (step * steps_to x.start end)) (first-is ∙ first) ∙ ap (at_sample reset) (omega arith) ∙ sym (all-rest count);
+    is = is ∙ ap (λ (x : State80). waited x (step * gaps_to step x.start end)) (first-is ∙ first) ∙ ap (at_sample reset) (omega arith) ∙ sym (all-rest count);
   })
     where
       start : ℕ
       start = state.start + step
 
       count : ℕ
-      count = steps_to start end
+      count = gaps_to step start end
 
       sample : (k : ℕ) → 1 ≤ k → k < suc count → (begun_after k cart state pins).stage ≡ Sample
       sample zero some most = absurd (omega arith)
@@ -108,10 +109,6 @@ module _ (cart : List ℕ) (state : State80) (pins : Pins80) (rest : is_rest (ca
       below : (k : ℕ) → 1 ≤ k → k < suc count → (begun_after k cart state pins).next < end
       below zero some most = absurd (omega arith)
       below (suc k) some most = subst (λ (x : State80). x.next < end) (sym (all-rest k)) (low k (omega arith))
-
--- no step to a cycle falls short of it
-pub rested-late : (end start next : ℕ) → next ≡ start + step * steps_to start end → end ≤ next
-rested-late end start next is = let most = (div_ceil_times (end - start) step (omega arith)).0 in omega (arith, is, most)
 
 -- one sample alone
 pub one-ahead : (cart : List ℕ) (state : State80) (pins : Pins80) (end : ℕ) (after : State80) → after ≡ begun cart state pins → WentAhead 1 end cart pins state after

@@ -1,6 +1,6 @@
 -- What an event of the Z80 leaves, and what it asks for. Cycles are master cycles, of which a clock
 -- has 15. Zilog UM0080, "CPU Timing"; the places of events are this project's profile.
-use Rattle.std.specs.Prelude.{◌≡◌, IsSome, ℕ, zero, suc, ◌+◌, ◌-◌, ◌*◌, ◌/◌, ◌%◌, ◌<◌, ◌≤◌, min, List, [], ◌∷◌, ◌++◌, length, Option, Some, None, option_map, unwrap_or, Result, Ok, Err}
+use Rattle.std.specs.Prelude.{◌≡◌, IsSome, ℕ, zero, suc, ◌+◌, ◌-◌, ◌*◌, ◌<◌, ◌≤◌, List, [], ◌∷◌, ◌++◌, length, Option, Some, None, option_map, unwrap_or, Result, Ok, Err}
 use Rattle.md_word.specs.Clock.{sub_clock, sub_gap}
 use Rattle.md_word.specs.declared.pins.Pins80.{Pins80}
 use Rattle.md_word.specs.declared.sub_bus.Request80.{Request80}
@@ -96,10 +96,6 @@ begun_as cases.Instruction cart state = went_on cart state 0
 -- after a sample of these pins
 unfoldable pub begun : List ℕ → State80 → Pins80 → State80
 begun cart state pins = begun_as (case_of (seen state pins) pins) cart (seen state pins)
-
--- how many steps lead from a cycle to the first one that is not before another
-abbrev pub steps_to : ℕ → ℕ → ℕ
-steps_to start end = (end - start) / step + min 1 ((end - start) % step)
 
 -- after n samples of the same pins
 unfoldable pub begun_after : ℕ → List ℕ → State80 → Pins80 → State80

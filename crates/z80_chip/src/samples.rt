@@ -1,5 +1,6 @@
 //! A sample of the pins: what the Z80 finds there, and the event that follows.
 ghost use Rattle.std.specs.Prelude.{◌≡◌, ◌+◌, ◌*◌, ◌^◌, ◌<◌, ◌≤◌, ℕ, List, [], IfSome, IsSome, true, Option, Some, None, is_some};
+ghost use Rattle.md_word.specs.Clock as clock;
 ghost use Rattle.md_word.specs.Clock.{cycle_limit};
 ghost use Rattle.md_word.specs.declared.sub_bus.Parcel.{Parcel as Held};
 ghost use Rattle.z80_chip.specs.Cases as cases;
@@ -101,11 +102,11 @@ impl Sequencer {
     fn rest_to(&mut self, end: u64) -> u64
         requires start { self.old.start < cycle_limit + 2 ^ 6 }
         requires end { end ≤ cycle_limit }
-        ensures steps { result ≡ events.steps_to self.old.start end }
+        ensures steps { result ≡ clock.gaps_to events.step self.old.start end }
         ensures few { result ≤ cycle_limit }
         ensures stage { self.new.stage ≡ stages.Sample }
         ensures state { (parcel : Option Held) → state_of self.new parcel
-            ≡ events.waited (state_of self.old parcel) (events.step * events.steps_to self.old.start end) }
+            ≡ events.waited (state_of self.old parcel) (events.step * clock.gaps_to events.step self.old.start end) }
     {
         let steps = end.saturating_sub(self.start).div_ceil(STEP);
         self.wait(STEP * steps);

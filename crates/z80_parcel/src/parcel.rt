@@ -2,11 +2,11 @@ ghost use Rattle.std.specs.Prelude.{◌≡◌, ◌<◌, replicate, IfOk, slice_i
 ghost use Rattle.z80_parcel.specs.Parcels as parcels;
 ghost use Rattle.z80_parcel.specs.Parcels.{IsStore, store_of};
 
-use md_word::{NoMemory, Parcel};
+use md_word::{NoMemory, Parcel, SUB_RAM_SIZE};
 use std::alloc::Global;
 
 /// How many bytes the Z80's RAM has.
-pub const RAM_SIZE: usize = 8_192;
+pub const RAM_SIZE: usize = SUB_RAM_SIZE;
 
 /// The first address of the Z80 after its RAM, which is repeated up to it. Source: Genesis Technical
 /// Overview, the memory map of the Z80; the repeats are this project's profile.
