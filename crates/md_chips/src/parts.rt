@@ -81,7 +81,7 @@ fn sound_chips(
     Ok(SoundChips { fm, psg })
 }
 
-/// The five chips of these parts.
+/// The five chips of these parts. The only error is out of memory.
 pub fn chips_of(
     alloc: Global,
     at: u64,
@@ -115,7 +115,7 @@ pub fn first_batch(at: u64) -> u64
     BATCH * (at.saturating_sub(1) / BATCH + 1)
 }
 
-/// The bound of each chip: the key of its next event.
+/// The bound of each chip: the key of its next event. The only error is out of memory.
 pub fn bounds_of(alloc: Global, chips: &[Chip]) -> Result<Vec<Key>, NoMemory>
     requires { length chips.now ≡ 5 }
     ensures bounds { IfOk result (λ bounds. bounds.items ≡ assembly.bounds_of chips.now) }

@@ -26,7 +26,7 @@ use rom_header::Cart;
 use save_state::laws::kept;
 use std::alloc::Global;
 
-/// The machine with the demonstration cartridge that the words ask for, at power-on.
+/// The machine with the demonstration cartridge that the words ask for, at power-on. The only error is out of memory.
 pub fn demo_machine(alloc: Global, demo: &DemoWords) -> Result<Machine, NoMemory>
     ensures start { IfOk result (λ machine. start_at machine ≡ demo_start (shown_demo demo.now)) }
     ensures fresh { IfOk result IsFresh }

@@ -11,7 +11,8 @@ use md_args::{Output, RunWords};
 use md_outer::{Begin, Depot, Failed};
 use std::alloc::Global;
 
-/// Begins each output that is asked for.
+/// Begins each output that is asked for. The error names the first that could not be begun, or is out of memory;
+/// those before it are begun, and empty.
 pub fn begin_all<D: Depot>(
     alloc: Global,
     run: &RunWords<'_>,

@@ -13,7 +13,7 @@ use rom_header::Cart;
 use std::alloc::Global;
 use std::sync::Arc;
 
-/// The machine of these inputs at power-on.
+/// The machine of these inputs at power-on. The only error is out of memory.
 pub fn power_on(alloc: Global, inputs: Inputs) -> Result<Machine, NoMemory>
     requires { All IsFrame inputs.recording.frames }
     ensures start { IfOk result (λ machine. start_at machine ≡ powered_on inputs) }
@@ -26,7 +26,7 @@ pub fn power_on(alloc: Global, inputs: Inputs) -> Result<Machine, NoMemory>
     Machine::power_on(alloc, cart, recording, pal)
 }
 
-/// The inputs, each to be held by several owners.
+/// The inputs, each to be held by several owners. The only error is out of memory.
 pub fn shared(alloc: Global, inputs: Inputs) -> Result<(Arc<Cart>, Arc<Recording>), NoMemory>
     ensures { IfOk result (λ both. record { cart = arc_value both.0; recording = arc_value both.1; pal = inputs.pal } ≡ inputs) }
 {
