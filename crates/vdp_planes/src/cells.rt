@@ -2,8 +2,29 @@ ghost use Rattle.std.specs.Prelude.{◌≡◌, ℕ, ◌/◌, ◌%◌, ◌*◌, �
 ghost use Rattle.md_word.specs.Region.{picture_width};
 ghost use Rattle.vdp_planes.specs.View.{IsFilled, clear, has_bit, seen};
 ghost use Rattle.vdp_planes.specs.Planes.{pattern_index, pixel_dot, pixel_of, run_dot, turned};
+ghost use Rattle.vdp_planes.specs.Rows.{AreWords, IsCellRow, KeepsRow};
 
 use crate::view::{Dot, Dots, Scene};
+
+/// A row of a cell, ready to be drawn: neighbours often have the same name, and then it is made once.
+#[derive(Clone, Copy)]
+pub struct CellRow {
+    /// The name, 65,536 where there is no row yet.
+    pub(crate) name: u32,
+    /// The pixels as the digits of a number, the left one the highest.
+    pub(crate) pixels: u32,
+    /// The words of the left four dots, the left one lowest, and of the right four.
+    pub(crate) left: u64,
+    pub(crate) right: u64,
+}
+
+/// No row yet.
+pub const NO_ROW: CellRow = CellRow {
+    name: 65_536,
+    pixels: 0,
+    left: 0,
+    right: 0,
+};
 
 /// Moves a number of 16 bits to four places, 20 bits apart.
 const FOUR_APART: u64 = 0x1000_0100_0010_0001;
@@ -130,7 +151,7 @@ fn put_four(name: u32, pixels: u32, words: u64, column: u32, from: u32, out: &mu
     requires column { column ≤ 4 }
     requires within { from + 8 ≤ picture_width }
     requires whole { length out.old ≡ picture_width }
-    requires words { (c : ℕ) → c < 4 → words / 2 ^ (16 * c) % 65536 ≡ name / 32768 % 2 * 256 + name / 8192 % 4 * 16 + pixel_of pixels (column + c) }
+    requires words { AreWords name pixels column words }
     ensures { IsFilled clear (from + column) (from + column + 4) out.old out.new (pixel_dot name pixels 0 from) }
 {
     // no loop, so that the compiler stores the four at once
@@ -141,33 +162,77 @@ fn put_four(name: u32, pixels: u32, words: u64, column: u32, from: u32, out: &mu
     out[at + 3] = Dot::of_word((words / 281_474_976_710_656 % 65_536) as u16);
 }
 
-/// Draws the eight dots of a cell's row, four at once.
+/// A row of this name with these pixels.
 #[inline(always)]
-fn whole_run(name: u32, pixels: u32, from: u32, out: &mut Dots)
-    requires name { name < 2 ^ 16 }
-    requires within { from + 8 ≤ picture_width }
-    requires whole { length out.old ≡ picture_width }
-    ensures { IsFilled clear from (from + 8) out.old out.new (pixel_dot name pixels 0 from) }
+fn row_with(name: u32, pixels: u32) -> CellRow
+    requires { name < 2 ^ 16 }
+    ensures name { result.name ≡ name }
+    ensures pixels { result.pixels ≡ pixels }
+    ensures left { AreWords name pixels 0 result.left }
+    ensures right { AreWords name pixels 4 result.right }
 {
     let base = base(name);
-    let left = four_words(pixels / 65_536, base);
-    let right = four_words(pixels % 65_536, base);
-    put_four(name, pixels, left, 0, from, out);
-    put_four(name, pixels, right, 4, from, out);
+    CellRow {
+        name,
+        pixels,
+        left: four_words(pixels / 65_536, base),
+        right: four_words(pixels % 65_536, base),
+    }
 }
 
-/// Draws the eight dots of a row of the cell of this name.
+/// A row of the cell of this name.
 #[inline(always)]
-pub fn cell_row(scene: &Scene, name: u32, row: u32, from: u32, out: &mut Dots)
+fn row_of(scene: &Scene, name: u32, row: u32) -> CellRow
+    requires name { name < 2 ^ 16 }
+    requires row { row < 8 }
+    ensures name { result.name ≡ name }
+    ensures row { IsCellRow (seen scene.now) row result }
+{
+    let line = turned(name / 4096 % 2 == 1, row);
+    let pixels = row_pixels(scene, name % 2048, line, name / 2048 % 2 == 1);
+    row_with(name, pixels)
+}
+
+/// Makes the row that of the cell of this name, unless it is.
+#[inline(always)]
+fn turn_to(scene: &Scene, name: u32, row: u32, kept: &mut CellRow)
+    requires name { name < 2 ^ 16 }
+    requires row { row < 8 }
+    requires kept { KeepsRow (seen scene.now) row kept.old }
+    ensures name { kept.new.name ≡ name }
+    ensures row { IsCellRow (seen scene.now) row kept.new }
+{
+    if kept.name != name {
+        *kept = row_of(scene, name, row);
+    }
+}
+
+/// Draws the eight dots of a row.
+#[inline(always)]
+fn put_row(row: &CellRow, from: u32, out: &mut Dots)
+    requires left { AreWords row.now.name row.now.pixels 0 row.now.left }
+    requires right { AreWords row.now.name row.now.pixels 4 row.now.right }
+    requires within { from + 8 ≤ picture_width }
+    requires whole { length out.old ≡ picture_width }
+    ensures { IsFilled clear from (from + 8) out.old out.new (pixel_dot row.now.name row.now.pixels 0 from) }
+{
+    put_four(row.name, row.pixels, row.left, 0, from, out);
+    put_four(row.name, row.pixels, row.right, 4, from, out);
+}
+
+/// Draws the eight dots of a row of the cell of this name, and keeps the row.
+#[inline(always)]
+pub fn cell_row(scene: &Scene, name: u32, row: u32, from: u32, kept: &mut CellRow, out: &mut Dots)
     requires name { name < 2 ^ 16 }
     requires row { row < 8 }
     requires within { from + 8 ≤ picture_width }
     requires whole { length out.old ≡ picture_width }
-    ensures { IsFilled clear from (from + 8) out.old out.new (run_dot (seen scene.now) name 0 row from) }
+    requires kept { KeepsRow (seen scene.now) row kept.old }
+    ensures drawn { IsFilled clear from (from + 8) out.old out.new (run_dot (seen scene.now) name 0 row from) }
+    ensures kept { KeepsRow (seen scene.now) row kept.new }
 {
-    let line = turned(name / 4096 % 2 == 1, row);
-    let pixels = row_pixels(scene, name % 2048, line, name / 2048 % 2 == 1);
-    whole_run(name, pixels, from, out);
+    turn_to(scene, name, row, kept);
+    put_row(kept, from, out);
 }
 
 /// Draws the dots of a row of the cell of this name, the one in `column` at `from`, up to `to`.
@@ -184,7 +249,7 @@ pub fn cell_run(scene: &Scene, name: u32, column: u32, row: u32, from: u32, to: 
     let pixels = row_pixels(scene, name % 2048, line, name / 2048 % 2 == 1);
     // a whole cell apart: its number of dots is known to the compiler
     if to == from + 8 {
-        whole_run(name, pixels, from, out);
+        put_row(&row_with(name, pixels), from, out);
     } else {
         pixel_run(name, pixels, column, from, to, out);
     }

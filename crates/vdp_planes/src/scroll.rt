@@ -2,9 +2,10 @@ ghost use Rattle.std.specs.Prelude.{◌≡◌, ℕ, ◌+◌, ◌-◌, ◌/◌, �
 ghost use Rattle.md_word.specs.Region.{picture_width};
 ghost use Rattle.vdp_planes.specs.View.{IsFilled, clear, has_bit, register, seen};
 ghost use Rattle.vdp_planes.specs.Planes.{down, name_place, plane_number, point_y, scroll_place, scrolled_dot};
+ghost use Rattle.vdp_planes.specs.Rows.{KeepsRow};
 ghost use Rattle.vdp_planes.specs.Scrolls.{IsScroll};
 
-use crate::cells::{cell_row, cell_run};
+use crate::cells::{CellRow, NO_ROW, cell_row, cell_run};
 use crate::fields::{cells, even_word, word, wrapped};
 use crate::register::{MODE_3, PLANE_A, PLANE_B, PLANE_SIZE, SCROLLS};
 use crate::view::{Dots, Scene};
@@ -139,19 +140,21 @@ fn scrolled_cell(scene: &Scene, scroll: &Scroll, py: u32, x: u32, to: u32, out: 
 /// Draws the eight dots of a cell that begins at `x`. `py` is the point of the plane down, the same for all.
 #[inline(always)]
 #[tactic(auto, unfolding(crate::specs::Planes::name_place, crate::specs::Planes::point_x))]
-fn whole_cell(scene: &Scene, scroll: &Scroll, py: u32, x: u32, out: &mut Dots)
+fn whole_cell(scene: &Scene, scroll: &Scroll, py: u32, x: u32, kept: &mut CellRow, out: &mut Dots)
     requires scroll { IsScroll (seen scene.now) scroll.now }
     requires within { x + 8 ≤ picture_width }
     requires whole { length out.old ≡ picture_width }
     requires tall { py < 1024 }
     requires begins { (x + scroll.now.shift) % 8 ≡ 0 }
     requires down { (i : ℕ) → x ≤ i → i < x + 8 → py ≡ point_y (seen scene.now) scroll.now.second scroll.now.y i }
-    ensures { IsFilled clear x (x + 8) out.old out.new (scrolled_dot (seen scene.now) scroll.now.second scroll.now.y) }
+    requires kept { KeepsRow (seen scene.now) (py % 8) kept.old }
+    ensures drawn { IsFilled clear x (x + 8) out.old out.new (scrolled_dot (seen scene.now) scroll.now.second scroll.now.y) }
+    ensures kept { KeepsRow (seen scene.now) (py % 8) kept.new }
 {
     let px = wrapped(x + scroll.shift, scroll.across);
     let index = (py / 8 * cells(scroll.across) + px / 8) % 4096;
     let name = even_word(scene, scroll.base / 2 + index);
-    cell_row(scene, name, py % 8, x, out);
+    cell_row(scene, name, py % 8, x, kept, out);
 }
 
 /// Draws the dots of the plane from one place to another, all with one vertical scroll: cells that begin
@@ -168,8 +171,9 @@ fn draw_column(scene: &Scene, scroll: &Scroll, from: u32, to: u32, out: &mut Dot
 {
     let py = wrapped(scroll.y + down(scene, scroll, from), scroll.down);
     let mut x = scrolled_cell(scene, scroll, py, from, to, out);
+    let mut kept = NO_ROW;
     while x + 8 <= to {
-        whole_cell(scene, scroll, py, x, out);
+        whole_cell(scene, scroll, py, x, &mut kept, out);
         x += 8;
     }
     if x < to {

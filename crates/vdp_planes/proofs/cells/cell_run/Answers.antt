@@ -9,7 +9,7 @@ returns-then-to-from c =
     let end : c.args.to ≡ c.args.from + 8 = c.if-to-from.true in
     rw (first, end)
     (pixels_drawn (seen c.args.scene.now) c.args.name c.row_pixels-pixels.result 0 c.args.row c.args.from (c.args.from + 8) _ _ (omega arith)
-    (rw c.turned-line.ensures.value at c.row_pixels-pixels.ensures) c.whole_run.ensures)
+    (rw c.turned-line.ensures.value at c.row_pixels-pixels.ensures) (rw (c.row_with.ensures.name, c.row_with.ensures.pixels) at c.put_row.ensures))
 
 pub returns-else-to-from : goal.returns-else-to-from
 returns-else-to-from c =
