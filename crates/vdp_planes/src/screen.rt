@@ -53,7 +53,9 @@ fn fill_row(scene: &Scene, rgb: &mut [u8])
     }
 }
 
-/// The bytes of sixteen dots of one colour.
+/// The bytes of sixteen dots of one colour, in a call of its own: they are then copied as they lie in memory, where the
+/// compiler would else store each byte of the line by itself.
+#[inline(never)]
 fn sixteen_dots(colour: &Rgb) -> [u8; 48]
     ensures whole { length result ≡ 48 }
     ensures value { (n : ℕ) → n < 48 → slice_index result n ≡ part colour.now (n % 3) }
