@@ -93,7 +93,7 @@ impl Sequencer {
             Case::Suspended | Case::InReset => self.wait(STEP),
             Case::Interrupt => self.carry_out(1, cart, parcel, cache, progress),
             Case::Halted => self.wait(FIRST_STEP),
-            Case::Instruction => self.carry_out(0, cart, parcel, cache, progress),
+            Case::Instruction => self.begin_instruction(cart, parcel, cache, progress),
         }
     }
 

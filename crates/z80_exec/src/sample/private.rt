@@ -1,0 +1,111 @@
+//! Instructions that make no shared access, carried out at once.
+ghost use Rattle.std.specs.Prelude.{◌≡◌, ◌<◌, ◌≤◌, ℕ, false, true, IfSome};
+ghost use Rattle.z80_parcel.specs.Parcels.{Store, store_of};
+ghost use Rattle.z80_exec.specs.Access.Actions as actions;
+ghost use Rattle.z80_exec.specs.Access.Operands as operands;
+ghost use Rattle.z80_exec.specs.Rows.Arithmetic as arithmetic;
+ghost use Rattle.z80_exec.specs.Rows.Calls as calls;
+ghost use Rattle.z80_exec.specs.Rows.Loads as loads;
+ghost use Rattle.z80_exec.specs.Sample.Execution as execution;
+ghost use Rattle.z80_exec.specs.Sample.Private.{CarriesOut, ChangesRegisters, Finds, FindsPopped, Puts, RunsPrivately, Writes};
+ghost use Rattle.z80_exec.specs.Sample.Samples as samples;
+ghost use Rattle.z80_exec.specs.Sample.Times as times;
+
+use super::cache::{CachedInstruction, DecodeCache80};
+use super::step::Finish80;
+use super::{fetch, finish_of};
+use crate::Regs80;
+use crate::access::memory::{LAST_FOUR, ram_bytes};
+use crate::rows::control::{accumulator, disable, enable};
+use crate::rows::exchanges::{exchange_af, exchange_all, exchange_de_hl};
+use crate::rows::jumps::{
+    decrement_and_jump, jump, jump_if, jump_index, jump_relative, jump_relative_if,
+};
+use crate::rows::pairs::{add_pair, decrement_pair, increment_pair};
+use md_word::Parcel;
+use z80_decode::Op80;
+
+/// Carries out an instruction that works on the registers alone, or answers None. On entry the program
+/// counter is after it. Answers whether it took the longer of two times.
+#[inline(always)]
+fn change_registers(op: Op80, regs: &mut Regs80) -> Option<bool>
+    ensures { ChangesRegisters result (execution.row op regs.old) regs.old regs.new }
+{
+    match op {
+        Op80::LoadPair(pair, value) => regs.set_pair(pair, value),
+        Op80::ExchangeDeHl => exchange_de_hl(regs),
+        Op80::ExchangeAf => exchange_af(regs),
+        Op80::ExchangeAll => exchange_all(regs),
+        Op80::Accumulator(task) => accumulator(task, regs),
+        Op80::Nop => {}
+        Op80::DisableInterrupts => disable(regs),
+        Op80::EnableInterrupts => enable(regs),
+        Op80::AddPair(index, pair) => add_pair(index, pair, regs),
+        Op80::IncrementPair(pair) => increment_pair(pair, regs),
+        Op80::DecrementPair(pair) => decrement_pair(pair, regs),
+        Op80::Jump(target) => jump(target, regs),
+        Op80::JumpIf(condition, target) => return Some(jump_if(condition, target, regs)),
+        Op80::JumpRelative(distance) => jump_relative(distance, regs),
+        Op80::JumpRelativeIf(condition, distance) => {
+            return Some(jump_relative_if(condition, distance, regs));
+        }
+        Op80::JumpIndex(index) => jump_index(index, regs),
+        Op80::DecrementAndJump(distance) => return Some(decrement_and_jump(distance, regs)),
+        _ => return None,
+    }
+    Some(false)
+}
+
+/// Carries out an instruction that makes no shared access, or answers None. On entry the program counter
+/// is after it. Answers whether it took the longer of two times.
+#[inline(always)]
+fn execute(op: Op80, regs: &mut Regs80, parcel: &mut Parcel) -> Option<bool>
+    ensures { CarriesOut result (execution.row op regs.old) regs.old regs.new (store_of parcel.old) (store_of parcel.new) }
+{
+    match op {
+        _ => change_registers(op, regs),
+    }
+}
+
+/// The instruction that was decoded, if it makes no shared access; else nothing changes.
+#[inline(always)]
+fn run(found: &CachedInstruction, regs: &mut Regs80, parcel: &mut Parcel) -> Option<Finish80>
+    requires rise { found.now.rise ≤ 2 }
+    requires short { found.now.short ≡ times.time_of found.now.decoded.op false }
+    requires long { found.now.long ≡ times.time_of found.now.decoded.op true }
+    ensures { (first : ℕ) → found.now.rise ≡ samples.rise_of found.now.decoded.op first
+        → RunsPrivately result (samples.instruction found.now.decoded first regs.old) regs.old regs.new (store_of parcel.old) (store_of parcel.new) }
+{
+    let Regs80 { pc, r, .. } = *regs;
+    fetch(found, regs);
+    match execute(found.decoded.op, regs, parcel) {
+        Some(taken) => Some(finish_of(found, taken)),
+        None => {
+            regs.pc = pc;
+            regs.r = r;
+            None
+        }
+    }
+}
+
+/// Carries out the instruction at the program counter at once, where it lies in RAM, was decoded before
+/// and makes no shared access. Else it answers None, and nothing changes. `parcel` has RAM and the bank
+/// register.
+#[inline(always)]
+pub fn run_private(
+    regs: &mut Regs80,
+    parcel: &mut Parcel,
+    cache: &DecodeCache80,
+) -> Option<Finish80>
+    ensures value { RunsPrivately result (samples.sampled 0 regs.old) regs.old regs.new (store_of parcel.old) (store_of parcel.new) }
+    ensures few { IfSome result (λ finish. finish.t ≤ 23) }
+{
+    if regs.pc >= LAST_FOUR {
+        return None;
+    }
+    let bytes = ram_bytes(regs.pc, &parcel.ram);
+    match cache.find(regs.pc, &bytes) {
+        Some(found) => run(found, regs, parcel),
+        None => None,
+    }
+}
