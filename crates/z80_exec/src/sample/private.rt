@@ -1,15 +1,12 @@
 //! Instructions that make no shared access, carried out at once.
 ghost use Rattle.std.specs.Prelude.{◌≡◌, ◌<◌, ◌≤◌, ℕ, false, true, IfSome};
 ghost use Rattle.z80_parcel.specs.Parcels.{Store, store_of};
-ghost use Rattle.z80_exec.specs.Access.Actions as actions;
-ghost use Rattle.z80_exec.specs.Access.Operands as operands;
-ghost use Rattle.z80_exec.specs.Rows.Arithmetic as arithmetic;
-ghost use Rattle.z80_exec.specs.Rows.Calls as calls;
-ghost use Rattle.z80_exec.specs.Rows.Loads as loads;
 ghost use Rattle.z80_exec.specs.Sample.Execution as execution;
-ghost use Rattle.z80_exec.specs.Sample.Private.{CarriesOut, ChangesRegisters, Finds, FindsPopped, Puts, RunsPrivately, Writes};
+ghost use Rattle.z80_exec.specs.Sample.Private.{CarriesOut, ChangesRegisters, RunsPrivately};
 ghost use Rattle.z80_exec.specs.Sample.Samples as samples;
 ghost use Rattle.z80_exec.specs.Sample.Times as times;
+
+mod rows;
 
 use super::cache::{CachedInstruction, DecodeCache80};
 use super::step::Finish80;
@@ -23,6 +20,7 @@ use crate::rows::jumps::{
 };
 use crate::rows::pairs::{add_pair, decrement_pair, increment_pair};
 use md_word::Parcel;
+use rows::{call, change, load, operate, pop_pair, push_pair, return_from};
 use z80_decode::Op80;
 
 /// Carries out an instruction that works on the registers alone, or answers None. On entry the program
@@ -63,6 +61,14 @@ fn execute(op: Op80, regs: &mut Regs80, parcel: &mut Parcel) -> Option<bool>
     ensures { CarriesOut result (execution.row op regs.old) regs.old regs.new (store_of parcel.old) (store_of parcel.new) }
 {
     match op {
+        Op80::Load(target, source) => load(target, source, regs, parcel),
+        Op80::Arithmetic(task, place) => operate(task, place, regs, parcel),
+        Op80::Step(task, place) => change(task, place, regs, parcel),
+        Op80::Change(task, place) => change(task, place, regs, parcel),
+        Op80::Push(pair) => push_pair(pair, regs, parcel),
+        Op80::Pop(pair) => pop_pair(pair, regs, parcel),
+        Op80::Call(target) => call(target, regs, parcel),
+        Op80::Return => return_from(regs, parcel),
         _ => change_registers(op, regs),
     }
 }

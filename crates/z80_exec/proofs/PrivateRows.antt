@@ -1,0 +1,137 @@
+-- The rows of instructions that make no shared access: with operands in registers, in the instruction or in RAM.
+use Rattle.std.proofs.Common.{◌≡◌, ℕ, ◌+◌, ◌%◌, ◌<◌, ◌∙◌, Bool, true, false, List, [], ◌∷◌, Option, Some, None, Ok, refl, sym, ap, slice_index, arith}
+use Rattle.std.specs.Prelude.{IsTrue}
+use Rattle.std.proofs.lemmas.Bool.Decides.{nat_tests}
+use Rattle.md_word.specs.declared.task80.Task80.{Task80}
+use Rattle.z80_alu.specs.declared.out80.Out80.{Out80}
+use Rattle.z80_alu.specs.Tasks.{computed}
+use Rattle.z80_decode.specs.Fields.{word}
+use Rattle.z80_decode.specs.declared.pair.Pair.{Pair}
+use Rattle.z80_decode.specs.declared.place8.Place8.{Place8}
+use Rattle.z80_parcel.specs.Parcels.{Store, banked, stored, written}
+use Rattle.z80_exec.specs.Access.Actions as actions
+use Rattle.z80_exec.specs.Access.Memory.{Memory, is_ram, next, ram_place}
+use Rattle.z80_exec.specs.Access.Operands as operands
+use Rattle.z80_exec.specs.Access.Operands.{Popped}
+use Rattle.z80_exec.specs.Access.Outcomes.{Outcome, plain, taken}
+use Rattle.z80_exec.specs.Access.Parts as parts
+use Rattle.z80_exec.specs.Access.Parts.{a_of, down, f_of, with_af, with_f}
+use Rattle.z80_exec.specs.Rows.Arithmetic as arithmetic
+use Rattle.z80_exec.specs.Rows.Calls as calls
+use Rattle.z80_exec.specs.Rows.Loads as loads
+use Rattle.z80_exec.specs.Sample.Private.{Finds, IsPrivate, Puts, Reads, Writes}
+use Rattle.z80_exec.specs.Sample.Samples.{nothing}
+use Rattle.z80_exec.specs.declared.regs80.Regs80.{Regs80}
+use Rattle.z80_exec.proofs.Meaning.{pushed, ram_read, ram_write}
+use Rattle.z80_exec.proofs.Private.{done-nothing}
+
+inside : (at : ℕ) → at < 0x4000 → IsTrue (is_ram at)
+inside at low = grind (arith, nat_tests)
+
+-- ---- a byte
+
+pub reads-ram : (at value : ℕ) (store : Store) → at < 0x4000 → value ≡ slice_index store.ram (ram_place at) → Reads (actions.read at) value store
+reads-ram at value store low found memory same =
+    ram_read at memory nothing (inside at low) ∙ ap (λ (n : ℕ). Ok (n, nothing)) (ap (λ (l : List ℕ). slice_index l (ram_place at)) same ∙ sym found)
+
+pub stored-one : (at value : ℕ) (before after : Store) → after.ram ≡ stored before.ram (at, value) → after.bank ≡ banked before.bank (at, value) → after ≡ written ((at, value) ∷ []) before
+stored-one at value before after ram bank =
+    ap (λ (l : List ℕ). record { ram = l; bank = after.bank }) ram ∙ ap (λ (n : ℕ). record { ram = stored before.ram (at, value); bank = n }) bank
+
+pub writes-ram : (at value : ℕ) (before after : Store) → at < 0x4000 → after.ram ≡ stored before.ram (at, value) → after.bank ≡ banked before.bank (at, value) → IsPrivate (actions.write at value) tt before after
+writes-ram at value before after low ram bank = record {
+  writes = (at, value) ∷ [];
+  gives = λ memory same. ram_write at value memory nothing (inside at low);
+  left = stored-one at value before after ram bank;
+}
+
+-- ---- an operand
+
+pub finds-ram : (result : Option ℕ) (place : Place8) (at : ℕ) (regs : Regs80) (store : Store) → operands.address_of place regs ≡ Some at → Finds result (actions.read at) store → Finds result (operands.fetch place regs) store
+unfolding operands.fetch
+finds-ram (Some value) place at regs store e reads = λ memory same. rw e (reads memory same)
+finds-ram None place at regs store e reads = tt
+
+pub reads-register : (value : ℕ) (place : Place8) (regs : Regs80) (store : Store) → operands.address_of place regs ≡ None → value ≡ parts.byte_of place regs → Reads (operands.fetch place regs) value store
+unfolding operands.fetch
+reads-register value place regs store e is = λ memory same. rw (e, is) refl
+
+pub puts-ram : (result : Bool) (place : Place8) (at value : ℕ) (regs : Regs80) (before after : Store) → operands.address_of place regs ≡ Some at → Writes result (actions.write at value) before after → Puts result (operands.put place value regs) regs regs before after
+unfolding operands.put operands.put_memory
+puts-ram true place at value regs before after e write = record {
+  writes = write.writes;
+  gives = λ memory same. rw e (rw (write.gives memory same) refl);
+  left = write.left;
+}
+puts-ram false place at value regs before after e stays = (refl, stays)
+
+pub puts-register : (place : Place8) (value : ℕ) (regs new : Regs80) (store : Store) → operands.address_of place regs ≡ None → new ≡ parts.with_byte place value regs → IsPrivate (operands.put place value regs) new store store
+unfolding operands.put
+puts-register place value regs new store e is = done-nothing (operands.put place value regs) new store (λ memory same. rw (e, is) refl)
+
+-- ---- LD of 8 bits, operations of A, INC and DEC
+
+pub load-row : (target source : Place8) (value : ℕ) (regs new : Regs80) (before after : Store) → Reads (operands.fetch source regs) value before → IsPrivate (operands.put target value regs) new before after
+    → IsPrivate (loads.load target source regs) (plain new) before after
+unfolding loads.load
+load-row target source value regs new before after reads put = record {
+  writes = put.writes;
+  gives = λ memory same. rw (reads memory same) (rw (put.gives memory same) refl);
+  left = put.left;
+}
+
+-- what the operation gives, by what the code took
+comes-out : (task : Task80) (a value f : ℕ) (regs : Regs80) (out : Out80) → a ≡ a_of regs → f ≡ f_of regs → out ≡ computed task a value f → out ≡ computed task (a_of regs) value (f_of regs)
+comes-out task a value f regs out accumulator flags is = rw (sym accumulator, sym flags) is
+
+pub arithmetic-row : (task : Task80) (place : Place8) (a value f : ℕ) (regs new : Regs80) (out : Out80) (store : Store) → Reads (operands.fetch place regs) value store
+    → a ≡ a_of regs → f ≡ f_of regs → out ≡ computed task a value f → new ≡ with_af out.value out.f regs → IsPrivate (arithmetic.arithmetic task place regs) (plain new) store store
+unfolding arithmetic.arithmetic
+arithmetic-row task place a value f regs new out store reads accumulator flags is after =
+    let comes = comes-out task a value f regs out accumulator flags is in
+    done-nothing (arithmetic.arithmetic task place regs) (plain new) store (λ memory same. rw (reads memory same) (rw (after, comes) refl))
+
+pub change-row : (task : Task80) (place : Place8) (a value f : ℕ) (regs mid new : Regs80) (out : Out80) (before after : Store) → Reads (operands.fetch place regs) value before
+    → a ≡ a_of regs → f ≡ f_of regs → out ≡ computed task a value f → IsPrivate (operands.put place out.value regs) mid before after → new ≡ with_f out.f mid
+    → IsPrivate (arithmetic.change task place regs) (plain new) before after
+unfolding arithmetic.change
+change-row task place a value f regs mid new out before after reads accumulator flags is put left =
+    let comes = comes-out task a value f regs out accumulator flags is in
+    record {
+      writes = put.writes;
+      gives = λ memory same. rw (reads memory same, sym comes) (rw (put.gives memory same, left) refl);
+      left = put.left;
+    }
+
+-- ---- the stack
+
+pub pushes : (value upper lower : ℕ) (regs : Regs80) (before mid after : Store) → down regs.sp < 0x4000 → down (down regs.sp) < 0x4000 → upper ≡ parts.high value → lower ≡ parts.low value
+    → mid ≡ written ((down regs.sp, upper) ∷ []) before → after ≡ written ((down (down regs.sp), lower) ∷ []) mid
+    → IsPrivate (operands.push value regs) (record regs { sp = down (down regs.sp) }) before after
+pushes value upper lower regs before mid after above below high low first second = record {
+  writes = (down regs.sp, parts.high value) ∷ (down (down regs.sp), parts.low value) ∷ [];
+  gives = λ memory same. pushed value regs memory nothing (inside (down regs.sp) above) (inside (down (down regs.sp)) below);
+  left = second ∙ ap (λ (s : Store). written ((down (down regs.sp), lower) ∷ []) s) first ∙ rw (high, low) refl;
+}
+
+pub pops : (value low high : ℕ) (regs : Regs80) (store : Store) → Reads (actions.read regs.sp) low store → Reads (actions.read (next regs.sp)) high store → value ≡ word low high
+    → Reads (operands.pop regs) (record { value = value; regs = record regs { sp = (regs.sp + 2) % 0x1_0000 } }) store
+unfolding operands.pop actions.read_word
+pops value low high regs store first second is = λ memory same. rw (first memory same) (rw (second memory same, is) refl)
+
+pub push-row : (pair : Pair) (value : ℕ) (regs new : Regs80) (before after : Store) → value ≡ parts.pair_of pair regs → IsPrivate (operands.push value regs) new before after → IsPrivate (loads.push_pair pair regs) (plain new) before after
+unfolding loads.push_pair
+push-row pair value regs new before after is push = record { writes = push.writes; gives = λ memory same. rw (sym is) (rw (push.gives memory same) refl); left = push.left }
+
+pub pop-row : (pair : Pair) (value : ℕ) (regs mid new : Regs80) (store : Store) → Reads (operands.pop regs) (record { value = value; regs = mid }) store → new ≡ parts.with_pair pair value mid
+    → IsPrivate (loads.pop_pair pair regs) (plain new) store store
+unfolding loads.pop_pair
+pop-row pair value regs mid new store reads is = done-nothing (loads.pop_pair pair regs) (plain new) store (λ memory same. rw (reads memory same, is) refl)
+
+pub call-row : (target : ℕ) (regs mid : Regs80) (before after : Store) → IsPrivate (operands.push regs.pc regs) mid before after → IsPrivate (calls.call target regs) (taken (record mid { pc = target })) before after
+unfolding calls.call
+call-row target regs mid before after push = record { writes = push.writes; gives = λ memory same. rw (push.gives memory same) refl; left = push.left }
+
+pub return-row : (target : ℕ) (regs mid : Regs80) (store : Store) → Reads (operands.pop regs) (record { value = target; regs = mid }) store → IsPrivate (calls.return_from regs) (taken (record mid { pc = target })) store store
+unfolding calls.return_from
+return-row target regs mid store reads = done-nothing (calls.return_from regs) (taken (record mid { pc = target })) store (λ memory same. rw (reads memory same) refl)
