@@ -113,7 +113,8 @@ impl Sequencer {
         }
     }
 
-    /// Begins an instruction, where the Z80 has its RAM. One that makes no shared access ends at once.
+    /// Begins an instruction, where the Z80 has its RAM. One that makes no shared access ends at once,
+    /// and an LD to a shared address comes to its write at once.
     #[inline(never)]
     #[tactic(auto, unfolding(crate::specs::Events::went_on))]
     pub fn begin_instruction(
@@ -125,13 +126,17 @@ impl Sequencer {
     )
         requires start { self.old.start < cycle_limit }
         requires ram { IsSome parcel.old }
+        requires answers { self.old.answers.items ≡ [] }
         ensures state { state_of self.new parcel.new ≡ went_on cart.now (state_of self.old parcel.old) 0 }
         ensures waiting { WaitsFor self.new.stage cart.now (state_of self.new parcel.new) self.new.request }
         ensures predicted { IsPredicted self.new.stage cart.now (state_of self.new parcel.new) self.new.predicted }
     {
         if let Some(parcel) = parcel {
-            match run_private(&mut self.regs, parcel, cache) {
-                Some(finish) => self.finish(&finish),
+            match run_private(&mut self.regs, parcel, cache, &mut self.predicted) {
+                Some(step) => match step {
+                    Step80::Done(finish) => self.finish(&finish),
+                    Step80::Need(waiting) => self.ask(0, waiting),
+                },
                 None => self.go_on(0, cart, parcel, cache, progress),
             }
         }

@@ -23,6 +23,7 @@ impl Sequencer {
     fn see_reset(&mut self, pins: &Pins80)
         ensures state { (parcel : Option Held) → state_of self.new parcel ≡ cases.seen (state_of self.old parcel) pins.now }
         ensures start { self.new.start ≡ self.old.start }
+        ensures answers { self.new.answers ≡ self.old.answers }
     {
         if pins.reset || pins.resets != self.resets {
             self.regs.reset();

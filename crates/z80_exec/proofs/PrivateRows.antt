@@ -1,7 +1,8 @@
 -- The rows of instructions that make no shared access: with operands in registers, in the instruction or in RAM.
-use Rattle.std.proofs.Common.{◌≡◌, ℕ, ◌+◌, ◌%◌, ◌<◌, ◌∙◌, Bool, true, false, List, [], ◌∷◌, Option, Some, None, Ok, refl, sym, ap, slice_index, arith}
+use Rattle.std.proofs.Common.{◌≡◌, ℕ, ◌+◌, ◌%◌, ◌<◌, ◌∙◌, Bool, true, false, List, [], ◌∷◌, length, Option, Some, None, Ok, Err, refl, sym, ap, slice_index, arith}
 use Rattle.std.specs.Prelude.{IsTrue}
 use Rattle.std.proofs.lemmas.Bool.Decides.{nat_tests}
+use Rattle.md_word.specs.declared.sub_bus.Request80.TheVariants as requests
 use Rattle.md_word.specs.declared.task80.Task80.{Task80}
 use Rattle.z80_alu.specs.declared.out80.Out80.{Out80}
 use Rattle.z80_alu.specs.Tasks.{computed}
@@ -10,7 +11,7 @@ use Rattle.z80_decode.specs.declared.pair.Pair.{Pair}
 use Rattle.z80_decode.specs.declared.place8.Place8.{Place8}
 use Rattle.z80_parcel.specs.Parcels.{Store, banked, stored, written}
 use Rattle.z80_exec.specs.Access.Actions as actions
-use Rattle.z80_exec.specs.Access.Memory.{Memory, is_ram, next, ram_place}
+use Rattle.z80_exec.specs.Access.Memory.{Memory, is_ram, is_shared_write, next, ram_place}
 use Rattle.z80_exec.specs.Access.Operands as operands
 use Rattle.z80_exec.specs.Access.Operands.{Popped}
 use Rattle.z80_exec.specs.Access.Outcomes.{Outcome, plain, taken}
@@ -19,10 +20,13 @@ use Rattle.z80_exec.specs.Access.Parts.{a_of, down, f_of, with_af, with_f}
 use Rattle.z80_exec.specs.Rows.Arithmetic as arithmetic
 use Rattle.z80_exec.specs.Rows.Calls as calls
 use Rattle.z80_exec.specs.Rows.Loads as loads
-use Rattle.z80_exec.specs.Sample.Private.{Finds, IsPrivate, Puts, Reads, Writes}
+use Rattle.z80_exec.specs.Sample.Prediction.{all_answered, answered_with}
+use Rattle.z80_exec.specs.Sample.Private.{AsksOnce, Finds, IsPrivate, IsSharedAt, Puts, Reads, Writes}
 use Rattle.z80_exec.specs.Sample.Samples.{nothing}
+use Rattle.z80_exec.specs.declared.access.waiting.Waiting.TheVariants as waitings
 use Rattle.z80_exec.specs.declared.regs80.Regs80.{Regs80}
 use Rattle.z80_exec.proofs.Meaning.{pushed, ram_read, ram_write}
+use Rattle.z80_exec.proofs.Prediction.{load-following, write-following}
 use Rattle.z80_exec.proofs.Private.{done-nothing}
 
 inside : (at : ℕ) → at < 0x4000 → IsTrue (is_ram at)
@@ -78,6 +82,23 @@ load-row target source value regs new before after reads put = record {
   writes = put.writes;
   gives = λ memory same. rw (reads memory same) (rw (put.gives memory same) refl);
   left = put.left;
+}
+
+-- an LD to a shared address waits for its write
+asks-write : (at value : ℕ) (memory : Memory) → is_shared_write at ≡ true → memory.answers ≡ [] → actions.write at value memory nothing ≡ Err (requests.Write at value)
+unfolding actions.write actions.reported actions.asked
+asks-write at value memory shared none = rw (shared, none) refl
+
+puts-answered : (target : Place8) (at value : ℕ) (regs : Regs80) (memory : Memory) (answer : ℕ) → IsSharedAt target at regs → memory.answers ≡ [] → operands.put target value regs (answered_with answer memory) nothing ≡ Ok (regs, all_answered memory)
+unfolding operands.put operands.put_memory
+puts-answered target at value regs memory answer shared none =
+    rw (shared.0) (rw (write-following at value memory nothing (requests.Write at value) (asks-write at value memory shared.1 none) (sym (ap length none)) refl answer) refl)
+
+pub load-asks : (target source : Place8) (at value : ℕ) (regs : Regs80) (store : Store) → IsSharedAt target at regs → Reads (operands.fetch source regs) value store → AsksOnce (loads.load target source regs) (waitings.Write at value) regs store
+unfolding loads.load operands.put operands.put_memory
+load-asks target source at value regs store shared reads = record {
+  asks = λ memory same none. rw (reads memory same) (rw (shared.0) (rw (asks-write at value memory shared.1 none) refl));
+  ends = λ memory same none answer. load-following target source regs memory nothing value nothing answer (reads memory same) (omega arith) (puts-answered target at value regs memory answer shared none);
 }
 
 -- what the operation gives, by what the code took

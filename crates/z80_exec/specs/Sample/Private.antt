@@ -1,16 +1,22 @@
 -- Instructions that make no shared access: what they result in depends on the registers and on RAM alone.
 -- Zilog UM0080, "CPU Timing".
-use Rattle.std.specs.Prelude.{ℕ, ◌≡◌, Bool, true, false, List, Option, Some, None, Result, Ok}
+use Rattle.std.specs.Prelude.{ℕ, ◌≡◌, Bool, true, false, List, [], Option, Some, None, Result, Ok, Err}
 use Rattle.md_word.specs.Answers.{Done}
 use Rattle.md_word.specs.declared.sub_bus.Request80.{Request80}
+use Rattle.z80_decode.specs.declared.place8.Place8.{Place8}
 use Rattle.z80_parcel.specs.Parcels.{Store, written}
 use Rattle.z80_exec.specs.Access.Actions.{Act}
-use Rattle.z80_exec.specs.Access.Memory.{Memory}
-use Rattle.z80_exec.specs.Access.Operands.{Popped}
-use Rattle.z80_exec.specs.Access.Outcomes.{Outcome, outcome_of}
+use Rattle.z80_exec.specs.Access.Clauses.{request_of}
+use Rattle.z80_exec.specs.Access.Memory.{Memory, is_shared_write}
+use Rattle.z80_exec.specs.Access.Operands.{Popped, address_of}
+use Rattle.z80_exec.specs.Access.Outcomes.{Outcome, outcome_of, plain}
+use Rattle.z80_exec.specs.Sample.Prediction.{EndsPredicted, all_answered, answered_with}
 use Rattle.z80_exec.specs.Sample.Samples.{Ended, nothing, reported_by}
 use Rattle.z80_exec.specs.declared.regs80.Regs80.{Regs80}
+use Rattle.z80_exec.specs.declared.access.waiting.Waiting.{Waiting}
 use Rattle.z80_exec.specs.declared.sample.step.Finish80.{Finish80}
+use Rattle.z80_exec.specs.declared.sample.step.Predicted80.{Predicted80}
+use Rattle.z80_exec.specs.declared.sample.step.Step80.{Step80}
 use Rattle.z80_exec.specs.declared.sample.step.Step80.TheVariants as steps
 
 -- no answer is taken, and these bytes are written
@@ -63,7 +69,23 @@ pub record EndsPrivately (sample : Memory → Result Ended Request80) (finish : 
   pub ends : (memory : Memory) → memory.ram ≡ before.ram → sample memory ≡ reported_by (steps.Done finish) regs (wrote writes)
   pub left : after ≡ written writes before
 
--- a sample that was carried out at once; else all stays
-abbrev pub RunsPrivately : Option Finish80 → (Memory → Result Ended Request80) → Regs80 → Regs80 → Store → Store → Type 0
-RunsPrivately (Some finish) sample old new before after = EndsPrivately sample finish new before after
-RunsPrivately None sample old new before after = (new ≡ old) × (after ≡ before)
+-- a shared write goes to this address
+abbrev pub IsSharedAt : Place8 → ℕ → Regs80 → Type 0
+IsSharedAt place at regs = (address_of place regs ≡ Some at) × (is_shared_write at ≡ true)
+
+-- in each memory of this RAM an instruction waits for this access alone, and ends with these registers whatever
+-- it is answered
+pub record AsksOnce (act : Act Outcome) (waiting : Waiting) (regs : Regs80) (store : Store) : Type 0 where
+  pub asks : (memory : Memory) → memory.ram ≡ store.ram → memory.answers ≡ [] → act memory nothing ≡ Err (request_of waiting)
+  pub ends : (memory : Memory) → memory.ram ≡ store.ram → memory.answers ≡ [] → (value : ℕ) → act (answered_with value memory) nothing ≡ Ok (plain regs, all_answered memory)
+
+-- in each memory of this RAM a sample waits for this access alone, and results in what is predicted
+pub record WaitsPrivately (sample : Memory → Result Ended Request80) (waiting : Waiting) (predicted : Predicted80) (store : Store) : Type 0 where
+  pub asks : (memory : Memory) → memory.ram ≡ store.ram → memory.answers ≡ [] → sample memory ≡ Err (request_of waiting)
+  pub ends : (memory : Memory) → memory.ram ≡ store.ram → memory.answers ≡ [] → EndsPredicted (steps.Need waiting) predicted sample memory
+
+-- a sample that ended, or waits for its one access; else nothing is said of it. Where it did not end all stays
+abbrev pub RunsPrivately : Option Step80 → Predicted80 → (Memory → Result Ended Request80) → Regs80 → Regs80 → Store → Store → Type 0
+RunsPrivately (Some (steps.Done finish)) predicted sample old new before after = EndsPrivately sample finish new before after
+RunsPrivately (Some (steps.Need waiting)) predicted sample old new before after = WaitsPrivately sample waiting predicted before × (new ≡ old) × (after ≡ before)
+RunsPrivately None predicted sample old new before after = (new ≡ old) × (after ≡ before)

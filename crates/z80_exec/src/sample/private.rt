@@ -2,16 +2,15 @@
 ghost use Rattle.std.specs.Prelude.{◌≡◌, ◌<◌, ◌≤◌, ℕ, false, true, IfSome};
 ghost use Rattle.z80_parcel.specs.Parcels.{Store, store_of};
 ghost use Rattle.z80_exec.specs.Sample.Execution as execution;
-ghost use Rattle.z80_exec.specs.Sample.Private.{CarriesOut, ChangesRegisters, RunsPrivately};
+ghost use Rattle.z80_exec.specs.Sample.Private.{AsksOnce, CarriesOut, ChangesRegisters, RunsPrivately};
 ghost use Rattle.z80_exec.specs.Sample.Samples as samples;
+ghost use Rattle.z80_exec.specs.Sample.Samples.{CoversAccesses};
 ghost use Rattle.z80_exec.specs.Sample.Times as times;
 
 mod rows;
 
 use super::cache::{CachedInstruction, DecodeCache80};
-use super::step::Finish80;
 use super::{fetch, finish_of};
-use crate::Regs80;
 use crate::access::memory::{LAST_FOUR, ram_bytes};
 use crate::rows::control::{accumulator, disable, enable};
 use crate::rows::exchanges::{exchange_af, exchange_all, exchange_de_hl};
@@ -19,8 +18,9 @@ use crate::rows::jumps::{
     decrement_and_jump, jump, jump_if, jump_index, jump_relative, jump_relative_if,
 };
 use crate::rows::pairs::{add_pair, decrement_pair, increment_pair};
+use crate::{Predicted80, Regs80, Step80, Waiting};
 use md_word::Parcel;
-use rows::{call, change, load, operate, pop_pair, push_pair, return_from};
+use rows::{call, change, load, load_shared, operate, pop_pair, push_pair, return_from};
 use z80_decode::Op80;
 
 /// Carries out an instruction that works on the registers alone, or answers None. On entry the program
@@ -73,45 +73,85 @@ fn execute(op: Op80, regs: &mut Regs80, parcel: &mut Parcel) -> Option<bool>
     }
 }
 
-/// The instruction that was decoded, if it makes no shared access; else nothing changes.
+/// The shared write that an instruction waits for, where it is an LD of 8 bits whose value is at hand;
+/// else None. On entry the program counter is after it.
 #[inline(always)]
-fn run(found: &CachedInstruction, regs: &mut Regs80, parcel: &mut Parcel) -> Option<Finish80>
+fn waiting_write(op: Op80, regs: &Regs80, parcel: &Parcel) -> Option<Waiting>
+    ensures { IfSome result (λ waiting. AsksOnce (execution.row op regs.now) waiting regs.now (store_of parcel.now)) }
+{
+    match op {
+        Op80::Load(target, source) => load_shared(target, source, regs, parcel),
+        _ => None,
+    }
+}
+
+/// Keeps what an instruction results in that waits for its write: its shorter time, and the registers
+/// after its fetch.
+#[inline(always)]
+fn predict_fetched(found: &CachedInstruction, regs: &Regs80, predicted: &mut Predicted80)
+    requires short { found.now.short ≡ times.time_of found.now.decoded.op false }
+    requires long { found.now.long ≡ times.time_of found.now.decoded.op true }
+    ensures regs { predicted.new.regs ≡ regs.now }
+    ensures time { predicted.new.finish.t ≡ times.time_of found.now.decoded.op false }
+    ensures halted { predicted.new.finish.halted ≡ samples.halts found.now.decoded.op }
+    ensures after_ei { predicted.new.finish.after_ei ≡ samples.is_ei found.now.decoded.op }
+{
+    predicted.known = true;
+    predicted.regs = *regs;
+    predicted.finish = finish_of(found, false);
+}
+
+/// The instruction that was decoded, as far as it comes with RAM alone; else nothing changes.
+#[inline(always)]
+fn run(
+    found: &CachedInstruction,
+    regs: &mut Regs80,
+    parcel: &mut Parcel,
+    predicted: &mut Predicted80,
+) -> Option<Step80>
     requires rise { found.now.rise ≤ 2 }
     requires short { found.now.short ≡ times.time_of found.now.decoded.op false }
     requires long { found.now.long ≡ times.time_of found.now.decoded.op true }
     ensures { (first : ℕ) → found.now.rise ≡ samples.rise_of found.now.decoded.op first
-        → RunsPrivately result (samples.instruction found.now.decoded first regs.old) regs.old regs.new (store_of parcel.old) (store_of parcel.new) }
+        → RunsPrivately result predicted.new (samples.instruction found.now.decoded first regs.old) regs.old regs.new (store_of parcel.old) (store_of parcel.new) }
 {
     let Regs80 { pc, r, .. } = *regs;
     fetch(found, regs);
     match execute(found.decoded.op, regs, parcel) {
-        Some(taken) => Some(finish_of(found, taken)),
+        Some(taken) => Some(Step80::Done(finish_of(found, taken))),
         None => {
+            let write = waiting_write(found.decoded.op, regs, parcel);
+            predict_fetched(found, regs, predicted);
             regs.pc = pc;
             regs.r = r;
-            None
+            match write {
+                Some(waiting) => Some(Step80::Need(waiting)),
+                None => None,
+            }
         }
     }
 }
 
 /// Carries out the instruction at the program counter at once, where it lies in RAM, was decoded before
-/// and makes no shared access. Else it answers None, and nothing changes. `parcel` has RAM and the bank
-/// register.
+/// and makes no shared access, or comes to the write that an LD of 8 bits waits for, with what follows
+/// its answer in `predicted`. Else it answers None. Only where it ends do the registers and the parcel
+/// change, which has RAM and the bank register.
 #[inline(always)]
 pub fn run_private(
     regs: &mut Regs80,
     parcel: &mut Parcel,
     cache: &DecodeCache80,
-) -> Option<Finish80>
-    ensures value { RunsPrivately result (samples.sampled 0 regs.old) regs.old regs.new (store_of parcel.old) (store_of parcel.new) }
-    ensures few { IfSome result (λ finish. finish.t ≤ 23) }
+    predicted: &mut Predicted80,
+) -> Option<Step80>
+    ensures value { RunsPrivately result predicted.new (samples.sampled 0 regs.old) regs.old regs.new (store_of parcel.old) (store_of parcel.new) }
+    ensures covers { IfSome result (λ step. CoversAccesses step 0) }
 {
     if regs.pc >= LAST_FOUR {
         return None;
     }
     let bytes = ram_bytes(regs.pc, &parcel.ram);
     match cache.find(regs.pc, &bytes) {
-        Some(found) => run(found, regs, parcel),
+        Some(found) => run(found, regs, parcel, predicted),
         None => None,
     }
 }

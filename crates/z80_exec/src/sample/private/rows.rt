@@ -1,16 +1,17 @@
 //! The rows with operands in registers, in the instruction or in RAM.
-ghost use Rattle.std.specs.Prelude.{◌≡◌};
+ghost use Rattle.std.specs.Prelude.{◌≡◌, IfSome};
 ghost use Rattle.z80_parcel.specs.Parcels.{store_of};
 ghost use Rattle.z80_exec.specs.Access.Actions as actions;
 ghost use Rattle.z80_exec.specs.Access.Operands as operands;
 ghost use Rattle.z80_exec.specs.Rows.Arithmetic as arithmetic;
 ghost use Rattle.z80_exec.specs.Rows.Calls as calls;
 ghost use Rattle.z80_exec.specs.Rows.Loads as loads;
-ghost use Rattle.z80_exec.specs.Sample.Private.{CarriesOut, Finds, FindsPopped, Puts, Writes};
+ghost use Rattle.z80_exec.specs.Sample.Private.{AsksOnce, CarriesOut, Finds, FindsPopped, IsSharedAt, Puts, Writes};
 
-use crate::Regs80;
+use crate::access::memory::is_shared_write;
 use crate::access::operands::address;
 use crate::regs80::{high, low};
+use crate::{Regs80, Waiting};
 use md_word::Parcel;
 use z80_alu::compute;
 use z80_decode::{Pair, Place8, Task80};
@@ -91,6 +92,37 @@ pub fn load(target: Place8, source: Place8, regs: &mut Regs80, parcel: &mut Parc
             Some(false)
         } else {
             None
+        },
+        None => None,
+    }
+}
+
+/// The address of a place where a write is shared with other chips; None of another place.
+#[inline(always)]
+fn shared_address(place: Place8, regs: &Regs80) -> Option<u16>
+    ensures { IfSome result (λ at. IsSharedAt place at regs.now) }
+{
+    match address(place, regs) {
+        Some(at) => { if is_shared_write(at) { Some(at) } else { None } }
+        None => None,
+    }
+}
+
+/// The shared write that an LD of 8 bits waits for; None where it makes none, or its source is neither
+/// in a register nor in the instruction nor in RAM.
+#[inline(never)]
+pub fn load_shared(
+    target: Place8,
+    source: Place8,
+    regs: &Regs80,
+    parcel: &Parcel,
+) -> Option<Waiting>
+    ensures { IfSome result (λ waiting. AsksOnce (loads.load target source regs.now) waiting regs.now (store_of parcel.now)) }
+{
+    match shared_address(target, regs) {
+        Some(at) => match operand(source, regs, parcel) {
+            Some(value) => Some(Waiting::Write(at, value)),
+            None => None,
         },
         None => None,
     }
