@@ -1,12 +1,15 @@
 -- The rows of instructions that make no shared access: with operands in registers, in the instruction or in RAM.
-use Rattle.std.proofs.Common.{◌≡◌, ℕ, ◌+◌, ◌%◌, ◌<◌, ◌∙◌, Bool, true, false, List, [], ◌∷◌, length, Option, Some, None, Ok, Err, refl, sym, ap, slice_index, arith}
-use Rattle.std.specs.Prelude.{IsTrue}
+use Rattle.std.proofs.Common.{◌≡◌, ℕ, ◌+◌, ◌/◌, ◌%◌, ◌<◌, ◌∙◌, ◌==◌, Bool, true, false, List, [], ◌∷◌, length, Option, Some, None, Ok, Err, refl, sym, ap, slice_index, arith}
+use Rattle.std.specs.Prelude.{IsTrue, not, ◌&&◌}
 use Rattle.std.proofs.lemmas.Bool.Decides.{nat_tests}
 use Rattle.md_word.specs.declared.sub_bus.Request80.TheVariants as requests
+use Rattle.md_word.specs.declared.bit.Bit.{Bit}
+use Rattle.md_word.specs.declared.task80.Task80.TheVariants.{Test}
 use Rattle.md_word.specs.declared.task80.Task80.{Task80}
 use Rattle.z80_alu.specs.declared.out80.Out80.{Out80}
 use Rattle.z80_alu.specs.Tasks.{computed}
 use Rattle.z80_decode.specs.Fields.{word}
+use Rattle.z80_decode.specs.declared.block.Block.{Block}
 use Rattle.z80_decode.specs.declared.pair.Pair.{Pair}
 use Rattle.z80_decode.specs.declared.place8.Place8.{Place8}
 use Rattle.z80_parcel.specs.Parcels.{Store, banked, stored, written}
@@ -14,14 +17,16 @@ use Rattle.z80_exec.specs.Access.Actions as actions
 use Rattle.z80_exec.specs.Access.Memory.{Memory, is_ram, is_shared_write, next, ram_place}
 use Rattle.z80_exec.specs.Access.Operands as operands
 use Rattle.z80_exec.specs.Access.Operands.{Popped}
-use Rattle.z80_exec.specs.Access.Outcomes.{Outcome, plain, taken}
+use Rattle.z80_exec.specs.Access.Outcomes.{Outcome, outcome_of, plain, taken}
 use Rattle.z80_exec.specs.Access.Parts as parts
 use Rattle.z80_exec.specs.Access.Parts.{a_of, down, f_of, with_af, with_f}
 use Rattle.z80_exec.specs.Rows.Arithmetic as arithmetic
+use Rattle.z80_exec.specs.Rows.Bits as bits
+use Rattle.z80_exec.specs.Rows.Blocks as blocks
 use Rattle.z80_exec.specs.Rows.Calls as calls
 use Rattle.z80_exec.specs.Rows.Loads as loads
 use Rattle.z80_exec.specs.Sample.Prediction.{all_answered, answered_with}
-use Rattle.z80_exec.specs.Sample.Private.{AsksOnce, Finds, IsPrivate, IsSharedAt, Puts, Reads, Writes}
+use Rattle.z80_exec.specs.Sample.Private.{AsksOnce, Finds, IsPrivate, IsSharedAt, Puts, Reads, Writes, wrote}
 use Rattle.z80_exec.specs.Sample.Samples.{nothing}
 use Rattle.z80_exec.specs.declared.access.waiting.Waiting.TheVariants as waitings
 use Rattle.z80_exec.specs.declared.regs80.Regs80.{Regs80}
@@ -47,6 +52,23 @@ writes-ram at value before after low ram bank = record {
   writes = (at, value) ∷ [];
   gives = λ memory same. ram_write at value memory nothing (inside at low);
   left = stored-one at value before after ram bank;
+}
+
+-- ---- a word
+
+pub reads-word : (at value low high : ℕ) (store : Store) → at < 0x4000 → next at < 0x4000 → low ≡ slice_index store.ram (ram_place at) → high ≡ slice_index store.ram (ram_place (next at)) → value ≡ word low high
+    → Reads (actions.read_word at) value store
+unfolding actions.read_word
+reads-word at value low high store first second lower upper is = λ memory same.
+    rw (reads-ram at low store first lower memory same) (rw (reads-ram (next at) high store second upper memory same, is) refl)
+
+pub writes-word : (at value lower upper : ℕ) (before mid after : Store) → at < 0x4000 → next at < 0x4000 → lower ≡ value % 0x100 → upper ≡ value / 0x100
+    → mid ≡ written ((at, lower) ∷ []) before → after ≡ written ((next at, upper) ∷ []) mid → IsPrivate (actions.write_word at value) tt before after
+unfolding actions.write_word
+writes-word at value lower upper before mid after first second low high one two = record {
+  writes = (at, value % 0x100) ∷ (next at, value / 0x100) ∷ [];
+  gives = λ memory same. rw (ram_write at (value % 0x100) memory nothing (inside at first)) (rw (ram_write (next at) (value / 0x100) memory (wrote ((at, value % 0x100) ∷ [])) (inside (next at) second)) refl);
+  left = two ∙ ap (λ (s : Store). written ((next at, upper) ∷ []) s) one ∙ rw (low, high) refl;
 }
 
 -- ---- an operand
@@ -124,6 +146,32 @@ change-row task place a value f regs mid new out before after reads accumulator 
       left = put.left;
     }
 
+pub test-row : (bit : Bit) (place : Place8) (a value f : ℕ) (regs new : Regs80) (out : Out80) (store : Store) → Reads (operands.fetch place regs) value store
+    → a ≡ a_of regs → f ≡ f_of regs → out ≡ computed (Test bit) a value f → new ≡ with_f out.f regs → IsPrivate (bits.test_bit bit place regs) (plain new) store store
+unfolding bits.test_bit
+test-row bit place a value f regs new out store reads accumulator flags is after =
+    let comes = comes-out (Test bit) a value f regs out accumulator flags is in
+    done-nothing (bits.test_bit bit place regs) (plain new) store (λ memory same. rw (reads memory same) (rw (after, comes) refl))
+
+-- ---- LD of 16 bits, and of blocks
+
+pub load-pair-row : (pair : Pair) (at value : ℕ) (regs new : Regs80) (store : Store) → Reads (actions.read_word at) value store → new ≡ parts.with_pair pair value regs → IsPrivate (loads.load_pair_from pair at regs) (plain new) store store
+unfolding loads.load_pair_from
+load-pair-row pair at value regs new store reads is = done-nothing (loads.load_pair_from pair at regs) (plain new) store (λ memory same. rw (reads memory same, is) refl)
+
+pub store-pair-row : (at value : ℕ) (pair : Pair) (regs : Regs80) (before after : Store) → value ≡ parts.pair_of pair regs → IsPrivate (actions.write_word at value) tt before after → IsPrivate (loads.store_pair at pair regs) (plain regs) before after
+unfolding loads.store_pair
+store-pair-row at value pair regs before after is write = record { writes = write.writes; gives = λ memory same. rw (sym is) (rw (write.gives memory same) refl); left = write.left }
+
+pub block-row : (block : Block) (value : ℕ) (again ended : Bool) (regs mid new : Regs80) (before after : Store) → Reads (actions.read regs.hl) value before → IsPrivate (actions.write regs.de value) tt before after
+    → again ≡ (blocks.repeats block && not (down regs.bc == 0)) → mid ≡ blocks.transferred block regs → outcome_of ended new ≡ blocks.going_on again mid → IsPrivate (blocks.block_load block regs) (outcome_of ended new) before after
+unfolding blocks.block_load
+block-row block value again ended regs mid new before after reads write repeats moved outcome = record {
+  writes = write.writes;
+  gives = λ memory same. rw (reads memory same) (rw (write.gives memory same) (rw (outcome, moved, repeats) refl));
+  left = write.left;
+}
+
 -- ---- the stack
 
 pub pushes : (value upper lower : ℕ) (regs : Regs80) (before mid after : Store) → down regs.sp < 0x4000 → down (down regs.sp) < 0x4000 → upper ≡ parts.high value → lower ≡ parts.low value
@@ -135,10 +183,10 @@ pushes value upper lower regs before mid after above below high low first second
   left = second ∙ ap (λ (s : Store). written ((down (down regs.sp), lower) ∷ []) s) first ∙ rw (high, low) refl;
 }
 
-pub pops : (value low high : ℕ) (regs : Regs80) (store : Store) → Reads (actions.read regs.sp) low store → Reads (actions.read (next regs.sp)) high store → value ≡ word low high
+pub pops : (value : ℕ) (regs : Regs80) (store : Store) → Reads (actions.read_word regs.sp) value store
     → Reads (operands.pop regs) (record { value = value; regs = record regs { sp = (regs.sp + 2) % 0x1_0000 } }) store
-unfolding operands.pop actions.read_word
-pops value low high regs store first second is = λ memory same. rw (first memory same) (rw (second memory same, is) refl)
+unfolding operands.pop
+pops value regs store reads = λ memory same. rw (reads memory same) refl
 
 pub push-row : (pair : Pair) (value : ℕ) (regs new : Regs80) (before after : Store) → value ≡ parts.pair_of pair regs → IsPrivate (operands.push value regs) new before after → IsPrivate (loads.push_pair pair regs) (plain new) before after
 unfolding loads.push_pair

@@ -7,21 +7,29 @@ ghost use Rattle.z80_exec.specs.Sample.Samples as samples;
 ghost use Rattle.z80_exec.specs.Sample.Samples.{CoversAccesses};
 ghost use Rattle.z80_exec.specs.Sample.Times as times;
 
+mod operands;
 mod rows;
 
 use super::cache::{CachedInstruction, DecodeCache80};
 use super::{fetch, finish_of};
 use crate::access::memory::{LAST_FOUR, ram_bytes};
+use crate::regs80::pair_at;
 use crate::rows::control::{accumulator, disable, enable};
 use crate::rows::exchanges::{exchange_af, exchange_all, exchange_de_hl};
 use crate::rows::jumps::{
     decrement_and_jump, jump, jump_if, jump_index, jump_relative, jump_relative_if,
 };
-use crate::rows::pairs::{add_pair, decrement_pair, increment_pair};
+use crate::rows::loads::{load_from_special, load_stack_pointer, load_to_special};
+use crate::rows::pairs::{
+    add_pair, add_pair_with_carry, decrement_pair, increment_pair, subtract_pair_with_carry,
+};
 use crate::{Predicted80, Regs80, Step80, Waiting};
 use md_word::Parcel;
-use rows::{call, change, load, load_shared, operate, pop_pair, push_pair, return_from};
-use z80_decode::Op80;
+use rows::{
+    block_load, call, call_if, change, load, load_pair_from, load_shared, operate, pop_pair,
+    push_pair, return_from, return_if, store_pair, test_bit,
+};
+use z80_decode::{Op80, Task80};
 
 /// Carries out an instruction that works on the registers alone, or answers None. On entry the program
 /// counter is after it. Answers whether it took the longer of two times.
@@ -30,15 +38,21 @@ fn change_registers(op: Op80, regs: &mut Regs80) -> Option<bool>
     ensures { ChangesRegisters result (execution.row op regs.old) regs.old regs.new }
 {
     match op {
+        Op80::LoadFromSpecial(special) => load_from_special(special, regs),
+        Op80::LoadToSpecial(special) => load_to_special(special, regs),
         Op80::LoadPair(pair, value) => regs.set_pair(pair, value),
+        Op80::LoadStackPointer(index) => load_stack_pointer(index, regs),
         Op80::ExchangeDeHl => exchange_de_hl(regs),
         Op80::ExchangeAf => exchange_af(regs),
         Op80::ExchangeAll => exchange_all(regs),
         Op80::Accumulator(task) => accumulator(task, regs),
-        Op80::Nop => {}
+        Op80::Negate => accumulator(Task80::Neg, regs),
+        Op80::Nop | Op80::Halt => {}
         Op80::DisableInterrupts => disable(regs),
         Op80::EnableInterrupts => enable(regs),
         Op80::AddPair(index, pair) => add_pair(index, pair, regs),
+        Op80::AddPairWithCarry(pair) => add_pair_with_carry(pair, regs),
+        Op80::SubtractPairWithCarry(pair) => subtract_pair_with_carry(pair, regs),
         Op80::IncrementPair(pair) => increment_pair(pair, regs),
         Op80::DecrementPair(pair) => decrement_pair(pair, regs),
         Op80::Jump(target) => jump(target, regs),
@@ -62,13 +76,22 @@ fn execute(op: Op80, regs: &mut Regs80, parcel: &mut Parcel) -> Option<bool>
 {
     match op {
         Op80::Load(target, source) => load(target, source, regs, parcel),
+        Op80::LoadIndex(index, at) => load_pair_from(pair_at(index), at, regs, parcel),
+        Op80::LoadPairExtended(pair, at) => load_pair_from(pair, at, regs, parcel),
+        Op80::StoreIndex(at, index) => store_pair(at, pair_at(index), regs, parcel),
+        Op80::StorePairExtended(at, pair) => store_pair(at, pair, regs, parcel),
+        Op80::Push(pair) => push_pair(pair, regs, parcel),
+        Op80::Pop(pair) => pop_pair(pair, regs, parcel),
+        Op80::BlockLoad(block) => block_load(block, regs, parcel),
         Op80::Arithmetic(task, place) => operate(task, place, regs, parcel),
         Op80::Step(task, place) => change(task, place, regs, parcel),
         Op80::Change(task, place) => change(task, place, regs, parcel),
-        Op80::Push(pair) => push_pair(pair, regs, parcel),
-        Op80::Pop(pair) => pop_pair(pair, regs, parcel),
+        Op80::TestBit(bit, place) => test_bit(bit, place, regs, parcel),
         Op80::Call(target) => call(target, regs, parcel),
-        Op80::Return => return_from(regs, parcel),
+        Op80::CallIf(condition, target) => call_if(condition, target, regs, parcel),
+        Op80::Return | Op80::ReturnFromInterrupt => return_from(regs, parcel),
+        Op80::ReturnIf(condition) => return_if(condition, regs, parcel),
+        Op80::Restart(target) => call(u16::from(target), regs, parcel),
         _ => change_registers(op, regs),
     }
 }

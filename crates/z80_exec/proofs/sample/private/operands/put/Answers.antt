@@ -1,7 +1,7 @@
 use Rattle.std.proofs.Common.{◌∙◌, sym}
 use Rattle.z80_parcel.specs.Parcels.{store_of}
 use Rattle.z80_exec.proofs.PrivateRows.{puts-ram, puts-register}
-use Rattle.z80_exec.proofs.sample.private.rows.put.Goals as goal
+use Rattle.z80_exec.proofs.sample.private.operands.put.Goals as goal
 
 pub returns-in-Some : goal.returns-in-Some
 returns-in-Some c =

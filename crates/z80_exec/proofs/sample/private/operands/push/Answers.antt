@@ -2,7 +2,7 @@ use Rattle.std.proofs.Common.{arith}
 use Rattle.z80_parcel.specs.Parcels.{Store, store_of}
 use Rattle.z80_exec.specs.Access.Parts.{down}
 use Rattle.z80_exec.proofs.PrivateRows.{pushes, stored-one}
-use Rattle.z80_exec.proofs.sample.private.rows.push.Goals as goal
+use Rattle.z80_exec.proofs.sample.private.operands.push.Goals as goal
 
 pub returns : goal.returns
 returns c =

@@ -1,6 +1,6 @@
 use Rattle.z80_parcel.specs.Parcels.{store_of}
 use Rattle.z80_exec.proofs.PrivateRows.{writes-ram}
-use Rattle.z80_exec.proofs.sample.private.rows.write.Goals as goal
+use Rattle.z80_exec.proofs.sample.private.operands.write.Goals as goal
 
 pub returns-then-at-lt-RAM_END : goal.returns-then-at-lt-RAM_END
 returns-then-at-lt-RAM_END c =
