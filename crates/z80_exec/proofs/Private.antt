@@ -1,5 +1,5 @@
 -- Instructions that make no shared access.
-use Rattle.std.proofs.Common.{◌≡◌, ℕ, Bool, false, List, [], Option, Some, None, Ok, refl, slice_index, sym}
+use Rattle.std.proofs.Common.{◌≡◌, ℕ, Bool, false, List, [], Option, Some, None, refl, slice_index, sym}
 use Rattle.std.specs.Prelude.{IfSome}
 use Rattle.z80_decode.specs.declared.decoded80.Decoded80.{Decoded80}
 use Rattle.z80_parcel.specs.Parcels.{Store}

@@ -17,7 +17,7 @@ use Rattle.z80_exec.specs.Access.Actions as actions
 use Rattle.z80_exec.specs.Access.Memory.{Memory, is_ram, is_shared_write, next, ram_place}
 use Rattle.z80_exec.specs.Access.Operands as operands
 use Rattle.z80_exec.specs.Access.Operands.{Popped}
-use Rattle.z80_exec.specs.Access.Outcomes.{Outcome, outcome_of, plain, taken}
+use Rattle.z80_exec.specs.Access.Outcomes.{outcome_of, plain, taken}
 use Rattle.z80_exec.specs.Access.Parts as parts
 use Rattle.z80_exec.specs.Access.Parts.{a_of, down, f_of, with_af, with_f}
 use Rattle.z80_exec.specs.Rows.Arithmetic as arithmetic
