@@ -1,4 +1,5 @@
--- Instructions that make no shared access: what they result in depends on the registers and on RAM alone.
+-- Instructions that make no shared access, or one write: what they result in depends on the registers and on RAM
+-- alone.
 -- Zilog UM0080, "CPU Timing".
 use Rattle.std.specs.Prelude.{ℕ, ◌≡◌, Bool, true, false, List, [], Option, Some, None, Result, Ok, Err}
 use Rattle.md_word.specs.Answers.{Done}

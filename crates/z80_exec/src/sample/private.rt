@@ -1,4 +1,4 @@
-//! Instructions that make no shared access, carried out at once.
+//! Instructions that make no shared access, carried out at once, and LD of 8 bits up to a shared write.
 ghost use Rattle.std.specs.Prelude.{◌≡◌, ◌<◌, ◌≤◌, ℕ, false, true, IfSome};
 ghost use Rattle.z80_parcel.specs.Parcels.{Store, store_of};
 ghost use Rattle.z80_exec.specs.Sample.Execution as execution;
