@@ -14,7 +14,7 @@ use crate::stage::Stage;
 use md_word::Parcel;
 use md_word::clock::SUB_CLOCK;
 use rom_header::Cart;
-use z80_exec::{DecodeCache80, Finish80, Progress80, Step80, Waiting, predict};
+use z80_exec::{DecodeCache80, Finish80, Progress80, Step80, Waiting, predict, run_private};
 use z80_parcel::store_bytes;
 
 impl Sequencer {
@@ -60,6 +60,7 @@ impl Sequencer {
     }
 
     /// Continues what is carried out, as far as the answers go.
+    #[inline(never)]
     #[tactic(auto, unfolding(crate::specs::Events::went_on))]
     fn go_on(
         &mut self,
@@ -93,7 +94,6 @@ impl Sequencer {
     }
 
     /// Carries out an instruction or an interrupt, where the Z80 has its RAM.
-    #[inline(never)]
     pub fn carry_out(
         &mut self,
         cause: u8,
@@ -110,6 +110,35 @@ impl Sequencer {
     {
         if let Some(parcel) = parcel {
             self.go_on(cause, cart, parcel, cache, progress);
+        }
+    }
+
+    /// Begins an instruction, where the Z80 has its RAM. One that makes no shared access ends at once,
+    /// and an LD to a shared address comes to its write at once.
+    #[inline(never)]
+    #[tactic(auto, unfolding(crate::specs::Events::went_on))]
+    pub fn begin_instruction(
+        &mut self,
+        cart: &Cart,
+        parcel: &mut Option<Parcel>,
+        cache: &mut DecodeCache80,
+        progress: &mut Progress80,
+    )
+        requires start { self.old.start < cycle_limit }
+        requires ram { IsSome parcel.old }
+        requires answers { self.old.answers.items ≡ [] }
+        ensures state { state_of self.new parcel.new ≡ went_on cart.now (state_of self.old parcel.old) 0 }
+        ensures waiting { WaitsFor self.new.stage cart.now (state_of self.new parcel.new) self.new.request }
+        ensures predicted { IsPredicted self.new.stage cart.now (state_of self.new parcel.new) self.new.predicted }
+    {
+        if let Some(parcel) = parcel {
+            match run_private(&mut self.regs, parcel, cache, &mut self.predicted) {
+                Some(step) => match step {
+                    Step80::Done(finish) => self.finish(&finish),
+                    Step80::Need(waiting) => self.ask(0, waiting),
+                },
+                None => self.go_on(0, cart, parcel, cache, progress),
+            }
         }
     }
 }

@@ -24,6 +24,7 @@ impl Sequencer {
     fn see_reset(&mut self, pins: &Pins80)
         ensures state { (parcel : Option Held) → state_of self.new parcel ≡ cases.seen (state_of self.old parcel) pins.now }
         ensures start { self.new.start ≡ self.old.start }
+        ensures answers { self.new.answers ≡ self.old.answers }
     {
         if pins.reset || pins.resets != self.resets {
             self.regs.reset();
@@ -94,7 +95,7 @@ impl Sequencer {
             Case::Suspended | Case::InReset => self.wait(STEP),
             Case::Interrupt => self.carry_out(1, cart, parcel, cache, progress),
             Case::Halted => self.wait(FIRST_STEP),
-            Case::Instruction => self.carry_out(0, cart, parcel, cache, progress),
+            Case::Instruction => self.begin_instruction(cart, parcel, cache, progress),
         }
     }
 

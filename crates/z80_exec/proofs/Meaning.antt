@@ -53,14 +53,14 @@ unfolding fetched
 high found first regs = omega arith
 
 -- the stack
-ram_write : (at value : ℕ) (memory : Memory) (before : Done) → IsTrue (is_ram at) → actions.write at value memory before ≡ Ok (tt, record before { writes = before.writes ++ (at, value) ∷ [] })
+pub ram_write : (at value : ℕ) (memory : Memory) (before : Done) → IsTrue (is_ram at) → actions.write at value memory before ≡ Ok (tt, record before { writes = before.writes ++ (at, value) ∷ [] })
 unfolding actions.write actions.with_byte
 ram_write at value memory before h =
     let private : is_shared_write at ≡ false = grind (arith, nat_tests) in
     let here : is_ram at ≡ true = h in
     rw (private, here) refl
 
-ram_read : (at : ℕ) (memory : Memory) (before : Done) → IsTrue (is_ram at) → actions.read at memory before ≡ Ok (slice_index (ram_after memory.ram before.writes) (ram_place at), before)
+pub ram_read : (at : ℕ) (memory : Memory) (before : Done) → IsTrue (is_ram at) → actions.read at memory before ≡ Ok (slice_index (ram_after memory.ram before.writes) (ram_place at), before)
 unfolding actions.read actions.byte_seen byte_at
 ram_read at memory before h =
     let private : is_shared_read at ≡ false = grind (arith, nat_tests) in
@@ -79,7 +79,7 @@ abbrev two_of : ℕ → Regs80 → Done → Done
 two_of value regs before =
     record before { writes = (before.writes ++ (down regs.sp, parts.high value) ∷ []) ++ (down (down regs.sp), parts.low value) ∷ [] }
 
-pushed : (value : ℕ) (regs : Regs80) (memory : Memory) (before : Done) → IsTrue (is_ram (down regs.sp)) → IsTrue (is_ram (down (down regs.sp))) → operands.push value regs memory before ≡ Ok (record regs { sp = down (down regs.sp) }, two_of value regs before)
+pub pushed : (value : ℕ) (regs : Regs80) (memory : Memory) (before : Done) → IsTrue (is_ram (down regs.sp)) → IsTrue (is_ram (down (down regs.sp))) → operands.push value regs memory before ≡ Ok (record regs { sp = down (down regs.sp) }, two_of value regs before)
 unfolding operands.push
 pushed value regs memory before h k =
     rw (ram_write (down regs.sp) (parts.high value) memory before h, ram_write (down (down regs.sp)) (parts.low value) memory (one_of value regs before) k) refl

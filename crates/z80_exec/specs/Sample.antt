@@ -4,5 +4,6 @@ pub mod Caches
 pub mod Entries
 pub mod Execution
 pub mod Prediction
+pub mod Private
 pub mod Samples
 pub mod Times

@@ -13,5 +13,6 @@ pub use access::view::Progress80;
 pub use access::waiting::Waiting;
 pub use regs80::Regs80;
 pub use sample::cache::DecodeCache80;
+pub use sample::private::run_private;
 pub use sample::step::{Finish80, Predicted80, Step80};
 pub use sample::{go, predict};

@@ -11,6 +11,7 @@ ghost use Rattle.z80_exec.specs.Sample.Samples.{CoversAccesses, Keeps, WaitsBelo
 pub mod cache;
 mod entry;
 mod execution;
+pub mod private;
 pub mod step;
 mod times;
 
@@ -44,25 +45,6 @@ fn fetch(found: &CachedInstruction, regs: &mut Regs80)
     regs.r = risen(regs.r, found.rise);
 }
 
-/// Keeps what an instruction results in after the write that waits, where that is known.
-#[inline(never)]
-fn predict_finish(found: &CachedInstruction, predicted: &mut Predicted80)
-    requires { found.now.short ≡ times.time_of found.now.decoded.op false }
-    ensures known { predicted.new.known ≡ predicted.old.known }
-    ensures regs { predicted.new.regs ≡ predicted.old.regs }
-    ensures time { predicted.old.known ≡ true → predicted.new.finish.t ≡ times.time_of found.now.decoded.op false }
-    ensures halted { predicted.old.known ≡ true → predicted.new.finish.halted ≡ samples.halts found.now.decoded.op }
-    ensures after_ei { predicted.old.known ≡ true → predicted.new.finish.after_ei ≡ samples.is_ei found.now.decoded.op }
-{
-    if predicted.known {
-        predicted.finish = Finish80 {
-            t: found.short,
-            halted: matches!(found.decoded.op, Op80::Halt),
-            after_ei: matches!(found.decoded.op, Op80::EnableInterrupts),
-        };
-    }
-}
-
 /// The clocks of an instruction; of two times the longer where it was taken or continues.
 #[inline(always)]
 fn time_of(found: &CachedInstruction, taken: bool) -> u32
@@ -71,6 +53,38 @@ fn time_of(found: &CachedInstruction, taken: bool) -> u32
     ensures { result ≡ times.time_of found.now.decoded.op taken }
 {
     if taken { found.long } else { found.short }
+}
+
+/// What an instruction results in that has ended.
+#[inline(always)]
+fn finish_of(found: &CachedInstruction, taken: bool) -> Finish80
+    requires short { found.now.short ≡ times.time_of found.now.decoded.op false }
+    requires long { found.now.long ≡ times.time_of found.now.decoded.op true }
+    ensures time { result.t ≡ times.time_of found.now.decoded.op taken }
+    ensures halted { result.halted ≡ samples.halts found.now.decoded.op }
+    ensures after_ei { result.after_ei ≡ samples.is_ei found.now.decoded.op }
+{
+    Finish80 {
+        t: time_of(found, taken),
+        halted: matches!(found.decoded.op, Op80::Halt),
+        after_ei: matches!(found.decoded.op, Op80::EnableInterrupts),
+    }
+}
+
+/// Keeps what an instruction results in after the write that waits, where that is known.
+#[inline(never)]
+fn predict_finish(found: &CachedInstruction, predicted: &mut Predicted80)
+    requires short { found.now.short ≡ times.time_of found.now.decoded.op false }
+    requires long { found.now.long ≡ times.time_of found.now.decoded.op true }
+    ensures known { predicted.new.known ≡ predicted.old.known }
+    ensures regs { predicted.new.regs ≡ predicted.old.regs }
+    ensures time { predicted.old.known ≡ true → predicted.new.finish.t ≡ times.time_of found.now.decoded.op false }
+    ensures halted { predicted.old.known ≡ true → predicted.new.finish.halted ≡ samples.halts found.now.decoded.op }
+    ensures after_ei { predicted.old.known ≡ true → predicted.new.finish.after_ei ≡ samples.is_ei found.now.decoded.op }
+{
+    if predicted.known {
+        predicted.finish = finish_of(found, false);
+    }
 }
 
 /// The instruction that begins with these bytes.
@@ -96,11 +110,7 @@ fn instruction(
     let before = *regs;
     fetch(found, regs);
     match execute(found.decoded.op, context, regs, progress, predicted) {
-        Ok(taken) => Step80::Done(Finish80 {
-            t: time_of(found, taken),
-            halted: matches!(found.decoded.op, Op80::Halt),
-            after_ei: matches!(found.decoded.op, Op80::EnableInterrupts),
-        }),
+        Ok(taken) => Step80::Done(finish_of(found, taken)),
         Err(waiting) => {
             predict_finish(found, predicted);
             *regs = before;

@@ -12,7 +12,7 @@ use z80_parcel::{RAM_END, RAM_SIZE, is_bank, shift};
 const WINDOW: u16 = 0x8000;
 
 /// The first address from which fewer than four bytes of RAM go on.
-const LAST_FOUR: u16 = RAM_SIZE as u16 - 3;
+pub const LAST_FOUR: u16 = RAM_SIZE as u16 - 3;
 
 /// The byte that is read where nothing answers.
 const OPEN_BUS: u8 = 0xff;
@@ -61,17 +61,12 @@ fn instruction_byte(at: u16, context: &Context) -> u8
 /// As many bytes of RAM, where it does not repeat among them.
 #[inline(always)]
 #[tactic(auto, unfolding(crate::specs::Access::Memory::instruction_bytes, crate::specs::Access::Memory::instruction_byte, crate::specs::Access::Memory::byte_at))]
-fn ram_bytes(at: u16, context: &Context) -> [u8; 4]
+pub fn ram_bytes(at: u16, ram: &[u8; RAM_SIZE]) -> [u8; 4]
     requires { at + 3 < ram_size }
-    ensures { result ≡ memory.instruction_bytes at (memory_of context.now) }
+    ensures { (seen : memory.Memory) → seen.ram ≡ ram.now → result ≡ memory.instruction_bytes at seen }
 {
     let place = usize::from(at);
-    [
-        context.ram[place],
-        context.ram[place + 1],
-        context.ram[place + 2],
-        context.ram[place + 3],
-    ]
+    [ram[place], ram[place + 1], ram[place + 2], ram[place + 3]]
 }
 
 /// As many bytes as the longest instruction has, from an address on. None is an access.
@@ -80,7 +75,7 @@ pub fn instruction_bytes(at: u16, context: &Context) -> [u8; 4]
     ensures { result ≡ memory.instruction_bytes at (memory_of context.now) }
 {
     if at < LAST_FOUR {
-        ram_bytes(at, context)
+        ram_bytes(at, context.ram)
     } else {
         far_bytes(at, context)
     }

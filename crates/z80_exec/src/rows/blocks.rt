@@ -1,7 +1,8 @@
-ghost use Rattle.std.specs.Prelude.{◌≡◌, ◌+◌, ◌≤◌};
+ghost use Rattle.std.specs.Prelude.{◌≡◌, ◌+◌, ◌≤◌, ◌&&◌, ◌==◌, not};
 ghost use Rattle.arrayvec.specs.ArrayVec.{array_vec_len};
 ghost use Rattle.z80_exec.specs.Access.Clauses.{Ends, done_of, memory_of};
 ghost use Rattle.z80_exec.specs.Access.Outcomes.{outcome_of};
+ghost use Rattle.z80_exec.specs.Access.Parts.{down};
 ghost use Rattle.z80_exec.specs.Rows.Blocks as blocks;
 
 use crate::access::{read, write};
@@ -38,8 +39,15 @@ pub fn go_on(again: bool, regs: &mut Regs80) -> bool
     again
 }
 
+/// Whether LDIR or LDDR goes on after the byte that is transferred next.
+pub fn continues(block: Block, regs: &Regs80) -> bool
+    ensures { result ≡ (blocks.repeats block && not (down regs.now.bc == 0)) }
+{
+    repeats(block) && regs.bc.wrapping_sub(1) != 0
+}
+
 /// The registers after one transfer.
-fn transfer(block: Block, regs: &mut Regs80)
+pub fn transfer(block: Block, regs: &mut Regs80)
     ensures { regs.new ≡ blocks.transferred block regs.old }
 {
     let counter = regs.bc.wrapping_sub(1);
@@ -63,7 +71,7 @@ pub fn block_load(
 {
     let value = read(regs.hl, context, progress)?;
     write(regs.de, value, context, progress)?;
-    let again = repeats(block) && regs.bc.wrapping_sub(1) != 0;
+    let again = continues(block, regs);
     transfer(block, regs);
     Ok(go_on(again, regs))
 }

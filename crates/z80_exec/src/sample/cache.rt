@@ -1,4 +1,4 @@
-ghost use Rattle.std.specs.Prelude.{◌≡◌, ◌≤◌, ℕ, List, length, replicate, IfOk};
+ghost use Rattle.std.specs.Prelude.{◌≡◌, ◌≤◌, ℕ, List, length, replicate, IfOk, IfSome};
 ghost use Rattle.z80_exec.specs.Sample.Caches.{IsCache, IsEntry, IsInstructionOf};
 ghost use Rattle.z80_exec.specs.Sample.Samples as samples;
 
@@ -98,5 +98,18 @@ impl DecodeCache80 {
         let fresh = cached(bytes);
         self.entries[place] = fresh;
         fresh
+    }
+
+    /// The instruction that was decoded last at an address, if its bytes are these.
+    #[inline(always)]
+    pub(crate) fn find(&self, address: u16, bytes: &[u8; 4]) -> Option<&CachedInstruction>
+        ensures { IfSome result (λ found. IsInstructionOf bytes.now found.now) }
+    {
+        let found = &self.entries[usize::from(address % 256)];
+        if found.bytes == u32::from_le_bytes(*bytes) {
+            Some(found)
+        } else {
+            None
+        }
     }
 }
