@@ -1,9 +1,9 @@
 -- A tick of an envelope that has reached the end of its release.
 use Rattle.std.proofs.Common.{◌≡◌, ◌∙◌, sym, ap, ℕ, arith}
-use Rattle.fm_env.specs.Envelopes.{fallen, stepped, ticked, turned}
-use Rattle.fm_env.specs.declared.state.EnvelopeState.{EnvelopeState}
-use Rattle.fm_env.specs.declared.state.EnvelopeState.TheVariants.{Release}
-use Rattle.fm_env.specs.Steps.{step}
+use Rattle.fm_voice.specs.Envelopes.{fallen, stepped, ticked, turned}
+use Rattle.fm_voice.specs.declared.envelope.state.EnvelopeState.{EnvelopeState}
+use Rattle.fm_voice.specs.declared.envelope.state.EnvelopeState.TheVariants.{Release}
+use Rattle.fm_voice.specs.Steps.{step}
 use Rattle.fm_chip.specs.declared.operator.Operator.{Operator}
 use Rattle.fm_chip.specs.declared.channels.Channel.{Channel}
 use Rattle.fm_chip.specs.declared.shapes.Shape.{Shape}

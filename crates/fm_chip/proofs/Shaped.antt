@@ -1,8 +1,8 @@
 -- What follows of the kept shapes is what follows of the registers.
 use Rattle.std.proofs.Common.{◌≡◌, ap, refl, ℕ, ◌∙◌, List, if◌then◌else◌}
-use Rattle.fm_env.specs.Envelopes.{stepping_state, ticked}
-use Rattle.fm_env.specs.declared.state.EnvelopeState.{EnvelopeState}
-use Rattle.fm_env.specs.declared.state.EnvelopeState.TheVariants.{Attack, Decay, Sustain, Release}
+use Rattle.fm_voice.specs.Envelopes.{stepping_state, ticked}
+use Rattle.fm_voice.specs.declared.envelope.state.EnvelopeState.{EnvelopeState}
+use Rattle.fm_voice.specs.declared.envelope.state.EnvelopeState.TheVariants.{Attack, Decay, Sustain, Release}
 use Rattle.fm_chip.specs.declared.operator.Operator.{Operator}
 use Rattle.fm_chip.specs.declared.channels.Channel.{Channel}
 use Rattle.fm_chip.specs.declared.channels.Moment.{Moment}

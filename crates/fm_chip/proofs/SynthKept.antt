@@ -4,8 +4,8 @@ use Rattle.std.specs.Prelude.{All, nat_le, nat_lt, slice_index_or}
 use Rattle.std.proofs.lemmas.Int.{ints}
 use Rattle.std.proofs.lemmas.Bool.{le-leb, lt-ltb, le-ltb, and_from}
 use Rattle.std.proofs.lemmas.List.Elements.{All-get_or}
-use Rattle.fm_env.specs.declared.state.EnvelopeState.{EnvelopeState}
-use Rattle.fm_env.specs.declared.state.EnvelopeState.TheVariants.{Attack, Decay, Sustain, Release}
+use Rattle.fm_voice.specs.declared.envelope.state.EnvelopeState.{EnvelopeState}
+use Rattle.fm_voice.specs.declared.envelope.state.EnvelopeState.TheVariants.{Attack, Decay, Sustain, Release}
 use Rattle.md_fields.specs.Fields.{AllHold, AreWithin, Field}
 use Rattle.md_fields.proofs.Items.{none_invalid}
 use Rattle.md_fields.proofs.Flags.{flag_byte, flag_small}

@@ -1,7 +1,7 @@
 -- A channel at a sample: its envelopes' tick, what is heard, and its phases' steps.
 -- Yamaha, YM2608 Application Manual, channels; Sega, Genesis Software Manual, FM registers 2A and 2B.
 use Rattle.std.specs.Prelude.{◌≡◌, ℕ, ◌/◌, ◌%◌, ◌≤◌, ◌==◌, nat_le, ℤ, pos, ◌-ℤ◌, ◌*ℤ◌, Bool, ◌&&◌, if◌then◌else◌, List, [], ◌∷◌, length, All, false, slice_index_or}
-use Rattle.fm_env.specs.declared.state.EnvelopeState.TheVariants.{Attack}
+use Rattle.fm_voice.specs.declared.envelope.state.EnvelopeState.TheVariants.{Attack}
 use Rattle.fm_voice.specs.Channel.{Voice, channel_voice, heard, last_after, IsLevel}
 use Rattle.fm_chip.specs.declared.operator.Operator.{Operator}
 use Rattle.fm_chip.specs.declared.channels.Channel.{Channel}

@@ -1,6 +1,6 @@
 -- The keys, by a byte for register 28. Yamaha, YM2608 Application Manual, key on and off.
 use Rattle.std.specs.Prelude.{ℕ, ◌+◌, ◌/◌, ◌%◌, ◌==◌, if◌then◌else◌, Option, None, Some, List, slice_set}
-use Rattle.fm_env.specs.declared.state.EnvelopeState.TheVariants.{Attack}
+use Rattle.fm_voice.specs.declared.envelope.state.EnvelopeState.TheVariants.{Attack}
 use Rattle.fm_chip.specs.declared.channels.Channel.{Channel}
 use Rattle.fm_chip.specs.Channels.{channel_at}
 use Rattle.fm_chip.specs.Operators.{pressed}

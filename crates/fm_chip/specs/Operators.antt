@@ -1,8 +1,8 @@
 -- An operator: its envelope's tick, what it sounds at, its phase's step and its key.
 -- Yamaha, YM2608 Application Manual, operators.
 use Rattle.std.specs.Prelude.{◌≡◌, ℕ, ◌+◌, ◌*◌, ◌/◌, ◌%◌, ◌^◌, ◌<◌, ◌≤◌, nat_le, min, Bool, ◌&&◌, not, if◌then◌else◌, List}
-use Rattle.fm_env.specs.Envelopes.{EnvelopeValue, stepping_state, ticked, keyed}
-use Rattle.fm_env.specs.declared.state.EnvelopeState.TheVariants.{Release}
+use Rattle.fm_voice.specs.Envelopes.{EnvelopeValue, stepping_state, ticked, keyed}
+use Rattle.fm_voice.specs.declared.envelope.state.EnvelopeState.TheVariants.{Release}
 use Rattle.fm_voice.specs.Phase.{step_of}
 use Rattle.fm_chip.specs.declared.operator.Operator.{Operator}
 use Rattle.fm_chip.specs.Registers.{frequency_of, rate, of_operator, sustain_level}

@@ -2,8 +2,8 @@
 -- A channel c of 0 to 5 is channel c modulo 3 of port c/3; an operator o is 0 to 3.
 -- Yamaha, YM2608 Application Manual, FM registers.
 use Rattle.std.specs.Prelude.{ℕ, ◌+◌, ◌-◌, ◌*◌, ◌/◌, ◌%◌, ◌^◌, ◌==◌, nat_lt, nat_le, min, ◌&&◌, if◌then◌else◌, List, slice_index}
-use Rattle.fm_env.specs.declared.state.EnvelopeState.{EnvelopeState}
-use Rattle.fm_env.specs.declared.state.EnvelopeState.TheVariants.{Attack, Decay, Sustain, Release}
+use Rattle.fm_voice.specs.declared.envelope.state.EnvelopeState.{EnvelopeState}
+use Rattle.fm_voice.specs.declared.envelope.state.EnvelopeState.TheVariants.{Attack, Decay, Sustain, Release}
 use Rattle.fm_voice.specs.Phase.{key_code}
 use Rattle.fm_chip.specs.declared.frequency.Frequency.{Frequency}
 

@@ -1,9 +1,9 @@
 -- What the registers say of an operator's envelope and level, and what follows of it.
 -- Yamaha, YM2608 Application Manual, operators.
 use Rattle.std.specs.Prelude.{◌≡◌, ℕ, ◌+◌, ◌*◌, ◌%◌, ◌<◌, ◌≤◌, nat_le, min, false, if◌then◌else◌, List, [], ◌∷◌, length, All, slice_index_or}
-use Rattle.fm_env.specs.Envelopes.{stepping_state, ticked}
-use Rattle.fm_env.specs.declared.state.EnvelopeState.{EnvelopeState}
-use Rattle.fm_env.specs.declared.state.EnvelopeState.TheVariants.{Attack, Decay, Sustain, Release}
+use Rattle.fm_voice.specs.Envelopes.{stepping_state, ticked}
+use Rattle.fm_voice.specs.declared.envelope.state.EnvelopeState.{EnvelopeState}
+use Rattle.fm_voice.specs.declared.envelope.state.EnvelopeState.TheVariants.{Attack, Decay, Sustain, Release}
 use Rattle.fm_chip.specs.declared.shapes.Shape.{Shape}
 use Rattle.fm_chip.specs.declared.shapes.Shapes.{Shapes}
 use Rattle.fm_chip.specs.declared.operator.Operator.{Operator}

@@ -3,7 +3,7 @@
 use Rattle.std.specs.Prelude.{◌≡◌, ℕ, zero, suc, ◌+◌, ◌*◌, ◌/◌, ◌%◌, ◌<◌, ◌==◌, ℤ, pos, ◌+ℤ◌, false, ◌&&◌, if◌then◌else◌, Option, None, Some, List, [], ◌∷◌, length, map, All, slice_index, slice_set, replicate}
 use Rattle.std.specs.List.{range_with_len}
 use Rattle.fm_voice.specs.Channel.{IsWithin}
-use Rattle.fm_env.specs.declared.state.EnvelopeState.TheVariants.{Release}
+use Rattle.fm_voice.specs.declared.envelope.state.EnvelopeState.TheVariants.{Release}
 use Rattle.fm_chip.specs.declared.lfo.Lfo.{Lfo}
 use Rattle.fm_chip.specs.declared.operator.Operator.{Operator}
 use Rattle.fm_chip.specs.declared.channels.Channel.{Channel}

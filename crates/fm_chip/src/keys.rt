@@ -7,7 +7,7 @@ ghost use Rattle.fm_chip.specs.Channels.{IsChannel, channel_at};
 
 use crate::channels::Channel;
 use crate::registers::{Registers, rate};
-use fm_env::EnvelopeState;
+use fm_voice::EnvelopeState;
 
 /// The channel, 0 to 5, whose keys a byte for register 28 sets; None where its low three bits are 3 or 7.
 #[tactic(auto, unfolding(crate::specs::Keys::keyed_channel))]

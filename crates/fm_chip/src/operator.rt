@@ -2,12 +2,12 @@ ghost use Rattle.std.specs.Prelude.{◌≡◌, ◌+◌, ◌*◌, ◌^◌, ◌<�
 ghost use Rattle.fm_chip.specs.Operators as meaning;
 ghost use Rattle.fm_chip.specs.Operators.{IsAtRest, IsOperator};
 ghost use Rattle.fm_chip.specs.Shapes.{IsShape, attenuation_by, enveloped_by};
-ghost use Rattle.fm_env.specs.Envelopes.{plain};
+ghost use Rattle.fm_voice.specs.Envelopes.{plain};
 
 use crate::lfo::gain;
 use crate::registers::{DETUNE_MULTIPLE, Registers, frequency_of, of_operator};
 use crate::shapes::Shape;
-use fm_env::{Envelope, EnvelopeState};
+use fm_voice::{Envelope, EnvelopeState};
 use fm_voice::step_of;
 
 /// An operator. The registers are not its own: they come with each call.

@@ -5,7 +5,7 @@ ghost use Rattle.std.specs.Prelude.{◌≡◌, ◌+◌, ◌*◌, ◌/◌, ◌%�
 ghost use Rattle.fm_chip.specs.Registers as meaning;
 
 use crate::frequency::Frequency;
-use fm_env::EnvelopeState;
+use fm_voice::EnvelopeState;
 use fm_voice::key_code;
 
 /// The registers of both ports, 256 each.

@@ -5,7 +5,7 @@ ghost use Rattle.fm_chip.specs.SynthSpelling as meaning;
 use crate::channels::Channel;
 use crate::operator::Operator;
 use crate::saved_synth::{SavedLast, invalid_from};
-use fm_env::EnvelopeState;
+use fm_voice::EnvelopeState;
 use md_fields::{Field, put, u8_at, u16_at, u32_at};
 
 /// The numbers that a saved state keeps of an operator, whatever they are.

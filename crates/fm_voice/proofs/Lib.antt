@@ -5,3 +5,5 @@ pub mod Sounding
 pub mod Tables
 pub mod Weaker
 pub mod Quiet
+pub mod Rounded
+pub mod Steps

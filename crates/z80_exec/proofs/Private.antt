@@ -5,11 +5,11 @@ use Rattle.z80_decode.specs.declared.decoded80.Decoded80.{Decoded80}
 use Rattle.z80_parcel.specs.Parcels.{Store}
 use Rattle.z80_exec.specs.Access.Actions.{Act}
 use Rattle.z80_exec.specs.Access.Memory.{Memory, instruction_bytes}
-use Rattle.z80_exec.specs.Access.Outcomes.{Outcome, outcome_of}
+use Rattle.z80_exec.specs.Access.Outcomes.{outcome_of}
 use Rattle.z80_exec.specs.Sample.Caches.{IsInstructionOf}
 use Rattle.z80_exec.specs.Sample.Execution.{row}
 use Rattle.z80_exec.specs.Sample.Prediction.{answered_with}
-use Rattle.z80_exec.specs.Sample.Private.{AsksOnce, CarriesOut, ChangesRegisters, EndsPrivately, IsPrivate, Reads, RunsPrivately, WaitsPrivately, wrote}
+use Rattle.z80_exec.specs.Sample.Private.{AsksOnce, EndsPrivately, IsPrivate, Reads, RunsPrivately, WaitsPrivately, wrote}
 use Rattle.z80_exec.specs.Sample.Samples as samples
 use Rattle.z80_exec.specs.Sample.Samples.{CoversAccesses, fetched, halts, is_ei, nothing}
 use Rattle.z80_exec.specs.Sample.Times.{time_of}
@@ -25,11 +25,6 @@ use Rattle.z80_exec.proofs.Bounds.Steps.{step_covers_accesses}
 -- what does nothing but give a value
 pub done-nothing : {A : Type 0} (act : Act A) (value : A) (store : Store) → Reads act value store → IsPrivate act value store store
 done-nothing act value store gives = record { writes = []; gives = gives; left = refl }
-
--- an instruction on the registers alone
-pub registers-alone : (result : Option Bool) (act : Act Outcome) (old new : Regs80) (store : Store) → ChangesRegisters result act old new → CarriesOut result act old new store store
-registers-alone (Some taken) act old new store changed = done-nothing act (outcome_of taken new) store (λ memory same. changed memory nothing)
-registers-alone None act old new store same = (same, refl)
 
 -- an instruction that was carried out, from its fetch on
 pub instruction-ends : (found : Decoded80) (first : ℕ) (old new : Regs80) (taken : Bool) (before after : Store) (finish : Finish80)

@@ -1,6 +1,6 @@
 use Rattle.std.proofs.Common.{sym, ◌≤◌, ◌+◌, ◌*◌, ◌/◌, arith}
-use Rattle.fm_env.proofs.Rounded.{attacked-is}
-use Rattle.fm_env.proofs.value.attacked.Goals as goal
+use Rattle.fm_voice.proofs.Rounded.{attacked-is}
+use Rattle.fm_voice.proofs.envelope.value.attacked.Goals as goal
 
 pub returns-clause-value : goal.returns-clause-value
 returns-clause-value c =

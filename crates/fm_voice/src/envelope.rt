@@ -1,8 +1,12 @@
 ghost use Rattle.std.specs.Prelude.{◌≡◌, ◌<◌, ◌≤◌};
 
-use crate::state::EnvelopeState;
-use crate::step::step;
-use crate::value::{attacked, decayed, fallen};
+pub mod state;
+mod step;
+mod value;
+
+use state::EnvelopeState;
+use step::step;
+use value::{attacked, decayed, fallen};
 
 /// An attack at this rate or above is over at once.
 const AT_ONCE: u32 = 62;
@@ -22,8 +26,8 @@ pub struct Envelope {
 }
 
 impl Envelope {
-    ghost use Rattle.fm_env.specs.Envelopes as meaning;
-    ghost use Rattle.fm_env.specs.Envelopes.{plain};
+    ghost use Rattle.fm_voice.specs.Envelopes as meaning;
+    ghost use Rattle.fm_voice.specs.Envelopes.{plain};
 
     /// The state in which it steps at its next tick: decay where an attack is at 0.
     #[tactic(auto, unfolding(crate::specs::Envelopes::turned))]

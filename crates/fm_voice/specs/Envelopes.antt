@@ -3,10 +3,10 @@
 use Rattle.std.specs.Prelude.{ℕ, ◌+◌, ◌*◌, ◌==◌, nat_lt, nat_le, min, pos, neg_ℤ, ◌+ℤ◌, Bool, true, false, ◌&&◌, not, if◌then◌else◌}
 use Rattle.std.specs.Int.{int_div_euclid}
 use Rattle.std.specs.Int.RustNames.{unsigned_abs}
-use Rattle.fm_env.specs.declared.envelope.Envelope.{Envelope}
-use Rattle.fm_env.specs.declared.state.EnvelopeState.{EnvelopeState}
-use Rattle.fm_env.specs.declared.state.EnvelopeState.TheVariants.{Attack, Decay, Sustain, Release}
-use Rattle.fm_env.specs.Steps.{step}
+use Rattle.fm_voice.specs.declared.envelope.Envelope.{Envelope}
+use Rattle.fm_voice.specs.declared.envelope.state.EnvelopeState.{EnvelopeState}
+use Rattle.fm_voice.specs.declared.envelope.state.EnvelopeState.TheVariants.{Attack, Decay, Sustain, Release}
+use Rattle.fm_voice.specs.Steps.{step}
 
 -- an envelope as plain data
 pub record EnvelopeValue : Type 0 where

@@ -1,7 +1,7 @@
 // What a step makes of the attenuation in each state.
 
 ghost use Rattle.std.specs.Prelude.{◌≡◌, ◌<◌, ◌≤◌};
-ghost use Rattle.fm_env.specs.Envelopes as meaning;
+ghost use Rattle.fm_voice.specs.Envelopes as meaning;
 
 /// In attack the attenuation falls, by the more the higher it is.
 #[tactic(auto, unfolding(crate::specs::Envelopes::attacked))]

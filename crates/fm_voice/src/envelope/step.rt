@@ -1,5 +1,5 @@
 ghost use Rattle.std.specs.Prelude.{◌≡◌, ◌+◌, ◌*◌, ◌<◌, ◌≤◌, slice_index};
-ghost use Rattle.fm_env.specs.Steps as steps;
+ghost use Rattle.fm_voice.specs.Steps as steps;
 
 /// Eight rows of eight places: four rows for the rates below 48, four for those from 48 on.
 ///

@@ -1,7 +1,7 @@
 use Rattle.std.proofs.Common.{◌≡◌, ◌+◌, ◌*◌, slice_index, rules}
-use Rattle.fm_env.specs.Steps as steps
-use Rattle.fm_env.proofs.Tables.{rows_are_small}
-use Rattle.fm_env.proofs.step.row_entry.Goals as goal
+use Rattle.fm_voice.specs.Steps as steps
+use Rattle.fm_voice.proofs.Steps.{rows_are_small}
+use Rattle.fm_voice.proofs.envelope.step.row_entry.Goals as goal
 
 pub returns-clause-below : goal.returns-clause-below
 returns-clause-below c =
