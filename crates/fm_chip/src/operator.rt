@@ -7,8 +7,7 @@ ghost use Rattle.fm_voice.specs.Envelopes.{plain};
 use crate::lfo::gain;
 use crate::registers::{DETUNE_MULTIPLE, Registers, frequency_of, of_operator};
 use crate::shapes::Shape;
-use fm_voice::{Envelope, EnvelopeState};
-use fm_voice::step_of;
+use fm_voice::{Envelope, EnvelopeState, step_of};
 
 /// An operator. The registers are not its own: they come with each call.
 ///

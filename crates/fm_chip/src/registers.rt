@@ -5,8 +5,7 @@ ghost use Rattle.std.specs.Prelude.{◌≡◌, ◌+◌, ◌*◌, ◌/◌, ◌%�
 ghost use Rattle.fm_chip.specs.Registers as meaning;
 
 use crate::frequency::Frequency;
-use fm_voice::EnvelopeState;
-use fm_voice::key_code;
+use fm_voice::{EnvelopeState, key_code};
 
 /// The registers of both ports, 256 each.
 pub type Registers = [u8; 512];

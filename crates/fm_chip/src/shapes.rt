@@ -8,8 +8,7 @@ use crate::registers::{
     Registers, SCALE_ATTACK, TOTAL_LEVEL, TREMOLO_DECAY, frequency_of, of_operator, rate_value,
     rated, sustain_level,
 };
-use fm_voice::EnvelopeState;
-use fm_voice::key_code;
+use fm_voice::{EnvelopeState, key_code};
 
 /// What the registers say of an operator's envelope and level.
 ///

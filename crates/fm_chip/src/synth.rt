@@ -14,8 +14,8 @@ use crate::lfo::Lfo;
 use crate::mixing::{are_at_rest, rest_all, sample_all};
 use crate::operator::Operator;
 use crate::registers::Registers;
-use fm_voice::EnvelopeState;
 use fm_port::{FmList, FmWrite, RESET};
+use fm_voice::EnvelopeState;
 use md_word::clock::FM_SAMPLE;
 use std::marker::Model;
 

@@ -1,8 +1,7 @@
 // Parts of the FM chip by themselves, and the pair of both chips.
 ghost use Rattle.std.specs.Prelude.{◌<◌, IfOk};
 
-use fm_voice::{Envelope, EnvelopeState};
-use fm_voice::{channel, step_of, wave};
+use fm_voice::{Envelope, EnvelopeState, channel, step_of, wave};
 use md_files::mix;
 use row_lines::{RowError, decimal_of, parted, readable};
 use std::alloc::Global;
