@@ -26,7 +26,7 @@ pub fn bus_address(address: u32) -> u32
 
 /// A byte outside the shared addresses, before the instruction.
 #[tactic(auto, unfolding(crate::specs::Memory::byte_at))]
-fn byte_at(at: u32, rom: &[u8], ram: &[u8; RAM_SIZE]) -> u8
+pub fn byte_at(at: u32, rom: &[u8], ram: &[u8; RAM_SIZE]) -> u8
     ensures { result ≡ memory.byte_at rom.now ram.now at }
 {
     if at >= WORK_RAM {

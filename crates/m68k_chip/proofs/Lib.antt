@@ -3,6 +3,7 @@ pub mod Fitting
 pub mod Kept
 pub mod Iterations
 pub mod Laws
+pub mod Private
 pub mod Recent
 pub mod Repetitions
 pub mod Rested

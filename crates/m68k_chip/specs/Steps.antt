@@ -1,5 +1,5 @@
 -- What a step of the processor reports to the chip.
-use Rattle.std.specs.Prelude.{◌≡◌, ℕ, List, Option, Some, Result, Ok, Err}
+use Rattle.std.specs.Prelude.{◌≡◌, ℕ, false, List, [], Option, Some, None, Result, Ok, Err}
 use Rattle.md_word.specs.declared.main_bus.Request68.{Request68}
 use Rattle.md_word.specs.declared.regs.Regs.{Regs}
 use Rattle.m68k_exec.specs.Sample.Samples.{Ended}
@@ -21,6 +21,10 @@ ended_by finish regs writes = record {
   halted = finish.halted;
   trace = finish.trace;
 }
+
+-- after an instruction that neither stopped nor halted the processor, nor left a trace pending
+abbrev pub running : State68 → State68
+running state = record state { stopped = false; trace = false; halted = None; cause = 0; answers = [] }
 
 -- the request that waits, where one does
 abbrev pub IsReported : Result Ended Stop → Option Request68 → Type 0

@@ -1,18 +1,19 @@
 //! What the 68000 carries out: an instruction, a trace or an interrupt, up to its end or to an access.
-ghost use Rattle.std.specs.Prelude.{◌≡◌, ◌<◌, ℕ, List, [], Some, length};
+ghost use Rattle.std.specs.Prelude.{◌≡◌, ◌+◌, ◌*◌, ◌<◌, ℕ, List, [], Some, length};
 ghost use Rattle.md_word.specs.Clock.{cycle_limit};
 ghost use Rattle.m68k_time.specs.Clocks.{clocks_of};
 ghost use Rattle.m68k_access.specs.Memory.{ram_after};
 ghost use Rattle.m68k_exec.specs.Sample.Caches.{IsCacheOf};
 ghost use Rattle.m68k_chip.specs.Events as events;
 ghost use Rattle.m68k_chip.specs.Events.{carried_out, end_of, went_on};
-ghost use Rattle.m68k_chip.specs.Steps.{IsPredictedEnd, IsReported, ended_by};
+ghost use Rattle.m68k_chip.specs.Held.{IsPredicted, WaitsFor};
+ghost use Rattle.m68k_chip.specs.Steps.{IsPredictedEnd, IsReported, ended_by, running};
 ghost use Rattle.m68k_chip.specs.States.{state_of};
 
 use crate::sequencer::{STEP, Sequencer};
 use crate::stage::Stage;
 use m68k_access::memory::RAM_SIZE;
-use m68k_exec::{DecodeCache, Finish, Progress, Step, predict_cached};
+use m68k_exec::{DecodeCache, Finish, Progress, Step, predict_cached, run_private};
 use m68k_time::clocks;
 use md_word::Request68;
 use md_word::clock::MAIN_CLOCK;
@@ -64,7 +65,24 @@ impl Sequencer {
         self.rest(end);
     }
 
+    /// Ends an instruction that made no shared access and ended in no exception, by its clocks, from the registers
+    /// that it left.
+    #[inline(always)]
+    fn finish_private(&mut self, clocks: u32)
+        requires { self.old.start < cycle_limit }
+        ensures { (ram : List ℕ) → state_of self.new ram ≡ events.rested (running (state_of self.old ram)) (self.old.start + 7 * clocks) }
+    {
+        let end = self.start + MAIN_CLOCK * u64::from(clocks);
+        self.stopped = false;
+        self.trace = false;
+        self.halted = None;
+        self.cause = 0;
+        self.answers.clear();
+        self.rest(end);
+    }
+
     /// Continues with what is carried out, as far as the answers go.
+    #[inline(never)]
     #[tactic(auto, unfolding(crate::specs::Events::went_on))]
     pub fn go_on(
         &mut self,
@@ -112,5 +130,33 @@ impl Sequencer {
         self.regs = self.predicted.regs;
         let finish = self.predicted.finish;
         self.finish(&finish);
+    }
+
+    /// Begins the instruction at the program counter, up to its end or to its first shared access. One that makes
+    /// none may end at once.
+    #[inline(always)]
+    pub fn begin_instruction(
+        &mut self,
+        cart: &Cart,
+        ram: &mut [u8; RAM_SIZE],
+        cache: &mut DecodeCache,
+        progress: &mut Progress,
+    )
+        requires start { self.old.start < cycle_limit }
+        requires answers { self.old.answers.items ≡ [] }
+        requires cache { IsCacheOf cart.now cache.old }
+        ensures cache { IsCacheOf cart.now cache.new }
+        ensures state { state_of self.new ram.new ≡ went_on cart.now (state_of self.old ram.old) 0 [] }
+        ensures quiet { progress.new.writes.items ≡ [] → ram.new ≡ ram.old }
+        ensures waiting { WaitsFor self.new.stage cart.now (state_of self.new ram.new) self.new.request }
+        ensures predicted { IsPredicted self.new.stage cart.now (state_of self.new ram.new) self.new.predicted }
+    {
+        match run_private(&mut self.regs, cart, ram, cache) {
+            Some(clocks) => {
+                progress.restart(0);
+                self.finish_private(clocks);
+            }
+            None => self.go_on(0, cart, ram, cache, progress),
+        }
     }
 }

@@ -5,7 +5,7 @@ ghost use Rattle.md_word.specs.Clock.{cycle_limit};
 ghost use Rattle.m68k_exec.specs.Sample.Caches.{IsCacheOf};
 ghost use Rattle.m68k_chip.specs.Cases as cases;
 ghost use Rattle.m68k_chip.specs.Events as events;
-ghost use Rattle.m68k_chip.specs.Events.{begun};
+ghost use Rattle.m68k_chip.specs.Events.{begun, went_on};
 ghost use Rattle.m68k_chip.specs.Held.{IsPredicted, WaitsFor};
 ghost use Rattle.m68k_chip.specs.States.{state_of};
 
@@ -57,6 +57,32 @@ impl Sequencer {
         1 + steps
     }
 
+    /// Begins what a sample carries out: 0 the instruction, else the level of an interrupt, 8 a trace.
+    #[inline(always)]
+    fn begin_with(
+        &mut self,
+        cause: u8,
+        cart: &Cart,
+        ram: &mut [u8; RAM_SIZE],
+        cache: &mut DecodeCache,
+        progress: &mut Progress,
+    )
+        requires start { self.old.start < cycle_limit }
+        requires answers { self.old.answers.items ≡ [] }
+        requires cache { IsCacheOf cart.now cache.old }
+        ensures cache { IsCacheOf cart.now cache.new }
+        ensures state { state_of self.new ram.new ≡ went_on cart.now (state_of self.old ram.old) cause [] }
+        ensures quiet { progress.new.writes.items ≡ [] → ram.new ≡ ram.old }
+        ensures waiting { WaitsFor self.new.stage cart.now (state_of self.new ram.new) self.new.request }
+        ensures predicted { IsPredicted self.new.stage cart.now (state_of self.new ram.new) self.new.predicted }
+    {
+        if cause == 0 {
+            self.begin_instruction(cart, ram, cache, progress);
+        } else {
+            self.go_on(cause, cart, ram, cache, progress);
+        }
+    }
+
     /// Continues from a sample at this interrupt level to the next event.
     #[tactic(auto, unfolding(crate::specs::Events::begun))]
     pub fn begin(
@@ -77,7 +103,7 @@ impl Sequencer {
         ensures predicted { IsPredicted self.new.stage cart.now (state_of self.new ram.new) self.new.predicted }
     {
         match self.case_at(level).cause() {
-            Some(cause) => self.go_on(cause, cart, ram, cache, progress),
+            Some(cause) => self.begin_with(cause, cart, ram, cache, progress),
             None => self.wait(),
         }
     }

@@ -47,6 +47,7 @@ entry-decoded address memory found at right = λ fixed ram answers. record {
   first = right.first ∙ ap (λ (words : List ℕ). opcode words) (words-fixed address memory ram answers (subst IsFixed at fixed)) ∙ sym (ap (λ (n : ℕ). opcode (instruction_words n (record { rom = memory.rom; ram = ram; answers = answers }))) at);
   decoded = right.decoded ∙ ap (λ (words : List ℕ). instruction_of words) (words-fixed address memory ram answers (subst IsFixed at fixed)) ∙ sym (ap (λ (n : ℕ). instruction_of (instruction_words n (record { rom = memory.rom; ram = ram; answers = answers }))) at);
   instruction = right.instruction;
+  clocks = right.clocks;
 }
 
 -- what stands for a place of none does not matter where there is one
@@ -76,3 +77,10 @@ pub entry-taken : (address : ℕ) (memory : Memory) (cache : DecodeCache) (other
 entry-taken address memory cache other entries place same there right =
     subst (λ (n : ℕ). IsInstructionAt address memory (slice_index_or entries n other)) (sym there)
     (subst (λ (list : List CachedInstruction). IsInstructionAt address memory (slice_index_or list (place_of address) other)) (sym same) (right other))
+
+-- what is read is the instruction at an address in the cartridge, if it has this address
+pub entry-kept : (address : ℕ) (memory : Memory) (cache : DecodeCache) (other : CachedInstruction) (entries : List CachedInstruction) (place : ℕ) → IsCacheOf memory.rom cache → entries ≡ cache.entries.value → place ≡ place_of address
+    → (slice_index_or entries place other).address ≡ address → IsFixed address → IsInstructionAt address memory (slice_index_or entries place other)
+entry-kept address memory cache other entries place right same there at fixed =
+    entry-taken address memory cache other entries place same there
+    (λ blank. entry-found address memory cache blank right (entry-read address cache blank other entries place right.long same there at) fixed)

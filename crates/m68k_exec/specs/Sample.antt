@@ -5,4 +5,5 @@ pub mod Entries
 pub mod Execution
 pub mod Prediction
 pub mod Groups
+pub mod Private
 pub mod Samples

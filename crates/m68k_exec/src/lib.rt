@@ -11,4 +11,4 @@ pub use m68k_access::memory::word_at;
 use m68k_access::{Context, Outcome, Stop};
 pub use sample::cache::DecodeCache;
 pub use sample::step::{Finish, Predicted, Step};
-pub use sample::{go, predict, predict_cached};
+pub use sample::{go, predict, predict_cached, run_private};

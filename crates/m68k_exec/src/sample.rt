@@ -13,6 +13,7 @@ mod ends;
 mod entry;
 mod exception;
 mod execution;
+mod private;
 pub mod step;
 
 use crate::{Context, Predicted, Progress, Step};
@@ -22,6 +23,7 @@ use causes::{instruction, interrupt, trace};
 use m68k_access::memory::{RAM_SIZE, instruction_words};
 use m68k_decode::{Decoded, Op, decode_into};
 use md_word::Regs;
+pub use private::run_private;
 use rom_header::Cart;
 
 /// The sample of this cause, with the instruction at the program counter and its first word.

@@ -1,18 +1,25 @@
 -- Instructions of a cartridge that are kept decoded.
-use Rattle.std.specs.Prelude.{◌≡◌, ℕ, ◌/◌, ◌%◌, ◌<◌, List, length, slice_index_or}
+use Rattle.std.specs.Prelude.{◌≡◌, ℕ, ◌/◌, ◌%◌, ◌<◌, false, List, length, slice_index_or}
 use Rattle.std.specs.List.{All}
+use Rattle.md_word.specs.declared.spent.Spent.{Spent}
 use Rattle.m68k_decode.specs.Fields.{opcode}
 use Rattle.m68k_decode.specs.Instructions.{instruction_of}
 use Rattle.m68k_decode.specs.Ops.{IsInstruction}
+use Rattle.m68k_time.specs.Clocks.{clocks_of}
 use Rattle.m68k_access.specs.Memory.{Memory, instruction_words}
 use Rattle.m68k_exec.specs.declared.sample.cache.CachedInstruction.{CachedInstruction}
 use Rattle.m68k_exec.specs.declared.sample.cache.DecodeCache.{DecodeCache}
 
--- this is the instruction at an address, with its first word
+-- what an instruction met that took no branch and counted nothing
+abbrev pub unspent : Spent
+unspent = record { taken = false; expired = false; count = 0; cause = 0; accesses = 0 }
+
+-- this is the instruction at an address, with its first word and its clocks
 pub record IsInstructionAt (address : ℕ) (memory : Memory) (found : CachedInstruction) : Type 0 where
   pub first : found.first ≡ opcode (instruction_words address memory)
   pub decoded : found.decoded ≡ instruction_of (instruction_words address memory)
   pub instruction : IsInstruction found.decoded
+  pub clocks : found.clocks ≡ clocks_of found.decoded.op unspent
 
 -- no word of an instruction at this address lies in work RAM
 abbrev pub IsFixed : ℕ → Type 0

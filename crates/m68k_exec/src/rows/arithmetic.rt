@@ -14,7 +14,7 @@ use md_word::{Mode, Regs, Size, Task, extend};
 
 /// Adds to or subtracts from the whole of an address register, and leaves the flags.
 #[tactic(auto, unfolding(crate::specs::Rows::Arithmetic::change_address))]
-fn change_address(task: Task, value: u32, number: u8, regs: &mut Regs) -> Outcome
+pub fn change_address(task: Task, value: u32, number: u8, regs: &mut Regs) -> Outcome
     requires { number < 8 }
     ensures { outcome_of result regs.new ≡ arithmetic.change_address task value number regs.old }
 {

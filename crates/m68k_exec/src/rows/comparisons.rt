@@ -13,7 +13,7 @@ use md_word::{Mode, Regs, Size, Task, extend};
 
 /// Sets the flags by the target less the source.
 #[tactic(auto, unfolding(crate::specs::Rows::Comparisons::compared))]
-fn compared(size: Size, source: u32, target: u32, regs: &mut Regs) -> Outcome
+pub fn compared(size: Size, source: u32, target: u32, regs: &mut Regs) -> Outcome
     requires source { source < modulus_of size }
     requires target { target < modulus_of size }
     ensures { outcome_of result regs.new ≡ comparisons.compared size source target regs.old }

@@ -14,7 +14,7 @@ use m68k_alu::compute;
 use md_word::{Mode, Regs, Size, Task};
 
 /// Where the target's words are: after the number.
-fn after_number(size: Size, start: u32) -> u32
+pub fn after_number(size: Size, start: u32) -> u32
     ensures { result ≡ immediates.after_number size start }
 {
     match size {

@@ -1,4 +1,4 @@
-ghost use Rattle.std.specs.Prelude.{◌≡◌, ℕ, List, IfOk};
+ghost use Rattle.std.specs.Prelude.{◌≡◌, ℕ, List, IfOk, IfSome};
 ghost use Rattle.m68k_access.specs.Clauses.{memory_of};
 ghost use Rattle.m68k_exec.specs.Sample.Caches.{IsCacheOf, IsInstructionAt, entry_of, place_of};
 ghost use Rattle.m68k_exec.specs.declared.sample.cache.CachedInstruction.{CachedInstruction};
@@ -6,7 +6,8 @@ ghost use Rattle.m68k_exec.specs.declared.sample.cache.CachedInstruction.{Cached
 use crate::Context;
 use m68k_access::memory::{WORK_RAM, bus_address, instruction_words};
 use m68k_decode::{Decoded, Op, decode_into};
-use md_word::{Mode, NoMemory, Size, Task};
+use m68k_time::clocks;
+use md_word::{Mode, NoMemory, Size, Spent, Task};
 use std::alloc::Global;
 
 /// How many entries a cache has.
@@ -20,8 +21,19 @@ const NOWHERE: u32 = 0xffff_ffff;
 pub struct CachedInstruction {
     pub address: u32,
     pub first: u16,
+    /// What it takes where no branch is taken and nothing is counted.
+    pub clocks: u8,
     pub decoded: Decoded,
 }
+
+/// What an instruction met that took no branch and counted nothing.
+const UNSPENT: Spent = Spent {
+    taken: false,
+    expired: false,
+    count: 0,
+    cause: 0,
+    accesses: 0,
+};
 
 /// Decoded instructions of a cartridge, which never changes: each in the entry that its address names, so
 /// that those of 8 KiB in a row are kept together.
@@ -52,6 +64,7 @@ fn decode_at(address: u32, context: &Context) -> CachedInstruction
     CachedInstruction {
         address,
         first: words[0],
+        clocks: clocks(&decoded.op, UNSPENT) as u8,
         decoded,
     }
 }
@@ -65,6 +78,7 @@ impl DecodeCache {
         let zeros = CachedInstruction {
             address: 0,
             first: 0,
+            clocks: 0,
             decoded: Decoded {
                 op: Op::Immediate(Task::Abcd, Size::Byte, 0, Mode::Data(0)),
                 length: 0,
@@ -73,6 +87,7 @@ impl DecodeCache {
         let nothing = CachedInstruction {
             address: NOWHERE,
             first: 0,
+            clocks: 0,
             decoded: Decoded {
                 op: Op::Nop,
                 length: 2,
@@ -117,5 +132,19 @@ impl DecodeCache {
         ensures { IsInstructionAt address (memory_of context.now) result.now }
     {
         &self.entries[place_of(address)]
+    }
+
+    /// The instruction at an address in the cartridge, if its entry has it.
+    #[inline(always)]
+    pub(crate) fn find(&self, address: u32, context: &Context) -> Option<&CachedInstruction>
+        requires { IsCacheOf context.now.rom.now self.now }
+        ensures { IfSome result (λ found. IsInstructionAt address (memory_of context.now) found.now) }
+    {
+        let found = &self.entries[place_of(address)];
+        if found.address == address && bus_address(address) < WORK_RAM - 10 {
+            Some(found)
+        } else {
+            None
+        }
     }
 }

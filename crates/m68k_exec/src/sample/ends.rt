@@ -16,7 +16,7 @@ use md_word::{Regs, Spent, TRACE};
 
 /// Whether an instruction that began with these registers and ended in this exception, 0 for none,
 /// leaves a trace pending.
-fn leaves_trace(regs: &Regs, vector: u8) -> bool
+pub(super) fn leaves_trace(regs: &Regs, vector: u8) -> bool
     ensures { result ≡ samples.leaves_trace regs.now vector }
 {
     let sr = regs.sr;

@@ -3,12 +3,8 @@ use Rattle.m68k_chip.specs.Cases.{cause_of}
 use Rattle.m68k_chip.specs.Events.{begun, begun_with}
 use Rattle.m68k_chip.specs.States.{state_of}
 use Rattle.m68k_chip.specs.declared.case.Case.{Case}
-use Rattle.m68k_chip.proofs.Waiting.{waited-predicted, waited-waits, went-predicted, went-waits}
+use Rattle.m68k_chip.proofs.Waiting.{waited-predicted, waited-waits}
 use Rattle.m68k_chip.proofs.sequencer.Sequencer.begin.Goals as goal
-
-pub returns-in-Some-clause-waiting : goal.returns-in-Some-clause-waiting
-returns-in-Some-clause-waiting c =
-    went-waits c.args.cart.now (state_of c.args.self.now c.args.ram.now) c.in-Some.cause c.args.self.now.answers.items _ _ c.go_on.ensures.state c.go_on.ensures.reported
 
 pub returns-in-None-clause-state : goal.returns-in-None-clause-state
 unfolding begun
@@ -20,10 +16,6 @@ returns-in-None-clause-state c =
 pub returns-in-None-clause-waiting : goal.returns-in-None-clause-waiting
 returns-in-None-clause-waiting c =
     waited-waits c.args.cart.now (state_of c.args.self.now c.args.ram.now) _ c.wait.new.self.request (c.wait.ensures c.args.ram.now)
-
-pub returns-in-Some-clause-predicted : goal.returns-in-Some-clause-predicted
-returns-in-Some-clause-predicted c =
-    went-predicted c.args.cart.now (state_of c.args.self.now c.args.ram.now) c.in-Some.cause c.args.self.now.answers.items _ _ c.go_on.ensures.state c.go_on.ensures.predicted_end
 
 pub returns-in-None-clause-predicted : goal.returns-in-None-clause-predicted
 returns-in-None-clause-predicted c =

@@ -1,0 +1,65 @@
+-- Instructions that make no shared access and end in no exception: what they result in depends on the registers,
+-- the cartridge and work RAM alone.
+-- M68000 User's Manual, section 8.
+use Rattle.std.specs.Prelude.{◌≡◌, ℕ, Bool, true, false, List, Option, Some, None, Result, Ok}
+use Rattle.md_word.specs.Answers.{Done}
+use Rattle.md_word.specs.declared.regs.Regs.{Regs}
+use Rattle.m68k_decode.specs.declared.op.Op.{Op}
+use Rattle.m68k_time.specs.Clocks.{clocks_of}
+use Rattle.m68k_access.specs.Actions.{Act}
+use Rattle.m68k_access.specs.Memory.{Memory}
+use Rattle.m68k_access.specs.Operands.{Operand}
+use Rattle.m68k_access.specs.Outcomes.{Outcome, plain}
+use Rattle.m68k_access.specs.declared.stop.Stop.{Stop}
+use Rattle.m68k_exec.specs.Sample.Samples.{Ended, finished, nothing}
+
+-- in this memory an action gives this, and does nothing
+abbrev pub Reads : {A : Type 0} → Act A → A → Memory → Type 0
+Reads act value memory = act memory nothing ≡ Ok (value, nothing)
+
+-- an operand that is found is what the action reads, which leaves these registers; else they stay
+abbrev pub Finds : Option ℕ → Act Operand → Regs → Regs → Memory → Type 0
+Finds (Some value) act old new memory = Reads act (record { value = value; regs = new }) memory
+Finds None act old new memory = new ≡ old
+
+-- an instruction that was carried out, with nothing to report but its registers; else they stay
+abbrev pub Changes : Bool → Act Outcome → Regs → Regs → Memory → Type 0
+Changes true act old new memory = act memory nothing ≡ Ok (plain new, nothing)
+Changes false act old new memory = new ≡ old
+
+-- the clocks of an instruction that was carried out
+abbrev pub took : ℕ → Bool → Option ℕ
+took clocks true = Some clocks
+took clocks false = None
+
+-- in this memory an instruction ends with these registers and with this done, in no exception and not stopped, and
+-- takes these clocks
+pub record IsPrivate (op : Op) (act : Act Outcome) (clocks : ℕ) (regs : Regs) (memory : Memory) (done : Done) : Type 0 where
+  pub outcome : Outcome
+  pub gives : act memory nothing ≡ Ok (outcome, done)
+  pub leaves : outcome.regs ≡ regs
+  pub vector : outcome.vector ≡ 0
+  pub stopped : outcome.stopped ≡ false
+  pub takes : clocks ≡ clocks_of op (finished op regs outcome done).spent
+
+-- an instruction that was carried out, in these clocks; else the registers stay
+abbrev pub CarriesOut : Option ℕ → Op → Act Outcome → Regs → Regs → Memory → Done → Type 0
+CarriesOut (Some clocks) op act old new memory done = IsPrivate op act clocks new memory done
+CarriesOut None op act old new memory done = new ≡ old
+
+-- in this memory a sample ends with these registers and these bytes written, neither stopped nor halted, with no trace
+-- pending, and takes these clocks
+pub record EndsPrivately (sample : Memory → Result Ended Stop) (clocks : ℕ) (regs : Regs) (written : List (ℕ × ℕ)) (memory : Memory) : Type 0 where
+  pub ended : Ended
+  pub ends : sample memory ≡ Ok ended
+  pub leaves : ended.regs ≡ regs
+  pub writes : ended.writes ≡ written
+  pub stopped : ended.stopped ≡ false
+  pub halted : ended.halted ≡ false
+  pub trace : ended.trace ≡ false
+  pub takes : clocks ≡ clocks_of ended.op ended.spent
+
+-- a sample that ended, in these clocks; else the registers stay
+abbrev pub RunsPrivately : Option ℕ → (Memory → Result Ended Stop) → Regs → Regs → List (ℕ × ℕ) → Memory → Type 0
+RunsPrivately (Some clocks) sample old new written memory = EndsPrivately sample clocks new written memory
+RunsPrivately None sample old new written memory = new ≡ old
