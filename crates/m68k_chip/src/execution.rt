@@ -151,9 +151,9 @@ impl Sequencer {
         ensures waiting { WaitsFor self.new.stage cart.now (state_of self.new ram.new) self.new.request }
         ensures predicted { IsPredicted self.new.stage cart.now (state_of self.new ram.new) self.new.predicted }
     {
-        match run_private(&mut self.regs, cart, ram, cache) {
+        match run_private(&mut self.regs, cart, ram, cache, progress) {
             Some(clocks) => {
-                progress.restart(0);
+                store_all(progress.writes.as_slice(), ram);
                 self.finish_private(clocks);
             }
             None => self.go_on(0, cart, ram, cache, progress),

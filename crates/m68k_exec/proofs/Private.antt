@@ -1,5 +1,5 @@
 -- Instructions that make no shared access and end in no exception.
-use Rattle.std.proofs.Common.{◌≡◌, ℕ, ◌+◌, ◌*◌, ◌%◌, ◌^◌, ◌==◌, ◌∙◌, Bool, true, false, List, Option, Some, None, Ok, cond, refl, sym, ap, arith}
+use Rattle.std.proofs.Common.{◌≡◌, ℕ, ◌+◌, ◌*◌, ◌%◌, ◌^◌, ◌==◌, ◌∙◌, Bool, true, false, List, [], length, Option, Some, None, Ok, cond, refl, sym, ap, arith}
 use Rattle.std.specs.Prelude.{if◌then◌else◌}
 use Rattle.md_word.specs.Answers.{Done}
 use Rattle.md_word.specs.Fields.{flags_of, register_of}
@@ -7,7 +7,7 @@ use Rattle.md_word.specs.Width.{extended}
 use Rattle.md_word.specs.declared.mode.Mode.{Mode}
 use Rattle.md_word.specs.declared.regs.Regs.{Regs}
 use Rattle.md_word.specs.declared.size.Size.{Size}
-use Rattle.md_word.specs.declared.size.Size.TheVariants.{Word}
+use Rattle.md_word.specs.declared.size.Size.TheVariants.{Long, Word}
 use Rattle.md_word.specs.declared.task.Task.{Task}
 use Rattle.m68k_decode.specs.Fields.{opcode}
 use Rattle.m68k_decode.specs.Instructions.{instruction_of}
@@ -16,22 +16,24 @@ use Rattle.m68k_decode.specs.declared.decoded.Decoded.{Decoded}
 use Rattle.m68k_decode.specs.declared.displacement.Displacement.{Displacement}
 use Rattle.m68k_decode.specs.declared.op.Op.{Op}
 use Rattle.m68k_decode.specs.declared.op.Op.TheVariants as ops
+use Rattle.m68k_ea.specs.Addresses.{effective_address}
 use Rattle.m68k_time.specs.Clocks.{clocks_of, passed_time}
 use Rattle.m68k_access.specs.Actions.{Act, give, is_odd}
 use Rattle.m68k_access.specs.Conditions.{holds}
 use Rattle.m68k_access.specs.Memory.{Memory, instruction_words}
-use Rattle.m68k_access.specs.Operands.{with_part}
+use Rattle.m68k_access.specs.Operands.{pull, push, with_part}
 use Rattle.m68k_access.specs.Outcomes.{Outcome, plain}
-use Rattle.m68k_access.specs.Shapes.{change_data}
+use Rattle.m68k_access.specs.Shapes.{change_data, following, jump_to}
 use Rattle.m68k_exec.specs.Rows.Branches as branches
 use Rattle.m68k_exec.specs.Rows.Control as control
 use Rattle.m68k_exec.specs.Rows.Shifts as shifts
 use Rattle.m68k_exec.specs.Sample.Caches.{IsInstructionAt, unspent}
 use Rattle.m68k_exec.specs.Sample.Execution.{row}
-use Rattle.m68k_exec.specs.Sample.Private.{CarriesOut, Changes, EndsPrivately, IsPrivate, RunsPrivately, took}
+use Rattle.m68k_exec.specs.Sample.Private.{CarriesOut, Changes, EndsPrivately, IsPrivate, Reads, RunsPrivately, Stores, took}
 use Rattle.m68k_exec.specs.Sample.Samples as samples
 use Rattle.m68k_exec.specs.Sample.Samples.{Ended, finished, leaves_trace, nothing}
 use Rattle.m68k_exec.specs.declared.sample.cache.CachedInstruction.{CachedInstruction}
+use Rattle.m68k_exec.proofs.Bounds.Early.{row32}
 
 -- an outcome with neither an exception nor a stop
 pub record IsQuiet (outcome : Outcome) : Type 0 where
@@ -54,6 +56,25 @@ given op act outcome reported clocks memory gives same quiet takes = record {
 pub changes : (done : Bool) (op : Op) (act : Act Outcome) (clocks : ℕ) (old new : Regs) (memory : Memory) → Changes done act old new memory → clocks ≡ clocks_of op unspent → CarriesOut (took clocks done) op act old new memory nothing
 changes true op act clocks old new memory gives takes = record { outcome = plain new; gives = gives; leaves = refl; vector = refl; stopped = refl; takes = takes }
 changes false op act clocks old new memory stays takes = stays
+
+-- an instruction takes no answer where there is none
+none-taken : (op : Op) (start : ℕ) (regs : Regs) (memory : Memory) (outcome : Outcome) (done : Done) → memory.answers ≡ [] → row op start regs memory nothing ≡ Ok (outcome, done) → done.used ≡ 0
+none-taken op start regs memory outcome done none e =
+    let taken = (row32 op start regs).value memory nothing outcome done e (omega arith) in
+    omega (arith, taken.1, ap length none)
+
+-- a row that was carried out with nothing to report but its registers and what it wrote
+pub stores-takes : (carried : Bool) (op : Op) (start clocks : ℕ) (old new : Regs) (memory : Memory) (done : Done) → memory.answers ≡ [] → Stores carried (row op start old) old new memory done → clocks ≡ clocks_of op unspent
+    → CarriesOut (took clocks carried) op (row op start old) old new memory done
+stores-takes true op start clocks old new memory done none gives takes = record {
+  outcome = plain new;
+  gives = gives;
+  leaves = refl;
+  vector = refl;
+  stopped = refl;
+  takes = takes ∙ ap (λ (n : ℕ). clocks_of op (record unspent { accesses = n })) (sym (none-taken op start old memory (plain new) done none gives));
+}
+stores-takes false op start clocks old new memory done none stays takes = stays
 
 -- ---- branches
 
@@ -116,6 +137,44 @@ pub dbcc-ends : (condition : Condition) (n by start clocks : ℕ) (old : Regs) (
     → (memory : Memory) → IsPrivate (ops.Dbcc condition n by) (row (ops.Dbcc condition n by) start old) clocks reported.regs memory nothing
 dbcc-ends condition n by start clocks old reported same takes memory =
     given (ops.Dbcc condition n by) (row (ops.Dbcc condition n by) start old) (branches.dbcc condition n by start old) reported clocks memory refl same (dbcc-quiet condition n by start old) takes
+
+-- ---- calls
+
+pub bsr-ends : (displacement : Displacement) (start clocks : ℕ) (old mid : Regs) (reported : Outcome) (memory : Memory) (done : Done) → push Long old.pc old memory nothing ≡ Ok (mid, done) → reported ≡ branches.bra displacement start mid
+    → clocks ≡ clocks_of (ops.Bsr displacement) unspent → IsPrivate (ops.Bsr displacement) (row (ops.Bsr displacement) start old) clocks reported.regs memory done
+unfolding branches.bsr branches.bra
+bsr-ends displacement start clocks old mid reported memory done pushes same takes = record {
+  outcome = reported;
+  gives = rw pushes (ap (λ (o : Outcome). Ok (o, done)) (sym same));
+  leaves = refl;
+  vector = ap (λ (o : Outcome). o.vector) same ∙ (bra-quiet displacement start mid).vector;
+  stopped = ap (λ (o : Outcome). o.stopped) same ∙ (bra-quiet displacement start mid).stopped;
+  takes = takes;
+}
+
+pub jsr-ends : (mode : Mode) (start clocks target : ℕ) (old mid : Regs) (memory : Memory) (done : Done) → push Long old.pc old memory nothing ≡ Ok (mid, done) → target ≡ effective_address mode Long old (following start 2)
+    → clocks ≡ clocks_of (ops.Jsr mode) unspent → IsPrivate (ops.Jsr mode) (row (ops.Jsr mode) start old) clocks (record mid { pc = target }) memory done
+unfolding control.jsr
+jsr-ends mode start clocks target old mid memory done pushes is takes = record {
+  outcome = jump_to target mid;
+  gives = rw pushes (rw is refl);
+  leaves = refl;
+  vector = refl;
+  stopped = refl;
+  takes = takes;
+}
+
+pub rts-ends : (start clocks target : ℕ) (old mid : Regs) (memory : Memory) → Reads (pull Long old) (record { value = target; regs = mid }) memory → clocks ≡ clocks_of ops.Rts unspent
+    → IsPrivate ops.Rts (row ops.Rts start old) clocks (record mid { pc = target }) memory nothing
+unfolding control.rts
+rts-ends start clocks target old mid memory pulls takes = record {
+  outcome = jump_to target mid;
+  gives = rw pulls refl;
+  leaves = refl;
+  vector = refl;
+  stopped = refl;
+  takes = takes;
+}
 
 -- ---- shifts
 

@@ -22,10 +22,19 @@ abbrev pub Finds : Option ℕ → Act Operand → Regs → Regs → Memory → T
 Finds (Some value) act old new memory = Reads act (record { value = value; regs = new }) memory
 Finds None act old new memory = new ≡ old
 
--- an instruction that was carried out, with nothing to report but its registers; else they stay
+-- what is put somewhere, with these registers and this done; else the registers stay
+abbrev pub Puts : Bool → Act Regs → Regs → Regs → Memory → Done → Type 0
+Puts true act old new memory done = act memory nothing ≡ Ok (new, done)
+Puts false act old new memory done = new ≡ old
+
+-- an instruction that was carried out, with nothing to report but its registers and this done; else the registers stay
+abbrev pub Stores : Bool → Act Outcome → Regs → Regs → Memory → Done → Type 0
+Stores true act old new memory done = act memory nothing ≡ Ok (plain new, done)
+Stores false act old new memory done = new ≡ old
+
+-- the same of an instruction that writes nothing
 abbrev pub Changes : Bool → Act Outcome → Regs → Regs → Memory → Type 0
-Changes true act old new memory = act memory nothing ≡ Ok (plain new, nothing)
-Changes false act old new memory = new ≡ old
+Changes carried act old new memory = Stores carried act old new memory nothing
 
 -- the clocks of an instruction that was carried out
 abbrev pub took : ℕ → Bool → Option ℕ

@@ -20,7 +20,7 @@ use md_word::{Flags, Mode, Regs, Size, Task, extend};
 
 /// Where the target's words are: after the source's.
 #[inline(always)]
-fn after_source(size: Size, source: Mode, start: u32) -> u32
+pub fn after_source(size: Size, source: Mode, start: u32) -> u32
     ensures { result ≡ moves.after_source size source start }
 {
     match source {

@@ -1,174 +1,28 @@
 //! Instructions that make no shared access and end in no exception, carried out at once.
-ghost use Rattle.std.specs.Prelude.{◌≡◌, ◌%◌, ◌<◌, ℕ, [], false};
+ghost use Rattle.std.specs.Prelude.{◌≡◌, ◌%◌, ◌<◌, [], false};
 ghost use Rattle.m68k_decode.specs.Ops.{IsInstruction, IsOp};
 ghost use Rattle.m68k_time.specs.Clocks.{clocks_of};
-ghost use Rattle.m68k_access.specs.Clauses.{memory_of};
-ghost use Rattle.m68k_access.specs.Memory.{Memory};
+ghost use Rattle.m68k_access.specs.Clauses.{done_of, memory_of};
 ghost use Rattle.m68k_exec.specs.Sample.Caches.{IsCacheOf, unspent};
 ghost use Rattle.m68k_exec.specs.Sample.Execution as execution;
-ghost use Rattle.m68k_exec.specs.Sample.Private.{CarriesOut, Changes, RunsPrivately, took};
+ghost use Rattle.m68k_exec.specs.Sample.Private.{CarriesOut, RunsPrivately, took};
 ghost use Rattle.m68k_exec.specs.Sample.Samples as samples;
 ghost use Rattle.m68k_exec.specs.Sample.Samples.{nothing};
 
+mod groups;
 mod operands;
 mod rows;
+mod stores;
 
 use super::cache::{CachedInstruction, DecodeCache};
 use super::ends::leaves_trace;
-use crate::Context;
-use crate::rows::branches::{bcc, bra, dbcc};
-use crate::rows::control::jmp;
-use crate::rows::links::lea;
-use crate::rows::registers::{exg, moveq};
-use crate::rows::shifts::{shift_by_number, shift_by_register};
-use crate::rows::single::{ext, swap};
+use crate::{Context, Progress};
+use groups::{branch, moves, registers, shift, sums};
 use m68k_access::memory::RAM_SIZE;
 use m68k_decode::Op;
 use md_word::{Mode, Regs};
 use rom_header::Cart;
-use rows::{
-    cmp, cmpa, compare_immediate, immediate, move_address, move_to_data, quick, to_address,
-    to_register, tst, unary,
-};
-
-/// The clocks of Bcc and DBcc where the branch is taken, and of DBcc where its counter expires.
-const TAKEN: u32 = 10;
-
-const EXPIRED: u32 = 14;
-
-/// Carries out a branch or a jump, or answers None. On entry the program counter is after it, and `clocks` is
-/// what it takes where no branch is taken. Answers the clocks that it took.
-#[inline(never)]
-fn branch(op: &Op, clocks: u32, start: u32, regs: &mut Regs) -> Option<u32>
-    requires operands { IsOp op.now }
-    requires clocks { clocks ≡ clocks_of op.now unspent }
-    ensures { (memory : Memory) → CarriesOut result op.now (execution.row op.now start regs.old) regs.old regs.new memory nothing }
-{
-    match *op {
-        Op::Nop => Some(clocks),
-        Op::Jmp(mode) => {
-            let _outcome = jmp(mode, start, regs);
-            Some(clocks)
-        }
-        Op::Bra(displacement) => {
-            let _outcome = bra(displacement, start, regs);
-            Some(clocks)
-        }
-        Op::Bcc(condition, displacement) => {
-            let outcome = bcc(condition, displacement, start, regs);
-            Some(if outcome.taken { TAKEN } else { clocks })
-        }
-        Op::Dbcc(condition, number, by) => {
-            let outcome = dbcc(condition, number, by, start, regs);
-            Some(
-                if outcome.expired {
-                    EXPIRED
-                } else if outcome.taken {
-                    TAKEN
-                } else {
-                    clocks
-                },
-            )
-        }
-        _ => None,
-    }
-}
-
-/// Carries out MOVE to a data register, MOVEA, MOVEQ, LEA or TST; answers whether it did.
-#[inline(never)]
-fn moves(op: &Op, start: u32, context: &Context, regs: &mut Regs) -> bool
-    requires operands { IsOp op.now }
-    ensures { Changes result (execution.row op.now start regs.old) regs.old regs.new (memory_of context.now) }
-{
-    match *op {
-        Op::Move(size, source, Mode::Data(number)) => {
-            move_to_data(size, source, number, start, context, regs)
-        }
-        Op::Movea(size, number, mode) => move_address(size, number, mode, start, context, regs),
-        Op::Moveq(number, byte) => {
-            let _outcome = moveq(number, byte, regs);
-            true
-        }
-        Op::Lea(number, mode) => {
-            let _outcome = lea(number, mode, start, regs);
-            true
-        }
-        Op::Tst(size, mode) => tst(size, mode, start, context, regs),
-        _ => false,
-    }
-}
-
-/// Carries out a sum, a difference, a comparison or a logical operation with a register, or CMPI; answers whether it
-/// did.
-#[inline(never)]
-fn sums(op: &Op, start: u32, context: &Context, regs: &mut Regs) -> bool
-    requires operands { IsOp op.now }
-    ensures { Changes result (execution.row op.now start regs.old) regs.old regs.new (memory_of context.now) }
-{
-    match *op {
-        Op::ToRegister(task, size, number, mode) => {
-            to_register(task, size, number, mode, start, context, regs)
-        }
-        Op::ToAddress(task, size, number, mode) => {
-            to_address(task, size, number, mode, start, context, regs)
-        }
-        Op::Cmp(size, number, mode) => cmp(size, number, mode, start, context, regs),
-        Op::Cmpa(size, number, mode) => cmpa(size, number, mode, start, context, regs),
-        Op::CompareImmediate(size, number, mode) => {
-            compare_immediate(size, number, mode, start, context, regs)
-        }
-        _ => false,
-    }
-}
-
-/// Carries out an operation on a data register with a number or with nothing else, ADDQ or SUBQ of an address
-/// register, SWAP, EXT or EXG; answers whether it did.
-#[inline(never)]
-fn registers(op: &Op, start: u32, regs: &mut Regs) -> bool
-    requires operands { IsOp op.now }
-    ensures { (memory : Memory) → Changes result (execution.row op.now start regs.old) regs.old regs.new memory }
-{
-    match *op {
-        Op::Quick(task, size, value, mode) => quick(task, size, value, mode, start, regs),
-        Op::Immediate(task, size, value, mode) => immediate(task, size, value, mode, start, regs),
-        Op::Unary(task, size, mode) => unary(task, size, mode, start, regs),
-        Op::Swap(number) => {
-            let _outcome = swap(number, regs);
-            true
-        }
-        Op::Ext(size, number) => {
-            let _outcome = ext(size, number, regs);
-            true
-        }
-        Op::Exg(first, second) => {
-            let _outcome = exg(first, second, regs);
-            true
-        }
-        _ => false,
-    }
-}
-
-/// Carries out a shift of a data register, or answers None. `clocks` is what it takes by no place. Answers the clocks
-/// that it took.
-#[inline(never)]
-fn shift(op: &Op, clocks: u32, start: u32, regs: &mut Regs) -> Option<u32>
-    requires operands { IsOp op.now }
-    requires clocks { clocks ≡ clocks_of op.now unspent }
-    requires few { clocks < 256 }
-    ensures { (memory : Memory) → CarriesOut result op.now (execution.row op.now start regs.old) regs.old regs.new memory nothing }
-{
-    match *op {
-        Op::ShiftByNumber(task, size, count, number) => {
-            let outcome = shift_by_number(task, size, count, number, regs);
-            Some(clocks + 2 * u32::from(outcome.count))
-        }
-        Op::ShiftByRegister(task, size, first, second) => {
-            let outcome = shift_by_register(task, size, first, second, regs);
-            Some(clocks + 2 * u32::from(outcome.count))
-        }
-        _ => None,
-    }
-}
+use stores::{call, stores};
 
 /// The clocks of an instruction that was carried out.
 #[inline(always)]
@@ -212,56 +66,93 @@ fn execute(op: &Op, clocks: u32, start: u32, context: &Context, regs: &mut Regs)
     }
 }
 
-/// The instruction that was decoded at the program counter, where it makes no shared access; else nothing changes.
+/// Carries out an instruction that writes work RAM alone, or answers None. On entry the program counter is after it,
+/// and `clocks` is what it takes. Answers its clocks; the bytes that it writes are in `progress`.
 #[inline(always)]
-fn run(found: &CachedInstruction, context: &Context, regs: &mut Regs) -> Option<u32>
+fn execute_store(
+    op: &Op,
+    clocks: u32,
+    start: u32,
+    context: &Context,
+    regs: &mut Regs,
+    progress: &mut Progress,
+) -> Option<u32>
+    requires operands { IsOp op.now }
+    requires clocks { clocks ≡ clocks_of op.now unspent }
+    requires fresh { done_of progress.old ≡ nothing }
+    requires alone { context.now.answers.now ≡ [] }
+    ensures { CarriesOut result op.now (execution.row op.now start regs.old) regs.old regs.new (memory_of context.now) (done_of progress.new) }
+{
+    match op {
+        Op::Bsr(..) | Op::Jsr(..) | Op::Rts => call(op, clocks, start, context, regs, progress),
+        Op::Move(..)
+        | Op::Quick(..)
+        | Op::ToMemory(..)
+        | Op::Immediate(..)
+        | Op::Unary(..) => taking(clocks, stores(op, start, context, regs, progress)),
+        _ => None,
+    }
+}
+
+/// The instruction that was decoded at the program counter, where it makes no shared access; else the registers stay.
+/// The bytes that it writes are in `progress`.
+#[inline(always)]
+fn run(
+    found: &CachedInstruction,
+    context: &Context,
+    regs: &mut Regs,
+    progress: &mut Progress,
+) -> Option<u32>
     requires instruction { IsInstruction found.now.decoded }
     requires clocks { found.now.clocks ≡ clocks_of found.now.decoded.op unspent }
     requires even { regs.old.pc % 2 ≡ 0 }
     requires untraced { samples.leaves_trace regs.old 0 ≡ false }
-    ensures { RunsPrivately result (samples.instruction found.now.decoded found.now.first regs.old) regs.old regs.new [] (memory_of context.now) }
+    requires fresh { done_of progress.old ≡ nothing }
+    requires alone { context.now.answers.now ≡ [] }
+    ensures { RunsPrivately result (samples.instruction found.now.decoded found.now.first regs.old) regs.old regs.new progress.new.writes.items (memory_of context.now) }
 {
     let start = regs.pc;
+    let op = &found.decoded.op;
+    let clocks = u32::from(found.clocks);
     regs.pc = start.wrapping_add(u32::from(found.decoded.length));
-    match execute(
-        &found.decoded.op,
-        u32::from(found.clocks),
-        start,
-        context,
-        regs,
-    ) {
-        Some(clocks) => Some(clocks),
-        None => {
-            regs.pc = start;
-            None
-        }
+    match execute(op, clocks, start, context, regs) {
+        Some(taken) => Some(taken),
+        None => match execute_store(op, clocks, start, context, regs, progress) {
+            Some(taken) => Some(taken),
+            None => {
+                regs.pc = start;
+                None
+            }
+        },
     }
 }
 
 /// Carries out the instruction at the program counter at once, where it lies in the cartridge, was decoded before,
-/// makes no shared access, ends in no exception and leaves no trace pending; answers its clocks. Else it answers
-/// None, and nothing changes.
+/// makes no shared access, ends in no exception and leaves no trace pending. Answers its clocks; the bytes that it
+/// writes into work RAM are in `progress`, the oldest first. Else it answers None, and the registers stay.
 #[inline(always)]
 pub fn run_private(
     regs: &mut Regs,
     cart: &Cart,
     ram: &[u8; RAM_SIZE],
     cache: &DecodeCache,
+    progress: &mut Progress,
 ) -> Option<u32>
     requires cache { IsCacheOf cart.now cache.now }
-    ensures { RunsPrivately result (samples.sampled 0 regs.old) regs.old regs.new [] (record { rom = cart.now; ram = ram.now; answers = [] }) }
+    ensures { RunsPrivately result (samples.sampled 0 regs.old) regs.old regs.new progress.new.writes.items (record { rom = cart.now; ram = ram.now; answers = [] }) }
 {
     let address = regs.pc;
     if address % 2 == 1 || leaves_trace(regs, 0) {
         return None;
     }
+    progress.restart(0);
     let context = Context {
         rom: cart.bytes(),
         ram,
         answers: &[],
     };
     match cache.find(address, &context) {
-        Some(found) => run(found, &context, regs),
+        Some(found) => run(found, &context, regs, progress),
         None => None,
     }
 }

@@ -16,7 +16,7 @@ use md_word::{Mode, Regs, Size, is_shared};
 
 /// What is at an address in the cartridge or in work RAM; None where a part of it is shared.
 #[inline(always)]
-fn private(size: Size, address: u32, context: &Context) -> Option<u32>
+pub fn private(size: Size, address: u32, context: &Context) -> Option<u32>
     requires { IsFalse (is_misaligned size address) }
     ensures value { IfSome result (λ value. Reads (actions.read size address) value (memory_of context.now)) }
     ensures below { IfSome result (λ value. value < modulus_of size) }

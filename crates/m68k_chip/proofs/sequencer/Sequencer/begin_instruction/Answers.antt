@@ -1,23 +1,28 @@
-use Rattle.std.proofs.Common.{◌≡◌, ◌∙◌, ℕ, List, [], ap}
+use Rattle.std.proofs.Common.{ℕ, ◌+◌, ◌*◌, ◌∙◌, List, ap}
 use Rattle.md_word.specs.declared.regs.Regs.{Regs}
-use Rattle.m68k_chip.specs.Events.{went_on}
+use Rattle.m68k_access.specs.Memory.{ram_after}
+use Rattle.m68k_chip.specs.Events.{rested, went_on}
 use Rattle.m68k_chip.specs.States.{State68, state_of}
+use Rattle.m68k_chip.specs.Steps.{running}
 use Rattle.m68k_chip.proofs.Private.{private-ends, private-predicted, private-waits}
 use Rattle.m68k_chip.proofs.Waiting.{went-predicted, went-waits}
 use Rattle.m68k_chip.proofs.sequencer.Sequencer.begin_instruction.Goals as goal
 
 pub returns-in-Some-clause-state : goal.returns-in-Some-clause-state
 returns-in-Some-clause-state c =
-    c.finish_private.ensures c.args.ram.now
-    ∙ private-ends c.args.cart.now (state_of c.args.self.now c.args.ram.now) c.in-Some.clocks c.run_private.new.regs [] c.in-Some.ensures
+    let before : State68 = state_of c.args.self.now c.args.ram.now in
+    c.finish_private.ensures c.store_all.new.ram
+    ∙ ap (λ (ram : List ℕ). rested (running (record before { regs = c.run_private.new.regs; ram = ram })) (before.start + 7 * c.in-Some.clocks))
+    (c.store_all.ensures ∙ ap (λ (written : List (ℕ × ℕ)). ram_after c.args.ram.now written) c.as_slice.ensures.value)
+    ∙ private-ends c.args.cart.now before c.in-Some.clocks c.run_private.new.regs c.run_private.new.progress.writes.items c.in-Some.ensures
 
 pub returns-in-Some-clause-waiting : goal.returns-in-Some-clause-waiting
 returns-in-Some-clause-waiting c =
-    private-waits c.args.cart.now (state_of c.args.self.now c.args.ram.now) _ c.in-Some.clocks c.run_private.new.regs [] _ c.in-Some.ensures (returns-in-Some-clause-state c)
+    private-waits c.args.cart.now (state_of c.args.self.now c.args.ram.now) _ c.in-Some.clocks c.run_private.new.regs c.run_private.new.progress.writes.items _ c.in-Some.ensures (returns-in-Some-clause-state c)
 
 pub returns-in-Some-clause-predicted : goal.returns-in-Some-clause-predicted
 returns-in-Some-clause-predicted c =
-    private-predicted c.args.cart.now (state_of c.args.self.now c.args.ram.now) _ c.in-Some.clocks c.run_private.new.regs [] _ c.in-Some.ensures (returns-in-Some-clause-state c)
+    private-predicted c.args.cart.now (state_of c.args.self.now c.args.ram.now) _ c.in-Some.clocks c.run_private.new.regs c.run_private.new.progress.writes.items _ c.in-Some.ensures (returns-in-Some-clause-state c)
 
 pub returns-in-None-clause-state : goal.returns-in-None-clause-state
 returns-in-None-clause-state c =

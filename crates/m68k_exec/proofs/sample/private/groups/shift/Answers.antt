@@ -1,6 +1,6 @@
 use Rattle.m68k_access.specs.Outcomes.{outcome_of}
 use Rattle.m68k_exec.proofs.Private.{number-ends, register-ends}
-use Rattle.m68k_exec.proofs.sample.private.shift.Goals as goal
+use Rattle.m68k_exec.proofs.sample.private.groups.shift.Goals as goal
 
 pub returns-in-ShiftByNumber : goal.returns-in-ShiftByNumber
 returns-in-ShiftByNumber c =

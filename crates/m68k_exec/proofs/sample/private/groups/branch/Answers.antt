@@ -1,7 +1,7 @@
 use Rattle.std.proofs.Common.{refl}
 use Rattle.m68k_access.specs.Outcomes.{outcome_of}
 use Rattle.m68k_exec.proofs.Private.{bcc-ends, bra-ends, dbcc-ends, jmp-ends, nop-ends}
-use Rattle.m68k_exec.proofs.sample.private.branch.Goals as goal
+use Rattle.m68k_exec.proofs.sample.private.groups.branch.Goals as goal
 
 pub returns-in-Nop : goal.returns-in-Nop
 returns-in-Nop c = rw c.in-Nop.is (nop-ends c.args.start c.args.clocks c.args.regs.now (rw c.in-Nop.is at c.requires.clocks))

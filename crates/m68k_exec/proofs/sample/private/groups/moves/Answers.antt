@@ -3,7 +3,7 @@ use Rattle.m68k_access.specs.Outcomes.{outcome_of}
 use Rattle.m68k_exec.specs.Rows.Links as links
 use Rattle.m68k_exec.specs.Rows.Registers as registers
 use Rattle.m68k_exec.proofs.PrivateRows.{lea-plain, moveq-plain, plainly}
-use Rattle.m68k_exec.proofs.sample.private.moves.Goals as goal
+use Rattle.m68k_exec.proofs.sample.private.groups.moves.Goals as goal
 
 pub returns-in-Moveq : goal.returns-in-Moveq
 returns-in-Moveq c =

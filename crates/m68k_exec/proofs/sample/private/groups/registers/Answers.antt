@@ -3,7 +3,7 @@ use Rattle.m68k_access.specs.Outcomes.{outcome_of}
 use Rattle.m68k_exec.specs.Rows.Registers as registers
 use Rattle.m68k_exec.specs.Rows.Single as single
 use Rattle.m68k_exec.proofs.PrivateRows.{exg-plain, ext-plain, plainly, swap-plain}
-use Rattle.m68k_exec.proofs.sample.private.registers.Goals as goal
+use Rattle.m68k_exec.proofs.sample.private.groups.registers.Goals as goal
 
 pub returns-in-Quick : goal.returns-in-Quick
 returns-in-Quick c = rw c.in-Quick.is c.quick.ensures
