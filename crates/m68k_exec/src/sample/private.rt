@@ -9,6 +9,7 @@ ghost use Rattle.m68k_exec.specs.Sample.Private.{CarriesOut, RunsPrivately, took
 ghost use Rattle.m68k_exec.specs.Sample.Samples as samples;
 ghost use Rattle.m68k_exec.specs.Sample.Samples.{nothing};
 
+mod bits;
 mod groups;
 mod operands;
 mod rows;
@@ -17,7 +18,7 @@ mod stores;
 use super::cache::{CachedInstruction, DecodeCache};
 use super::ends::leaves_trace;
 use crate::{Context, Progress};
-use groups::{branch, moves, registers, shift, sums};
+use groups::{bits, branch, moves, registers, shift, sums};
 use m68k_access::memory::RAM_SIZE;
 use m68k_decode::Op;
 use md_word::{Mode, Regs};
@@ -61,6 +62,9 @@ fn execute(op: &Op, clocks: u32, start: u32, context: &Context, regs: &mut Regs)
         | Op::Swap(..)
         | Op::Ext(..)
         | Op::Exg(..) => taking(clocks, registers(op, start, regs)),
+        Op::BitByRegister(..) | Op::BitByNumber(..) => {
+            taking(clocks, bits(op, start, context, regs))
+        }
         Op::ShiftByNumber(..) | Op::ShiftByRegister(..) => shift(op, clocks, start, regs),
         _ => None,
     }
