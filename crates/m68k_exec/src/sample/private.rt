@@ -133,17 +133,19 @@ fn run(
 
 /// Carries out the instruction at the program counter at once, where it lies in the cartridge, was decoded before,
 /// makes no shared access, ends in no exception and leaves no trace pending. Answers its clocks; the bytes that it
-/// writes into work RAM are in `progress`, the oldest first. Else it answers None, and the registers stay.
+/// writes into work RAM are in `progress`, the oldest first. Else it answers None, and the registers stay. One that
+/// was decoded and not carried out is not tried again until it is decoded anew.
 #[inline(always)]
 pub fn run_private(
     regs: &mut Regs,
     cart: &Cart,
     ram: &[u8; RAM_SIZE],
-    cache: &DecodeCache,
+    cache: &mut DecodeCache,
     progress: &mut Progress,
 ) -> Option<u32>
-    requires cache { IsCacheOf cart.now cache.now }
-    ensures { RunsPrivately result (samples.sampled 0 regs.old) regs.old regs.new progress.new.writes.items (record { rom = cart.now; ram = ram.now; answers = [] }) }
+    requires cache { IsCacheOf cart.now cache.old }
+    ensures cache { IsCacheOf cart.now cache.new }
+    ensures value { RunsPrivately result (samples.sampled 0 regs.old) regs.old regs.new progress.new.writes.items (record { rom = cart.now; ram = ram.now; answers = [] }) }
 {
     let address = regs.pc;
     if address % 2 == 1 || leaves_trace(regs, 0) {
@@ -155,8 +157,12 @@ pub fn run_private(
         ram,
         answers: &[],
     };
-    match cache.find(address, &context) {
+    let taken = match cache.find(address, &context) {
         Some(found) => run(found, &context, regs, progress),
-        None => None,
+        None => return None,
+    };
+    if taken.is_none() {
+        cache.note_shared(address);
     }
+    taken
 }
