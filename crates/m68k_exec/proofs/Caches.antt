@@ -1,7 +1,10 @@
 -- An instruction of the cartridge is the same whatever work RAM has.
-use Rattle.std.proofs.Common.{◌≡◌, ℕ, zero, suc, ◌+◌, ◌%◌, ◌^◌, ◌<◌, ◌≤◌, ◌∙◌, false, nat_le, ◌==◌, List, ◌∷◌, [], length, slice_index_or, refl, sym, ap, subst, arith, if◌then◌else◌}
+use Rattle.std.proofs.Common.{◌≡◌, ℕ, zero, suc, ◌+◌, ◌%◌, ◌^◌, ◌<◌, ◌≤◌, ◌∙◌, false, true, nat_le, ◌==◌, List, ◌∷◌, [], length, slice_index_or, refl, sym, ap, subst, arith, if◌then◌else◌}
 use Rattle.std.proofs.lemmas.Bool.Decides.{nat_tests}
-use Rattle.std.proofs.lemmas.List.Elements.{All-get_or}
+use Rattle.std.proofs.lemmas.List.{length-set}
+use Rattle.std.proofs.lemmas.List.Elements.{All-get_or, All-set}
+use Rattle.std.specs.Box.{with_value}
+use Rattle.std.specs.Prelude.{slice_set}
 use Rattle.m68k_decode.specs.Fields.{opcode}
 use Rattle.m68k_decode.specs.Instructions.{instruction_of}
 use Rattle.m68k_access.specs.Memory.{Memory, bus_address, byte_at, instruction_word, instruction_words, word_at}
@@ -84,3 +87,22 @@ pub entry-kept : (address : ℕ) (memory : Memory) (cache : DecodeCache) (other 
 entry-kept address memory cache other entries place right same there at fixed =
     entry-taken address memory cache other entries place same there
     (λ blank. entry-found address memory cache blank right (entry-read address cache blank other entries place right.long same there at) fixed)
+
+-- an entry that is noted is the same instruction
+entry-noted : (rom : List ℕ) (found : CachedInstruction) → IsEntryOf rom found → IsEntryOf rom (record found { shared = true })
+entry-noted rom found right = λ fixed ram answers. record {
+  first = (right fixed ram answers).first;
+  decoded = (right fixed ram answers).decoded;
+  instruction = (right fixed ram answers).instruction;
+  clocks = (right fixed ram answers).clocks;
+}
+
+pub cache-noted : (rom : List ℕ) (cache : DecodeCache) (seen entries : List CachedInstruction) (place : ℕ) (blank : CachedInstruction) → IsCacheOf rom cache → seen ≡ cache.entries.value → entries ≡ cache.entries.value → place < 4096
+    → IsCacheOf rom (record { entries = with_value cache.entries (slice_set entries place (record (slice_index_or seen place blank) { shared = true })) })
+cache-noted rom cache seen entries place blank right read written below =
+    let found : CachedInstruction = slice_index_or cache.entries.value place blank in
+    rw (read, written) (record {
+      long = length-set cache.entries.value place (record found { shared = true }) ∙ right.long;
+      entries = All-set (IsEntryOf rom) cache.entries.value place (record found { shared = true })
+          (entry-noted rom found (All-get_or (IsEntryOf rom) cache.entries.value place blank (omega (arith, below, right.long)) right.entries)) right.entries;
+    })

@@ -12,7 +12,7 @@ use m68k_access::shapes::{change_operand, test_operand};
 use md_word::{Mode, Regs, Size, Task};
 
 /// A data register is a long, memory a byte.
-fn bit_size(mode: Mode) -> Size
+pub fn bit_size(mode: Mode) -> Size
     ensures size { result ≡ bits.bit_size mode }
     ensures touches { touches_of result mode ≡ touches_of Byte mode }
 {

@@ -23,6 +23,8 @@ pub struct CachedInstruction {
     pub first: u16,
     /// What it takes where no branch is taken and nothing is counted.
     pub clocks: u8,
+    /// It was not carried out at once when that was tried, and is not tried again.
+    pub shared: bool,
     pub decoded: Decoded,
 }
 
@@ -65,6 +67,7 @@ fn decode_at(address: u32, context: &Context) -> CachedInstruction
         address,
         first: words[0],
         clocks: clocks(&decoded.op, UNSPENT) as u8,
+        shared: false,
         decoded,
     }
 }
@@ -79,6 +82,7 @@ impl DecodeCache {
             address: 0,
             first: 0,
             clocks: 0,
+            shared: false,
             decoded: Decoded {
                 op: Op::Immediate(Task::Abcd, Size::Byte, 0, Mode::Data(0)),
                 length: 0,
@@ -88,6 +92,7 @@ impl DecodeCache {
             address: NOWHERE,
             first: 0,
             clocks: 0,
+            shared: false,
             decoded: Decoded {
                 op: Op::Nop,
                 length: 2,
@@ -134,17 +139,30 @@ impl DecodeCache {
         &self.entries[place_of(address)]
     }
 
-    /// The instruction at an address in the cartridge, if its entry has it.
+    /// The instruction at an address in the cartridge, if its entry has it and it may be carried out at once.
     #[inline(always)]
     pub(crate) fn find(&self, address: u32, context: &Context) -> Option<&CachedInstruction>
         requires { IsCacheOf context.now.rom.now self.now }
         ensures { IfSome result (λ found. IsInstructionAt address (memory_of context.now) found.now) }
     {
         let found = &self.entries[place_of(address)];
-        if found.address == address && bus_address(address) < WORK_RAM - 10 {
+        if found.address == address && bus_address(address) < WORK_RAM - 10 && !found.shared {
             Some(found)
         } else {
             None
         }
+    }
+
+    /// Notes that the instruction at an address is not to be tried at once again.
+    #[inline(never)]
+    pub(crate) fn note_shared(&mut self, address: u32)
+        ensures { (rom : List ℕ) → IsCacheOf rom self.old → IsCacheOf rom self.new }
+    {
+        let place = place_of(address);
+        let found = self.entries[place];
+        self.entries[place] = CachedInstruction {
+            shared: true,
+            ..found
+        };
     }
 }

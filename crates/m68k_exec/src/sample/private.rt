@@ -9,6 +9,7 @@ ghost use Rattle.m68k_exec.specs.Sample.Private.{CarriesOut, RunsPrivately, took
 ghost use Rattle.m68k_exec.specs.Sample.Samples as samples;
 ghost use Rattle.m68k_exec.specs.Sample.Samples.{nothing};
 
+mod bits;
 mod groups;
 mod operands;
 mod rows;
@@ -17,7 +18,7 @@ mod stores;
 use super::cache::{CachedInstruction, DecodeCache};
 use super::ends::leaves_trace;
 use crate::{Context, Progress};
-use groups::{branch, moves, registers, shift, sums};
+use groups::{bits, branch, moves, registers, shift, sums};
 use m68k_access::memory::RAM_SIZE;
 use m68k_decode::Op;
 use md_word::{Mode, Regs};
@@ -61,6 +62,9 @@ fn execute(op: &Op, clocks: u32, start: u32, context: &Context, regs: &mut Regs)
         | Op::Swap(..)
         | Op::Ext(..)
         | Op::Exg(..) => taking(clocks, registers(op, start, regs)),
+        Op::BitByRegister(..) | Op::BitByNumber(..) => {
+            taking(clocks, bits(op, start, context, regs))
+        }
         Op::ShiftByNumber(..) | Op::ShiftByRegister(..) => shift(op, clocks, start, regs),
         _ => None,
     }
@@ -129,17 +133,19 @@ fn run(
 
 /// Carries out the instruction at the program counter at once, where it lies in the cartridge, was decoded before,
 /// makes no shared access, ends in no exception and leaves no trace pending. Answers its clocks; the bytes that it
-/// writes into work RAM are in `progress`, the oldest first. Else it answers None, and the registers stay.
+/// writes into work RAM are in `progress`, the oldest first. Else it answers None, and the registers stay. One that
+/// was decoded and not carried out is not tried again until it is decoded anew.
 #[inline(always)]
 pub fn run_private(
     regs: &mut Regs,
     cart: &Cart,
     ram: &[u8; RAM_SIZE],
-    cache: &DecodeCache,
+    cache: &mut DecodeCache,
     progress: &mut Progress,
 ) -> Option<u32>
-    requires cache { IsCacheOf cart.now cache.now }
-    ensures { RunsPrivately result (samples.sampled 0 regs.old) regs.old regs.new progress.new.writes.items (record { rom = cart.now; ram = ram.now; answers = [] }) }
+    requires cache { IsCacheOf cart.now cache.old }
+    ensures cache { IsCacheOf cart.now cache.new }
+    ensures value { RunsPrivately result (samples.sampled 0 regs.old) regs.old regs.new progress.new.writes.items (record { rom = cart.now; ram = ram.now; answers = [] }) }
 {
     let address = regs.pc;
     if address % 2 == 1 || leaves_trace(regs, 0) {
@@ -151,8 +157,12 @@ pub fn run_private(
         ram,
         answers: &[],
     };
-    match cache.find(address, &context) {
+    let taken = match cache.find(address, &context) {
         Some(found) => run(found, &context, regs, progress),
-        None => None,
+        None => return None,
+    };
+    if taken.is_none() {
+        cache.note_shared(address);
     }
+    taken
 }

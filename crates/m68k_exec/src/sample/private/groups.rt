@@ -10,6 +10,7 @@ ghost use Rattle.m68k_exec.specs.Sample.Execution as execution;
 ghost use Rattle.m68k_exec.specs.Sample.Private.{CarriesOut, Changes};
 ghost use Rattle.m68k_exec.specs.Sample.Samples.{nothing};
 
+use super::bits::{bit_by_number, bit_by_register};
 use super::rows::{
     cmp, cmpa, compare_immediate, immediate, move_address, move_to_data, quick, to_address,
     to_register, tst, unary,
@@ -109,6 +110,23 @@ pub fn sums(op: &Op, start: u32, context: &Context, regs: &mut Regs) -> bool
         Op::Cmpa(size, number, mode) => cmpa(size, number, mode, start, context, regs),
         Op::CompareImmediate(size, number, mode) => {
             compare_immediate(size, number, mode, start, context, regs)
+        }
+        _ => false,
+    }
+}
+
+/// Carries out BTST; answers whether it did.
+#[inline(never)]
+pub fn bits(op: &Op, start: u32, context: &Context, regs: &mut Regs) -> bool
+    requires operands { IsOp op.now }
+    ensures { Changes result (execution.row op.now start regs.old) regs.old regs.new (memory_of context.now) }
+{
+    match *op {
+        Op::BitByRegister(task, number, mode) => {
+            bit_by_register(task, number, mode, start, context, regs)
+        }
+        Op::BitByNumber(task, number, mode) => {
+            bit_by_number(task, number, mode, start, context, regs)
         }
         _ => false,
     }

@@ -8,5 +8,5 @@ use Rattle.m68k_exec.proofs.sample.private.execute.Goals as goal
 
 pub returns-in-Quick : goal.returns-in-Quick
 returns-in-Quick c =
-    subst (λ (result : Option ℕ). CarriesOut result c.args.op.now (row c.args.op.now c.args.start c.args.regs.now) c.args.regs.now c.registers.new.regs (memory_of c.args.context.now) nothing) (sym c.taking.ensures)
+    subst (λ (result : Option ℕ). CarriesOut result c.args.op.now (row c.args.op.now c.args.start c.args.regs.now) c.args.regs.now c.registers.new.regs (memory_of c.args.context.now) nothing) (sym c.taking-in-Quick.ensures)
     (changes c.registers.result c.args.op.now (row c.args.op.now c.args.start c.args.regs.now) c.args.clocks c.args.regs.now c.registers.new.regs (memory_of c.args.context.now) (c.registers.ensures (memory_of c.args.context.now)) c.requires.clocks)

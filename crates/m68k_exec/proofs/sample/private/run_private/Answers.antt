@@ -1,5 +1,9 @@
 use Rattle.m68k_exec.proofs.Private.{sample-runs}
 use Rattle.m68k_exec.proofs.sample.private.run_private.Goals as goal
 
-pub returns-in-Some : goal.returns-in-Some
-returns-in-Some c = rw c.bytes.ensures.value at (sample-runs c.run.result c.in-Some.found.now c.args.regs.now c.run.new.regs c.run.new.progress.writes.items _ c.in-Some.ensures c.run.ensures)
+pub returns-then-is_none-clause-cache : goal.returns-then-is_none-clause-cache
+returns-then-is_none-clause-cache c = c.note_shared.ensures c.args.cart.now c.requires.cache
+
+pub returns-else-is_none-clause-value : goal.returns-else-is_none-clause-value
+returns-else-is_none-clause-value c =
+    rw c.bytes.ensures.value at (sample-runs c.run-taken.result c.in-Some.found.now c.args.regs.now c.run-taken.new.regs c.run-taken.new.progress.writes.items _ c.in-Some.ensures c.run-taken.ensures)
