@@ -9,6 +9,7 @@ pub mod Lists
 pub mod Looking
 pub mod Lowering
 pub mod Parts
+pub mod Resting
 pub mod Runs
 pub mod Sampling
 pub mod Stages
