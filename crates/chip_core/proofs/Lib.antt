@@ -1,5 +1,8 @@
+pub mod Apart
+pub mod Asleep
 pub mod Chosen
 pub mod Ends
+pub mod Fewer
 pub mod Going
 pub mod Joins
 pub mod Keeps
@@ -9,10 +12,11 @@ pub mod Lists
 pub mod Looking
 pub mod Lowering
 pub mod Parts
-pub mod Resting
 pub mod Runs
 pub mod Sampling
 pub mod Stages
 pub mod Stands
 pub mod Turns
+pub mod Waking
+pub mod Within
 pub mod Works

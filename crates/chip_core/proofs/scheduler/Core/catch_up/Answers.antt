@@ -4,7 +4,7 @@ use Rattle.chip_core.specs.Chips.{RunsTo}
 use Rattle.chip_core.specs.Cores.{CoreValue, IsCore, chip_in, seen}
 use Rattle.chip_core.specs.Resting.{CatchesUp, with_chip}
 use Rattle.chip_core.proofs.Lists.{core_value}
-use Rattle.chip_core.proofs.Resting.{catches-none, catches-some, core-with}
+use Rattle.chip_core.proofs.Waking.{catches-none, catches-some, core-with}
 use Rattle.chip_core.proofs.Sampling.{chip-seen}
 use Rattle.chip_core.proofs.scheduler.Core.catch_up.Given.{Over}
 use Rattle.chip_core.proofs.scheduler.Core.catch_up.Goals as goal

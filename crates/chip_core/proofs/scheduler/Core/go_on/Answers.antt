@@ -2,7 +2,7 @@ use Rattle.std.proofs.Common.{subst, sym}
 use Rattle.chip_core.specs.Cores.{seen}
 use Rattle.chip_core.specs.Events.{AreKeys, IsEnabled, IsTidy, Reaches, own_event}
 use Rattle.chip_core.proofs.Lists.{tidy-core}
-use Rattle.chip_core.proofs.Resting.{fewer-moves}
+use Rattle.chip_core.proofs.Fewer.{fewer-moves}
 use Rattle.chip_core.proofs.Turns.{keys-past, own-place, past-less, past-reaches, reaches-on, turn-enabled}
 use Rattle.chip_core.proofs.scheduler.Core.go_on.Given.{Over}
 use Rattle.chip_core.proofs.scheduler.Core.go_on.Goals as goal

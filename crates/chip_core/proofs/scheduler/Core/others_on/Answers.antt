@@ -3,7 +3,8 @@ use Rattle.chip_core.specs.Cores.{seen}
 use Rattle.chip_core.specs.Events.{AreKeys, HasRoom, IsTidy, Reaches, past_access}
 use Rattle.chip_core.specs.Resting.{SamplesWithin, Sleeps}
 use Rattle.chip_core.proofs.Lists.{tidy-core}
-use Rattle.chip_core.proofs.Resting.{asleep-first, asleep-on, other-less, place-past, sleeps-end, sleeps-past}
+use Rattle.chip_core.proofs.Asleep.{asleep-first, asleep-on, place-past, sleeps-end, sleeps-past}
+use Rattle.chip_core.proofs.Fewer.{other-less}
 use Rattle.chip_core.proofs.Turns.{keys-past}
 use Rattle.chip_core.proofs.scheduler.Core.others_on.Given.{Over}
 use Rattle.chip_core.proofs.scheduler.Core.others_on.Goals as goal

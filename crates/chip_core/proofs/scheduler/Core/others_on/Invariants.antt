@@ -2,7 +2,7 @@ use Rattle.std.proofs.Common.{◌≡◌}
 use Rattle.chip_core.specs.Cores.{IsCore, machine_of, seen}
 use Rattle.chip_core.specs.Events.{AreKeys}
 use Rattle.chip_core.specs.Limits.{all_moves_left}
-use Rattle.chip_core.proofs.Resting.{Asleep}
+use Rattle.chip_core.proofs.Asleep.{Asleep}
 use Rattle.chip_core.proofs.scheduler.Core.others_on.Given as goal
 
 -- what this comes to, once the sleeper has made its samples, is where enabled events lead

@@ -2,7 +2,7 @@ use Rattle.std.proofs.Common.{subst, sym, ◌∙◌, arith, vec_capacity}
 use Rattle.chip_core.specs.Cores.{CoreValue, IsCore, seen}
 use Rattle.chip_core.specs.Events.{AwaitsAccess}
 use Rattle.chip_core.proofs.Lists.{core_value, tidy-core}
-use Rattle.chip_core.proofs.Resting.{pins-past}
+use Rattle.chip_core.proofs.Waking.{pins-past}
 use Rattle.chip_core.proofs.Turns.{kind-read}
 use Rattle.chip_core.proofs.scheduler.Core.pass_by.Given.{Over}
 use Rattle.chip_core.proofs.scheduler.Core.pass_by.Goals as goal

@@ -3,7 +3,7 @@ use Rattle.chip_core.specs.Chips.{Rests}
 use Rattle.chip_core.specs.Cores.{chip_in, seen}
 use Rattle.chip_core.specs.Resting.{Sleeps}
 use Rattle.chip_core.proofs.Lists.{tidy-core}
-use Rattle.chip_core.proofs.Resting.{woken-keys, woken-led, woken-less}
+use Rattle.chip_core.proofs.Waking.{woken-keys, woken-led, woken-less}
 use Rattle.chip_core.proofs.scheduler.Core.rest.Goals as goal
 
 pub returns-clause-led : goal.returns-clause-led

@@ -3,7 +3,7 @@ use Rattle.md_word.specs.Clock.{cycle_limit}
 use Rattle.chip_core.specs.Cores.{seen}
 use Rattle.chip_core.proofs.Lists.{tidy-core}
 use Rattle.chip_core.proofs.Sampling.{Sampled, limit-wider, sampled-on}
-use Rattle.chip_core.proofs.Resting.{from-first, from-on, from-within, within-none}
+use Rattle.chip_core.proofs.Within.{from-first, from-on, from-within, within-none}
 use Rattle.chip_core.proofs.Turns.{reaches-itself, reaches-on}
 use Rattle.chip_core.proofs.scheduler.Core.sample_on.Given.{Over}
 use Rattle.chip_core.proofs.scheduler.Core.sample_on.Goals as goal

@@ -2,7 +2,7 @@ use Rattle.std.proofs.Common.{◌≡◌}
 use Rattle.chip_core.specs.Cores.{IsCore, seen}
 use Rattle.chip_core.specs.Events.{AreKeys, Reaches}
 use Rattle.chip_core.specs.Looks.{IsLeastLimit, IsLimit}
-use Rattle.chip_core.proofs.Resting.{SamplesFrom}
+use Rattle.chip_core.proofs.Within.{SamplesFrom}
 use Rattle.chip_core.proofs.Works.{work}
 use Rattle.chip_core.proofs.scheduler.Core.sample_on.Given as goal
 
