@@ -2,6 +2,7 @@ pub mod Counting
 pub mod Falls
 pub mod Keeping
 pub mod Keeps
+pub mod Pinned
 pub mod Touches
 pub mod Unseen
 pub mod Values

@@ -1,10 +1,10 @@
 -- What each chip's accesses leave as it was.
 use Rattle.std.specs.Prelude.{◌≡◌, ◌≢◌, ◌⊎◌, ℕ, ◌%◌, ◌^◌, ◌<◌, ◌≤◌, Some, IfSome}
 use Rattle.md_word.specs.Map.{area_of}
-use Rattle.md_word.specs.declared.area.Area.TheVariants.{VideoPorts, Z80Space}
+use Rattle.md_word.specs.declared.area.Area.TheVariants.{BusRequest, VideoPorts, Z80Reset, Z80Space}
 use Rattle.md_word.specs.declared.key.Key.{Key}
 use Rattle.md_word.specs.declared.main_bus.Request68.{Request68}
-use Rattle.md_word.specs.declared.main_bus.Request68.TheVariants.{Read8, Read16, Word}
+use Rattle.md_word.specs.declared.main_bus.Request68.TheVariants.{Read8, Read16, Word, Write8, Write16}
 use Rattle.md_word.specs.declared.main_bus.Transfer.{Transfer}
 use Rattle.bus_shared.specs.Accesses.{carried, chip_of, line_board, main_board, main_cost, main_pins, main_transfer, main_value, psg_board, sub_access, sub_pins}
 use Rattle.vdp_planes.specs.declared.view.SpriteNote.{SpriteNote}
@@ -72,6 +72,12 @@ FmBatchLeaves board cycle =
 pub record LeavesPins (old new : Board) : Type 0 where
   pub main : main_pins new ≡ main_pins old
   pub sub : sub_pins new ≡ sub_pins old
+
+-- an access of the 68000 that writes neither the Z80's bus request nor its reset
+abbrev pub IsBesideLines : Request68 → Type 0
+IsBesideLines (Write8 address value) = (area_of address ≢ Some BusRequest) × (area_of address ≢ Some Z80Reset)
+IsBesideLines (Write16 address value) = (area_of address ≢ Some BusRequest) × (area_of address ≢ Some Z80Reset)
+IsBesideLines request = Unit {0}
 
 -- the pins are written by the 68000 and by lines alone
 abbrev pub WritersLaw : Board → Key → Request → Type 0

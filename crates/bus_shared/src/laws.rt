@@ -1,11 +1,12 @@
 //! Laws of the board, each the contract of a call that does nothing.
 
-ghost use Rattle.std.specs.Prelude.{ℕ, ◌≤◌};
+ghost use Rattle.std.specs.Prelude.{◌≡◌, ℕ, ◌≤◌};
+ghost use Rattle.md_word.specs.declared.main_bus.Request68.{Request68};
 ghost use Rattle.md_word.specs.declared.key.Key.{Key};
-ghost use Rattle.bus_shared.specs.Accesses.{psg_board, sub_access};
+ghost use Rattle.bus_shared.specs.Accesses.{main_board, psg_board, sub_access, sub_pins};
 ghost use Rattle.bus_shared.specs.Fm.{fm_board};
 ghost use Rattle.bus_shared.specs.Board.{Board, IsBoard};
-ghost use Rattle.bus_shared.specs.Laws.{BatchLeaves, FmBatchLeaves, LeavesPins, LineLeaves, MainLeaves, StaysBoard, SubLeaves, ReportsMain, WritersLaw};
+ghost use Rattle.bus_shared.specs.Laws.{BatchLeaves, FmBatchLeaves, IsBesideLines, LeavesPins, LineLeaves, MainLeaves, StaysBoard, SubLeaves, ReportsMain, WritersLaw};
 ghost use Rattle.bus_shared.specs.Settled.{SeesNoSettling};
 ghost use Rattle.bus_shared.specs.declared.request.Request.{Request};
 ghost use Rattle.vdp_planes.specs.declared.view.SpriteNote.{SpriteNote};
@@ -25,12 +26,14 @@ pub fn each_chip_touches_its_part()
     ensures fm_batch { (board : Board) (cycle : ℕ) → FmBatchLeaves board cycle }
 {}
 
-/// Accesses of the Z80, of FM and of the PSG leave the pins of both processors as they were.
+/// Accesses of the Z80, of FM and of the PSG leave the pins of both processors as they were, and those of the
+/// 68000 the Z80's, but for writes to its bus request and its reset.
 pub fn pins_have_two_writers()
     ensures all { (board : Board) (key : Key) (request : Request) → WritersLaw board key request }
     ensures sub { (board : Board) (key : Key) (request : RequestValue80) → LeavesPins board (sub_access board key request).board }
     ensures batch { (board : Board) (cycle : ℕ) → LeavesPins board (psg_board board cycle) }
     ensures fm_batch { (board : Board) (cycle : ℕ) → LeavesPins board (fm_board board cycle) }
+    ensures beside { (board : Board) (key : Key) (request : Request68) → IsBesideLines request → sub_pins (main_board board key request) ≡ sub_pins board }
 {}
 
 /// What a board answers the 68000: a byte, a word, a transfer of 1 to 65,536 words at an even address

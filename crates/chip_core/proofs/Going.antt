@@ -58,7 +58,7 @@ module _ {Chip Shared Pins : Type 0} (rules : Rules Chip Shared Pins) (chip_ok :
       follows : Follows rules.gap (rules.next c).key (rules.next (rules.sample c pins)).key
       follows = subst (λ p. Follows rules.gap (rules.next c).key (rules.next (rules.sample c p)).key) (sym are.is) (law.sample_next c are.shared i due)
 
-  all-risen : (pins : Pins) (i : ℕ) → ArePins rules shared_ok pins i → i < rules.count → (end : Key) → key_lt (record { cycle = cycle_limit; chip = 0 }) end ≡ false
+  pub all-risen : (pins : Pins) (i : ℕ) → ArePins rules shared_ok pins i → i < rules.count → (end : Key) → key_lt (record { cycle = cycle_limit; chip = 0 }) end ≡ false
       → (c : Chip) → chip_ok c → (rules.next c).key.chip ≡ i → (n : ℕ) → ((k : ℕ) → k < n → SamplesBelow rules end (sampled rules k pins c)) → Risen i n c (sampled rules n pins c)
   unfolding sampled
   all-risen pins i are h end small c ok number zero each = record { ok = ok; number = number; later = omega arith }

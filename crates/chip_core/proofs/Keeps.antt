@@ -24,10 +24,10 @@ module _ {Chip Shared Pins : Type 0} (rules : Rules Chip Shared Pins) (chip_ok :
   enabled-wider s t u le (Perform i) en = (en.0, en.1, (let low = en.2 in omega arith), en.3)
   enabled-wider s t u le (Sample i) en = (en.0, en.1, (let low = en.2 in omega arith), en.3)
 
-  key-itself : (k : Key) → key_lt k k ≡ false
+  pub key-itself : (k : Key) → key_lt k k ≡ false
   key-itself k = grind (arith, nat_tests)
 
-  tidy_announce : (s : Seen Chip Shared) → IsTidy rules chip_ok shared_ok s → (i : ℕ) → i < rules.count → IsTidy rules chip_ok shared_ok (after rules s (Announce i))
+  pub tidy_announce : (s : Seen Chip Shared) → IsTidy rules chip_ok shared_ok s → (i : ℕ) → i < rules.count → IsTidy rules chip_ok shared_ok (after rules s (Announce i))
   tidy_announce s tidy i h = record {
     valid = tidy.valid;
     bound_number = λ j q. put-each (λ n b. b.chip ≡ n) s.bound i (key_of rules s.machine i) j (λ _. tidy.valid.number i h) (λ _. tidy.bound_number j q);
@@ -35,7 +35,7 @@ module _ {Chip Shared Pins : Type 0} (rules : Rules Chip Shared Pins) (chip_ok :
   }
 
   -- what an access and a sample have in common
-  tidy_move : (s : Seen Chip Shared) → IsTidy rules chip_ok shared_ok s → (i : ℕ) → i < rules.count → (key_of rules s.machine i).cycle < cycle_limit → (entered : List Entry)
+  pub tidy_move : (s : Seen Chip Shared) → IsTidy rules chip_ok shared_ok s → (i : ℕ) → i < rules.count → (key_of rules s.machine i).cycle < cycle_limit → (entered : List Entry)
       → IsTidy rules chip_ok shared_ok (record { machine = move rules s.machine i; bound = put s.bound i (left_bound rules s.machine i); journal = entered })
   tidy_move s tidy i h low entered = record {
     valid = moved;

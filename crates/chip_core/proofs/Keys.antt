@@ -37,6 +37,25 @@ lt-through a b k p q = grind (arith, nat_tests)
 pub lt-later : (a b k c : Key) → key_lt a b ≡ true → key_lt k b ≡ false → k.cycle < c.cycle → key_lt a c ≡ true
 lt-later a b k c p q r = grind (arith, nat_tests)
 
+-- a key that is not below another of another chip is above it
+pub apart-lt : (a b : Key) → a.chip ≢ b.chip → key_lt a b ≡ false → key_lt b a ≡ true
+apart-lt a b ne h = grind (arith, nat_tests)
+
+pub not_lt-trans : (a b c : Key) → key_lt b a ≡ false → key_lt c b ≡ false → key_lt c a ≡ false
+not_lt-trans a b c p q = grind (arith, nat_tests)
+
+pub cycle-not_lt : (a b : Key) → a.chip ≡ b.chip → a.cycle ≤ b.cycle → key_lt b a ≡ false
+cycle-not_lt a b same le = grind (arith, nat_tests)
+
+pub start-later : (t : ℕ) (k : Key) → k.cycle < t → key_lt (record { cycle = t; chip = 0 }) k ≡ false
+start-later t k low = grind (arith, nat_tests)
+
+pub before-start : (t : ℕ) (k : Key) → key_lt k (record { cycle = t; chip = 0 }) ≡ true → k.cycle < t
+before-start t k low = grind (arith, nat_tests)
+
+pub not_lt-back : (a b : Key) → key_lt a b ≡ true → key_lt b a ≡ false
+not_lt-back a b p = grind (arith, nat_tests)
+
 -- the order of two numbers
 pub le_or : (a b : ℕ) → (a ≤ b) ⊎ (b ≤ a)
 le_or a b = grind arith

@@ -1,5 +1,8 @@
+pub mod Apart
+pub mod Asleep
 pub mod Chosen
 pub mod Ends
+pub mod Fewer
 pub mod Going
 pub mod Joins
 pub mod Keeps
@@ -14,4 +17,6 @@ pub mod Sampling
 pub mod Stages
 pub mod Stands
 pub mod Turns
+pub mod Waking
+pub mod Within
 pub mod Works

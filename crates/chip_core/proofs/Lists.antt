@@ -72,19 +72,19 @@ module _ {Chip Shared Pins : Type 0} (rules : Rules Chip Shared Pins) where
   enabled-at v u t e same en = subst (λ (x : CoreValue Chip Shared). IsEnabled rules (seen rules x) t e) (sym same) en
 
   -- what the code does with the chip that it holds
-  pub held-performed : (v : CoreValue Chip Shared) (i : ℕ) (t : ℕ) → IsEnabled rules (seen rules v) t (Perform i) → i < length v.chips → i < length v.bounds
+  pub held-performed : (v : CoreValue Chip Shared) (i : ℕ) → is_sample rules (machine_of rules v) i ≡ false → i < length v.chips → i < length v.bounds
       → (held p c : Chip) (next : Next) (k : Key) (w : Shared) (e : Entry) (n : List Entry) (r : ℕ)
       → held ≡ slice_index_or v.chips i held → next ≡ rules.next held → w ≡ (rules.perform held v.shared).shared → p ≡ (rules.perform held v.shared).chip → e ≡ (rules.perform held v.shared).entry
       → c ≡ rules.advance p → k ≡ record { cycle = next.key.cycle + rules.gap i; chip = i } → n ≡ v.journal ++ e ∷ []
       → seen rules (core_value w (slice_set v.chips i c) (slice_set v.bounds i k) n r) ≡ after rules (seen rules v) (Perform i)
-  held-performed v i t en hc hb held p c next k w e n r read enext ew ep ee ec ek en_ =
+  held-performed v i access hc hb held p c next k w e n r read enext ew ep ee ec ek en_ =
       let same = get_or_read v.chips i held hc read rules.blank in
       ap (λ (x : List Entry). record {
         machine = machine_of rules (core_value w (slice_set v.chips i c) v.bounds n r);
         bound = λ (m : ℕ). slice_index_or (slice_set v.bounds i k) m no_key;
         journal = x;
       }) en_
-      ∙ performed-is v.shared v.chips v.bounds v.journal v.room i w c k e hc hb en.1
+      ∙ performed-is v.shared v.chips v.bounds v.journal v.room i w c k e hc hb access
       (ew ∙ ap (λ (x : Chip). (rules.perform x v.shared).shared) same)
       (ec ∙ ap rules.advance (ep ∙ ap (λ (x : Chip). (rules.perform x v.shared).chip) same))
       (ee ∙ ap (λ (x : Chip). (rules.perform x v.shared).entry) same)

@@ -11,6 +11,7 @@ use Rattle.chip_core.specs.Cores.{CoreValue, IsCore, no_key, seen}
 use Rattle.chip_core.specs.Events.{AreKeys, IsEnabled, IsTidy, Reaches, SamplesOn, Seen, after, left_bound, own_event, sampled_on}
 use Rattle.chip_core.specs.Looks.{IsLeastLimit, IsLimit}
 use Rattle.chip_core.specs.Machines.{Machine, is_sample, key_of, put}
+use Rattle.chip_core.specs.Resting.{with_chip}
 use Rattle.chip_core.proofs.Keeps.{tidy-leads}
 use Rattle.chip_core.proofs.Keys.{put-other, put-same}
 use Rattle.chip_core.proofs.Lists.{core-tidy, core_value, set-put, tidy-core}
@@ -69,23 +70,15 @@ module _ {Chip Shared Pins : Type 0} (rules : Rules Chip Shared Pins) where
       go zero h = next
       go (suc k) h = absurd (omega arith)
 
-  -- chip i is another one, and its bound is its key
-  abbrev pub with_chip : Seen Chip Shared → ℕ → Chip → Seen Chip Shared
-  with_chip s i c = record {
-    machine = record { shared = s.machine.shared; chip = put s.machine.chip i c };
-    bound = put s.bound i (rules.next c).key;
-    journal = s.journal;
-  }
-
   pub chip-seen : (sh : Shared) (cs : List Chip) (bs : List Key) (j : List Entry) (r i : ℕ) (c : Chip) (k : Key) → i < length cs → i < length bs → k ≡ (rules.next c).key
-      → seen rules (core_value rules sh (slice_set cs i c) (slice_set bs i k) j r) ≡ with_chip (seen rules (core_value rules sh cs bs j r)) i c
+      → seen rules (core_value rules sh (slice_set cs i c) (slice_set bs i k) j r) ≡ with_chip rules (seen rules (core_value rules sh cs bs j r)) i c
   chip-seen sh cs bs j r i c k hc hb is =
       ap₂ (λ (f : ℕ → Chip) (b : ℕ → Key). record { machine = record { shared = sh; chip = f }; bound = b; journal = j })
       (set-put cs i c rules.blank hc) (set-put bs i k no_key hb ∙ ap (put (λ n. slice_index_or bs n no_key) i) is)
 
   -- after one sample, and after one more
-  first-on : (s : Seen Chip Shared) (i : ℕ) → is_sample rules s.machine i ≡ true
-      → after rules (after rules s (Sample i)) (Announce i) ≡ with_chip s i (rules.sample (s.machine.chip i) (rules.pins s.machine.shared i))
+  pub first-on : (s : Seen Chip Shared) (i : ℕ) → is_sample rules s.machine i ≡ true
+      → after rules (after rules s (Sample i)) (Announce i) ≡ with_chip rules s i (rules.sample (s.machine.chip i) (rules.pins s.machine.shared i))
   first-on s i is =
       ap (λ (m : Machine Chip Shared). record { machine = m; bound = put (put s.bound i (left_bound rules s.machine i)) i (key_of rules m i); journal = s.journal }) (move-sample rules s.machine i is)
       ∙ ap (λ (x : Chip). record { machine = moved; bound = put (put s.bound i (left_bound rules s.machine i)) i (rules.next x).key; journal = s.journal }) (put-same s.machine.chip i c)
@@ -97,11 +90,11 @@ module _ {Chip Shared Pins : Type 0} (rules : Rules Chip Shared Pins) where
       moved : Machine Chip Shared
       moved = record { shared = s.machine.shared; chip = put s.machine.chip i c }
 
-  next-on : (s : Seen Chip Shared) (i : ℕ) (c : Chip) → (rules.next c).sample ≡ true
-      → after rules (after rules (with_chip s i c) (Sample i)) (Announce i) ≡ with_chip s i (rules.sample c (rules.pins s.machine.shared i))
+  pub next-on : (s : Seen Chip Shared) (i : ℕ) (c : Chip) → (rules.next c).sample ≡ true
+      → after rules (after rules (with_chip rules s i c) (Sample i)) (Announce i) ≡ with_chip rules s i (rules.sample c (rules.pins s.machine.shared i))
   next-on s i c is =
-      first-on (with_chip s i c) i (ap (λ (x : Chip). (rules.next x).sample) (put-same s.machine.chip i c) ∙ is)
-      ∙ ap (λ (x : Chip). with_chip (with_chip s i c) i (rules.sample x (rules.pins s.machine.shared i))) (put-same s.machine.chip i c)
+      first-on (with_chip rules s i c) i (ap (λ (x : Chip). (rules.next x).sample) (put-same s.machine.chip i c) ∙ is)
+      ∙ ap (λ (x : Chip). with_chip rules (with_chip rules s i c) i (rules.sample x (rules.pins s.machine.shared i))) (put-same s.machine.chip i c)
       ∙ ap₂ (λ (f : ℕ → Chip) (b : ℕ → Key). record { machine = record { shared = s.machine.shared; chip = f }; bound = b; journal = s.journal })
       (put-twice s.machine.chip i c d) (put-twice s.bound i (rules.next c).key (rules.next d).key)
     where
@@ -111,13 +104,13 @@ module _ {Chip Shared Pins : Type 0} (rules : Rules Chip Shared Pins) where
   -- a chip's samples are those of the core
   module _ (s : Seen Chip Shared) (i : ℕ) (pins : Pins) (shown : pins ≡ rules.pins s.machine.shared i) where
     all-on : (n : ℕ) → ((k : ℕ) → k < suc n → (rules.next (sampled rules k pins (s.machine.chip i))).sample ≡ true)
-        → sampled_on rules (suc n) s i ≡ with_chip s i (sampled rules (suc n) pins (s.machine.chip i))
+        → sampled_on rules (suc n) s i ≡ with_chip rules s i (sampled rules (suc n) pins (s.machine.chip i))
     unfolding sampled sampled_on
-    all-on zero each = first-on s i (each 0 (omega arith)) ∙ ap (λ p. with_chip s i (rules.sample (s.machine.chip i) p)) (sym shown)
+    all-on zero each = first-on s i (each 0 (omega arith)) ∙ ap (λ p. with_chip rules s i (rules.sample (s.machine.chip i) p)) (sym shown)
     all-on (suc n) each =
         ap (λ z. after rules (after rules z (Sample i)) (Announce i)) (all-on n (λ k h. each k (omega arith)))
         ∙ next-on s i (sampled rules (suc n) pins (s.machine.chip i)) (each (suc n) (omega arith))
-        ∙ ap (λ p. with_chip s i (rules.sample (sampled rules (suc n) pins (s.machine.chip i)) p)) (sym shown)
+        ∙ ap (λ p. with_chip rules s i (rules.sample (sampled rules (suc n) pins (s.machine.chip i)) p)) (sym shown)
 
     pub chip-on : (n : ℕ) → ((k : ℕ) → k < n → (rules.next (sampled rules k pins (s.machine.chip i))).sample ≡ true)
         → (sampled_on rules n s i).machine.chip i ≡ sampled rules n pins (s.machine.chip i)
@@ -126,7 +119,7 @@ module _ {Chip Shared Pins : Type 0} (rules : Rules Chip Shared Pins) where
     chip-on (suc n) each =
         ap (λ (z : Seen Chip Shared). z.machine.chip i) (all-on n each) ∙ put-same s.machine.chip i (sampled rules (suc n) pins (s.machine.chip i))
 
-    pub samples-on : (m : ℕ) (end : Key) (c : Chip) (z : Seen Chip Shared) → SamplesTo rules m end pins (s.machine.chip i) c → z ≡ with_chip s i c → SamplesOn rules end i s z
+    pub samples-on : (m : ℕ) (end : Key) (c : Chip) (z : Seen Chip Shared) → SamplesTo rules m end pins (s.machine.chip i) c → z ≡ with_chip rules s i c → SamplesOn rules end i s z
     samples-on m end c z to is = go m to.some to.each to.is
       where
         go : (n : ℕ) → 1 ≤ n → ((k : ℕ) → k < n → SamplesBelow rules end (sampled rules k pins (s.machine.chip i))) → c ≡ sampled rules n pins (s.machine.chip i) → SamplesOn rules end i s z
@@ -135,7 +128,7 @@ module _ {Chip Shared Pins : Type 0} (rules : Rules Chip Shared Pins) where
           samples = suc n;
           some = some;
           each = λ k h. subst (λ (x : Chip). SamplesBelow rules end x) (sym (chip-on k (λ j q. (each j (omega arith)).0))) (each k h);
-          is = is ∙ ap (λ x. with_chip s i x) came ∙ sym (all-on n (λ k h. (each k h).0));
+          is = is ∙ ap (λ x. with_chip rules s i x) came ∙ sym (all-on n (λ k h. (each k h).0));
         }
 
 module _ {Chip Shared Pins : Type 0} (rules : Rules Chip Shared Pins) (chip_ok : Chip → Type 0) (shared_ok : Shared → Type 0) (law : Lawful rules chip_ok shared_ok) where
@@ -177,7 +170,7 @@ module _ {Chip Shared Pins : Type 0} (rules : Rules Chip Shared Pins) (chip_ok :
           en : IsEnabled rules z t (Sample i)
           en = sample-enabled rules t z i end h next before.limit
 
-      on-sampled : (n : ℕ) → ((k : ℕ) → k < n → SamplesBelow rules end ((sampled_on rules k s i).machine.chip i)) → Sampled t end i n s (sampled_on rules n s i)
+      pub on-sampled : (n : ℕ) → ((k : ℕ) → k < n → SamplesBelow rules end ((sampled_on rules k s i).machine.chip i)) → Sampled t end i n s (sampled_on rules n s i)
       unfolding sampled_on
       on-sampled zero each = record { led = reaches-itself rules t s; tidy = tidy; keys = λ keys. keys; limit = limit; least = λ least. least; less = omega arith }
       on-sampled (suc n) each = next-sampled n (sampled_on rules n s i) (on-sampled n (λ k q. each k (omega arith))) (each n (omega arith))

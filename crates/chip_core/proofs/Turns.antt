@@ -13,11 +13,11 @@ use Rattle.chip_core.specs.declared.event.Event.{Event}
 use Rattle.chip_core.specs.declared.event.Event.TheVariants.{Announce, Perform, Sample}
 use Rattle.chip_core.specs.Chips.{Rules, Lawful}
 use Rattle.chip_core.specs.Cores.{CoreValue, IsCore, ReachesEnd, machine_of, no_key, seen}
-use Rattle.chip_core.specs.Events.{AreKeys, HasPlace, HasRoom, IsBelowAll, IsEnabled, IsTidy, Leads, Reaches, Seen, after, left_bound, own_event, past_access}
+use Rattle.chip_core.specs.Events.{AreKeys, HasPlace, HasRoom, AwaitsAccess, IsBelowAll, IsEnabled, IsTidy, IsTurn, Leads, Reaches, Seen, after, left_bound, own_event, past_access}
 use Rattle.chip_core.specs.Machines.{IsQuiet, IsRunTo, Machine, is_sample, key_of, least_below, move, mover, put}
 use Rattle.chip_core.proofs.Keys.{rank, by_test, least-false, least-true, put-same, put-other, put-each, least-same, rank-key_lt}
 use Rattle.chip_core.proofs.Stages.{chip-other, mover-in, mover-least, number-small, rank-apart}
-use Rattle.chip_core.proofs.Keeps.{enabled-wider, stands-leads, tidy-after, tidy-leads}
+use Rattle.chip_core.proofs.Keeps.{enabled-wider, stands-leads, tidy-after, tidy-leads, tidy_announce, tidy_move}
 use Rattle.chip_core.proofs.Led.{place-room, room-after}
 use Rattle.chip_core.proofs.Lists.{core-tidy, core_value, set-put, valid-core, stands-itself, tidy-core}
 use Rattle.chip_core.proofs.Ends.{is_run_to}
@@ -41,7 +41,7 @@ put-twice f i x y =
     fun_ext (λ k. put-each (λ n z. z ≡ put f i y n) (put f i x) i y k (λ _. sym (put-same f i y)) (λ ne. put-other f i x k ne ∙ sym (put-other f i y k ne)))
 
 -- a place that holds the value already
-put-back : {X : Type 0} (f : ℕ → X) (i : ℕ) (x : X) → f i ≡ x → put f i x ≡ f
+pub put-back : {X : Type 0} (f : ℕ → X) (i : ℕ) (x : X) → f i ≡ x → put f i x ≡ f
 put-back f i x e = fun_ext (λ k. put-each (λ n y. y ≡ f n) f i x k (λ _. sym e) (λ _. refl))
 
 module _ {Chip Shared Pins : Type 0} (rules : Rules Chip Shared Pins) where
@@ -113,6 +113,21 @@ module _ {Chip Shared Pins : Type 0} (rules : Rules Chip Shared Pins) where
       moved : Seen Chip Shared
       moved = after rules s (own_event rules s i)
 
+  -- and after the access that a chip waits at, if it waits at one
+  pub keys-past : (s : Seen Chip Shared) (i : ℕ) → AreKeys rules s rules.count → AreKeys rules (past_access rules s i) rules.count
+  keys-past s i keys =
+      by_test (is_sample rules s.machine i)
+      (λ e. subst (λ b. AreKeys rules (cond b s (after rules (after rules s (Perform i)) (Announce i))) rules.count) (sym e) keys)
+      (λ e. subst (λ b. AreKeys rules (cond b s (after rules (after rules s (Perform i)) (Announce i))) rules.count) (sym e)
+      (subst (λ b. AreKeys rules (after rules (after rules s (cond b (Sample i) (Perform i))) (Announce i)) rules.count) e (keys-turned s i keys)))
+
+  -- the event whose turn it is may come
+  pub turn-enabled : (t : ℕ) (s : Seen Chip Shared) (i : ℕ) → IsTurn rules t s i → IsEnabled rules s t (own_event rules s i)
+  turn-enabled t s i turn =
+      by_test (is_sample rules s.machine i)
+      (λ e. subst (λ b. IsEnabled rules s t (cond b (Sample i) (Perform i))) (sym e) (turn.inside, e, turn.low, λ j q ne _. turn.first j q ne))
+      (λ e. subst (λ b. IsEnabled rules s t (cond b (Sample i) (Perform i))) (sym e) (turn.inside, e, turn.low, turn.first))
+
   -- the least bound is the mover's
   pub least-mover : (s : Seen Chip Shared) → AreKeys rules s rules.count → least_below s.bound rules.count ≡ mover rules s.machine
   unfolding mover
@@ -135,14 +150,8 @@ module _ {Chip Shared Pins : Type 0} (rules : Rules Chip Shared Pins) (chip_ok :
 
   module _ (t : ℕ) (small : t ≤ cycle_limit) (s : Seen Chip Shared) (tidy : IsTidy rules chip_ok shared_ok s) where
     -- the chip of least bound comes before all others
-    pub first-enabled : AreKeys rules s rules.count → (i : ℕ) → i ≡ least_below s.bound rules.count → (s.bound i).cycle < t
-        → (i < rules.count) × IsEnabled rules s t (own_event rules s i)
-    first-enabled keys i is low = (
-      inside,
-      by_test (is_sample rules s.machine i)
-          (λ e. subst (λ b. IsEnabled rules s t (cond b (Sample i) (Perform i))) (sym e) (inside, e, cycle, λ j q ne _. above j q ne))
-          (λ e. subst (λ b. IsEnabled rules s t (cond b (Sample i) (Perform i))) (sym e) (inside, e, cycle, above)),
-    )
+    pub first-turn : AreKeys rules s rules.count → (i : ℕ) → i ≡ least_below s.bound rules.count → (s.bound i).cycle < t → IsTurn rules t s i
+    first-turn keys i is low = record { inside = inside; low = cycle; first = above }
       where
         at : i ≡ mover rules s.machine
         at = is ∙ least-mover rules s keys
@@ -199,13 +208,6 @@ module _ {Chip Shared Pins : Type 0} (rules : Rules Chip Shared Pins) (chip_ok :
           (λ e. subst (λ b. Reaches rules t s (cond b s (after rules (after rules s (Perform i)) (Announce i)))) (sym e)
           (subst (λ b. Reaches rules t s (after rules (after rules s (cond b (Sample i) (Perform i))) (Announce i))) e turn-reaches))
 
-      pub keys-past : AreKeys rules s rules.count → AreKeys rules (past_access rules s i) rules.count
-      keys-past keys =
-          by_test (is_sample rules s.machine i)
-          (λ e. subst (λ b. AreKeys rules (cond b s (after rules (after rules s (Perform i)) (Announce i))) rules.count) (sym e) keys)
-          (λ e. subst (λ b. AreKeys rules (cond b s (after rules (after rules s (Perform i)) (Announce i))) rules.count) (sym e)
-          (subst (λ b. AreKeys rules (after rules (after rules s (cond b (Sample i) (Perform i))) (Announce i)) rules.count) e (keys-turned rules s i keys)))
-
       -- what leads on from there to where no sample of the chip may come leaves less to do
       pub past-less : (z : Seen Chip Shared) → Reaches rules t (past_access rules s i) z → (IsEnabled rules z t (Sample i) → ⊥) → work rules t z < work rules t s
       past-less z r ended =
@@ -222,15 +224,17 @@ module _ {Chip Shared Pins : Type 0} (rules : Rules Chip Shared Pins) (chip_ok :
           some [] l due = absurd (ended (subst (λ (x : Seen Chip Shared). IsEnabled rules x t (Sample i)) (sym l) due))
           some (e ∷ es) l due = let falls = work-leads rules chip_ok shared_ok law t small s tidy (e ∷ es) z l in omega arith
 
-  -- an event and an announcement leave a core
-  pub core-turned : (v w : CoreValue Chip Shared) → IsCore rules chip_ok shared_ok v → (e : Event) → IsEnabled rules (seen rules v) cycle_limit e → (i : ℕ) → i < rules.count
-      → length w.chips ≡ rules.count → length w.bounds ≡ rules.count → seen rules w ≡ after rules (after rules (seen rules v) e) (Announce i) → IsCore rules chip_ok shared_ok w
-  core-turned v w core e en i h cs bs is =
-      let tidy = tidy-after rules chip_ok shared_ok law (seen rules v) (tidy-core rules chip_ok shared_ok v core) e en in
-      let r = announced-reaches cycle_limit (after rules (seen rules v) e) tidy i h in
+  -- an access and an announcement leave a tidy core, whatever bounds the others have
+  pub tidy-accessed : (s : Seen Chip Shared) → IsTidy rules chip_ok shared_ok s → (i : ℕ) → AwaitsAccess rules s i → IsTidy rules chip_ok shared_ok (after rules (after rules s (Perform i)) (Announce i))
+  tidy-accessed s tidy i at =
+      tidy_announce rules chip_ok shared_ok law (after rules s (Perform i))
+      (tidy_move rules chip_ok shared_ok law s tidy i at.inside at.low (after rules s (Perform i)).journal) i at.inside
+
+  pub core-turned : (v w : CoreValue Chip Shared) → IsCore rules chip_ok shared_ok v → (i : ℕ) → AwaitsAccess rules (seen rules v) i
+      → length w.chips ≡ rules.count → length w.bounds ≡ rules.count → seen rules w ≡ after rules (after rules (seen rules v) (Perform i)) (Announce i) → IsCore rules chip_ok shared_ok w
+  core-turned v w core i at cs bs is =
       core-tidy rules chip_ok shared_ok w cs bs
-      (subst (λ (s : Seen Chip Shared). IsTidy rules chip_ok shared_ok s) (sym is)
-      (tidy-leads rules chip_ok shared_ok law cycle_limit (omega arith) (after rules (seen rules v) e) tidy r.0 (after rules (after rules (seen rules v) e) (Announce i)) r.1))
+      (subst (λ (s : Seen Chip Shared). IsTidy rules chip_ok shared_ok s) (sym is) (tidy-accessed (seen rules v) (tidy-core rules chip_ok shared_ok v core) i at))
 
   -- what enabled events lead to keeps what the core stood for, and has room
   pub ends-there : (v w : CoreValue Chip Shared) → IsCore rules chip_ok shared_ok v → IsCore rules chip_ok shared_ok w → (t : ℕ) → t ≤ cycle_limit → Reaches rules t (seen rules v) (seen rules w)

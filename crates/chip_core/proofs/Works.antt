@@ -70,6 +70,13 @@ module _ {Chip Shared Pins : Type 0} (rules : Rules Chip Shared Pins) (chip_ok :
   work-falls s tidy (Perform i) en = work_move s tidy i en.0 en.2
   work-falls s tidy (Sample i) en = work_move s tidy i en.0 en.2
 
+  -- a move takes one of all the moves that are left
+  pub all-fall : (s : Seen Chip Shared) → IsTidy rules chip_ok shared_ok s → (i : ℕ) → i < rules.count → (key_of rules s.machine i).cycle < t
+      → all_moves_left rules t (move rules s.machine i) + 1 ≤ all_moves_left rules t s.machine
+  all-fall s tidy i h low =
+      total-falls rules.count (moves_left rules t (move rules s.machine i)) (moves_left rules t s.machine) i 1 h (moved-left s tidy i h low)
+      (λ k q ne. let same = others-left s i k ne in omega arith)
+
   -- an event takes of the moves that are left what it adds to the journal
   pub room-falls : (s : Seen Chip Shared) → IsTidy rules chip_ok shared_ok s → (e : Event) → IsEnabled rules s t e
       → length (after rules s e).journal + all_moves_left rules t (after rules s e).machine ≤ length s.journal + all_moves_left rules t s.machine
@@ -78,12 +85,6 @@ module _ {Chip Shared Pins : Type 0} (rules : Rules Chip Shared Pins) (chip_ok :
       let fall = all-fall s tidy i en.0 en.2 in
       let one = length-append s.journal ((accessed rules s.machine i).entry ∷ []) in
       omega arith
-    where
-      all-fall : (s : Seen Chip Shared) → IsTidy rules chip_ok shared_ok s → (i : ℕ) → i < rules.count → (key_of rules s.machine i).cycle < t
-          → all_moves_left rules t (move rules s.machine i) + 1 ≤ all_moves_left rules t s.machine
-      all-fall s tidy i h low =
-          total-falls rules.count (moves_left rules t (move rules s.machine i)) (moves_left rules t s.machine) i 1 h (moved-left s tidy i h low)
-          (λ k q ne. let same = others-left s i k ne in omega arith)
   room-falls s tidy (Sample i) en =
       let fall = total-falls rules.count (moves_left rules t (move rules s.machine i)) (moves_left rules t s.machine) i 0 en.0
       (let less = moved-left s tidy i en.0 en.2 in omega arith)

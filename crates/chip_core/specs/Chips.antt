@@ -1,5 +1,5 @@
 -- What a set of chips does, as functions on the plain data that contracts see.
-use Rattle.std.specs.Prelude.{◌≡◌, ℕ, zero, suc, ◌+◌, ◌<◌, ◌≤◌, Bool, true, false}
+use Rattle.std.specs.Prelude.{◌≡◌, ◌≢◌, ℕ, zero, suc, ◌+◌, ◌<◌, ◌≤◌, Bool, true, false}
 use Rattle.md_word.specs.Clock.{cycle_limit}
 use Rattle.md_word.specs.declared.event.Entry.{Entry}
 use Rattle.md_word.specs.declared.event.Next.{Next}
@@ -47,6 +47,19 @@ module _ {Chip Shared Pins : Type 0} (rules : Rules Chip Shared Pins) where
     pub led : SamplesTo samples end pins before after
     pub ended : SamplesBelow end after → ⊥
 
+  -- however many samples of these pins the chip makes, its next event is a sample again
+  abbrev pub Rests : Pins → Chip → Type 0
+  Rests pins c = (n : ℕ) → (rules.next (sampled n pins c)).sample ≡ true
+
+  -- accesses of the chip of this number change no pins
+  abbrev pub WritesNone : ℕ → Type 0
+  WritesNone i = (j : ℕ) → j < rules.count → rules.writes i j ≡ false
+
+  -- the samples of these pins that come before a key are the first n
+  pub record AreBelow (end : Key) (n : ℕ) (pins : Pins) (c : Chip) : Type 0 where
+    pub each : (k : ℕ) → k < n → SamplesBelow end (sampled k pins c)
+    pub ended : SamplesBelow end (sampled n pins c) → ⊥
+
   -- the pins of the chip of this number, of a shared state that the laws speak of
   pub record ArePins (shared_ok : Shared → Type 0) (pins : Pins) (i : ℕ) : Type 0 where
     pub shared : Shared
@@ -66,6 +79,11 @@ module _ {Chip Shared Pins : Type 0} (rules : Rules Chip Shared Pins) (chip_ok :
     pub number : (rules.next c).key.chip ≡ i
     pub kind : (rules.next c).sample ≡ sample
     pub cycle : (rules.next c).key.cycle < cycle_limit
+
+  -- each access of another chip that makes this entry leaves the pins of chip number j
+  abbrev pub LeavesPins : Entry → ℕ → Type 0
+  LeavesPins entry j =
+      (c : Chip) (s : Shared) (i : ℕ) → IsDue c s i false → i ≢ j → (rules.perform c s).entry ≡ entry → rules.pins (rules.perform c s).shared j ≡ rules.pins s j
 
   -- the chip is one that the locked part of an access left, and its private work is due
   pub record IsPerformed (c : Chip) : Type 0 where

@@ -1,5 +1,6 @@
 -- The events of a core: where each is enabled, and what it does.
 use Rattle.std.specs.Prelude.{◌≡◌, ◌≢◌, ℕ, zero, suc, ◌+◌, ◌<◌, ◌≤◌, Bool, true, false, cond, List, [], ◌∷◌, ◌++◌, length}
+use Rattle.md_word.specs.Clock.{cycle_limit}
 use Rattle.md_word.specs.declared.event.Entry.{Entry}
 use Rattle.md_word.specs.declared.key.Key.{Key}
 use Rattle.md_word.specs.Keys.{key_lt}
@@ -62,6 +63,18 @@ module _ {Chip Shared Pins : Type 0} (rules : Rules Chip Shared Pins) where
   after s (Announce i) = record { machine = s.machine; bound = put s.bound i (key_of rules s.machine i); journal = s.journal }
   after s (Perform i) = record { machine = move rules s.machine i; bound = put s.bound i (left_bound s.machine i); journal = s.journal ++ (accessed rules s.machine i).entry ∷ [] }
   after s (Sample i) = record { machine = move rules s.machine i; bound = put s.bound i (left_bound s.machine i); journal = s.journal }
+
+  -- chip i's next event comes below a cycle and before the bounds of all others
+  pub record IsTurn (t : ℕ) (s : Seen Chip Shared) (i : ℕ) : Type 0 where
+    pub inside : i < rules.count
+    pub low : (key_of rules s.machine i).cycle < t
+    pub first : IsBelowAll s i
+
+  -- chip i waits at an access, below the last cycle
+  pub record AwaitsAccess (s : Seen Chip Shared) (i : ℕ) : Type 0 where
+    pub inside : i < rules.count
+    pub kind : is_sample rules s.machine i ≡ false
+    pub low : (key_of rules s.machine i).cycle < cycle_limit
 
   -- the event that chip i waits at
   abbrev pub own_event : Seen Chip Shared → ℕ → Event

@@ -6,4 +6,5 @@ pub mod Events
 pub mod Limits
 pub mod Looks
 pub mod Machines
+pub mod Resting
 pub mod Standing

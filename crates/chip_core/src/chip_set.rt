@@ -11,7 +11,7 @@ use std::sync::Wait;
 ///
 /// What moves chips between threads asks that the set and its types may go there.
 pub trait ChipSet {
-    ghost use Rattle.chip_core.specs.Chips.{IsDue, IsPerformed, Lawful, Rules, SamplesBelow, SamplesTo};
+    ghost use Rattle.chip_core.specs.Chips.{IsDue, IsPerformed, Lawful, LeavesPins, Rests, Rules, SamplesBelow, SamplesTo, WritesNone};
     ghost use Rattle.chip_core.specs.Cores.{CoreValue, IsCoded};
 
     /// A chip, at its next event.
@@ -104,6 +104,23 @@ pub trait ChipSet {
     /// Whether accesses of the one chip can change the input pins of the other.
     fn writes(writer: u8, chip: u8) -> bool
         ensures { result ≡ rules.writes writer chip };
+
+    /// Whether the chip, of this number, rests: it only samples its pins as they are, however often, and
+    /// makes no access. Only a chip whose accesses change no pins may rest.
+    fn rests(chip: &Self::Chip, number: u8, shared: &Self::Shared) -> bool
+        ensures rests { result ≡ true → Rests rules (rules.pins shared.now number) chip.now }
+        ensures apart { result ≡ true → WritesNone rules number }
+    {
+        false
+    }
+
+    /// Whether an access of another chip, by its entry, may have changed the pins of the chip of this
+    /// number.
+    fn wakes(entry: &Entry, number: u8) -> bool
+        ensures { result ≡ false → LeavesPins rules chip_ok shared_ok entry.now number }
+    {
+        true
+    }
 
     /// Whether the private work after the chip's next event is worth being handed to another thread, where
     /// there is one: how several workers share their work depends on it, and nothing else.

@@ -3,6 +3,7 @@ ghost use Rattle.md_word.specs.Keys.{key_lt};
 ghost use Rattle.chip_core.specs.Cores.{bound_in, chip_in, key_in};
 ghost use Rattle.chip_core.specs.Looks.{or_else, least_lagging, FindsOther, IsBelowOthers, IsBelowWriters, IsFirst, IsLeastLimit, IsLimit, LooksAt};
 ghost use Rattle.chip_core.specs.Machines.{least_below};
+ghost use Rattle.chip_core.specs.Resting.{AreOthersLate, IsFirstOther};
 
 use crate::{ChipSet, Event};
 use md_word::{Key, Next};
@@ -183,6 +184,27 @@ pub fn least_of<C: ChipSet>(bounds: &[Key]) -> u8
         }
     }
     least
+}
+
+/// The number of the first of several bounds but for one chip's, where it lies below cycle `t`; each bound has
+/// the number of its place.
+#[inline(always)]
+pub(crate) fn first_other<C: ChipSet>(bounds: &[Key], t: u64, but: u8) -> Option<u8>
+    requires count { length bounds.now ≡ C.rules.count }
+    requires number { (i : ℕ) → i < length bounds.now → (bound_in bounds.now i).chip ≡ i }
+    ensures { MatchOption result (AreOthersLate t (bound_in bounds.now) (length bounds.now) but)
+        (λ i. IsFirstOther t (bound_in bounds.now) (length bounds.now) but i) }
+{
+    let mut first = None;
+    let mut cycle = t;
+    for number in 0..C::count() {
+        let next = bounds[number as usize].cycle;
+        if number != but && next < cycle {
+            cycle = next;
+            first = Some(number);
+        }
+    }
+    first
 }
 
 /// The move that a next event is.

@@ -13,6 +13,7 @@ use md_word::{Entry, Key};
 use std::marker::Model;
 
 mod parts;
+mod resting;
 pub(crate) mod run_least;
 mod steps;
 

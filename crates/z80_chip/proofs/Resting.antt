@@ -6,7 +6,7 @@ use Rattle.md_word.specs.declared.pins.Pins80.{Pins80}
 use Rattle.z80_exec.specs.Sample.Entries.{after_reset}
 use Rattle.z80_parcel.specs.Parcels.{Store}
 use Rattle.z80_chip.specs.Cases.{bus_case, case_of, is_interrupted, is_reset, is_rest, running_case, seen}
-use Rattle.z80_chip.specs.Events.{WentAhead, at_sample, begun, begun_after, begun_as, step, waited}
+use Rattle.z80_chip.specs.Events.{Rests, WentAhead, at_sample, begun, begun_after, begun_as, step, waited}
 use Rattle.z80_chip.specs.Validity.{IsChip80}
 use Rattle.z80_chip.specs.States.{State80, is_sample, next_of}
 use Rattle.z80_chip.specs.declared.case.Case.{Case}
@@ -80,6 +80,11 @@ module _ (cart : List ℕ) (state : State80) (pins : Pins80) (rest : is_rest (ca
   unfolding begun_after
   all-rest zero = first
   all-rest (suc n) = ap (λ x. begun cart x pins) (all-rest n) ∙ next (state.start + step * suc n) ∙ ap (at_sample reset) (omega arith)
+
+  pub rests : state.stage ≡ Sample → Rests cart state pins
+  unfolding begun_after
+  rests stage zero = stage
+  rests stage (suc n) = ap (λ (x : State80). x.stage) (all-rest n)
 
   pub first-start : (begun cart state pins).start ≡ state.start + step
   first-start = ap (λ (x : State80). x.start) first

@@ -102,6 +102,10 @@ unfoldable pub begun_after : ℕ → List ℕ → State80 → Pins80 → State80
 begun_after zero cart state pins = state
 begun_after (suc n) cart state pins = begun cart (begun_after n cart state pins) pins
 
+-- however many samples of the same pins it makes, its next event is a sample
+abbrev pub Rests : List ℕ → State80 → Pins80 → Type 0
+Rests cart state pins = (n : ℕ) → (begun_after n cart state pins).stage ≡ Sample
+
 -- so many samples of the same pins, at least one, lead from one state to the other, where each but the
 -- first lies below a cycle
 pub record WentAhead (samples cycle : ℕ) (cart : List ℕ) (pins : Pins80) (before after : State80) : Type 0 where

@@ -41,7 +41,7 @@ impl Model for Chip80 {
 impl Chip80 {
     ghost use Rattle.std.specs.Arc.{arc_value};
     ghost use Rattle.z80_chip.specs.Cases.{case_of, is_rest};
-    ghost use Rattle.z80_chip.specs.Events.{WentAhead, answered, asked_of, begun, handed};
+    ghost use Rattle.z80_chip.specs.Events.{Rests, WentAhead, answered, asked_of, begun, handed};
     ghost use Rattle.z80_chip.specs.Validity.{IsChip80};
     ghost use Rattle.z80_parcel.specs.Requests.{Fits, request_value80_of, answer_value80_of};
     ghost use Rattle.z80_chip.specs.States.{next_of, power_on};
@@ -140,6 +140,14 @@ impl Chip80 {
             samples += 1;
         }
         samples
+    }
+
+    /// Whether the next event is a sample at which the Z80 does nothing, and so are all samples of these pins
+    /// after it: the bus has its RAM, or its reset is held.
+    pub fn rests(&self, pins: &Pins80) -> bool
+        ensures { result ≡ true → Rests self.now.cart self.now.state pins.now }
+    {
+        self.next().sample && self.sequencer.case_at(pins, &self.parcel).is_rest()
     }
 
     /// Takes the sample that is the next event and, where the Z80 does nothing, all samples of these

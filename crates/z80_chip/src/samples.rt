@@ -59,7 +59,7 @@ impl Sequencer {
 
     /// What the next sample finds, once it has looked at the reset.
     #[tactic(auto, unfolding(crate::specs::Cases::case_of))]
-    fn case_at(&self, pins: &Pins80, parcel: &Option<Parcel>) -> Case
+    pub(crate) fn case_at(&self, pins: &Pins80, parcel: &Option<Parcel>) -> Case
         ensures value { result ≡ cases.case_of (state_of self.now parcel.now) pins.now }
         ensures ram { cases.RunsWithRam result (is_some parcel.now) }
     {

@@ -3,17 +3,20 @@ ghost use Rattle.md_word.specs.Clock.{cycle_limit};
 ghost use Rattle.chip_core.specs.declared.event.Event.{Event};
 ghost use Rattle.chip_core.specs.Chips.{SamplesBelow};
 ghost use Rattle.chip_core.specs.Cores.{IsCore, ReachesEnd, chip_in, machine_of, seen};
-ghost use Rattle.chip_core.specs.Events.{AreKeys, HasPlace, HasRoom, IsEnabled, Reaches, SamplesOn, after, own_event, past_access};
+ghost use Rattle.chip_core.specs.Events.{AreKeys, AwaitsAccess, HasPlace, HasRoom, IsEnabled, IsTurn, Reaches, SamplesOn, after, own_event, past_access};
+ghost use Rattle.chip_core.specs.Limits.{all_moves_left};
 ghost use Rattle.chip_core.specs.Looks.{IsLeastLimit, IsLimit};
-ghost use Rattle.chip_core.specs.Machines.{IsRunTo, least_below};
+ghost use Rattle.chip_core.specs.Machines.{IsRunTo, accessed, key_of, least_below};
+ghost use Rattle.chip_core.specs.Resting.{SamplesWithin};
 
 use crate::look::{least_of, limit_of};
 use crate::{ChipSet, Core};
-use md_word::Key;
+use md_word::{Entry, Key};
 
 /// Brings a core to the machine after all events below cycle `t`: it announces every chip, and then
 /// lets the chip of least bound make its event and announces it again, until no bound lies below.
-/// A chip that samples continues at once, up to the bounds of the chips that write its pins.
+/// A chip that samples continues at once, up to the bounds of the chips that write its pins. A chip that rests
+/// sleeps while the others go on, and makes its samples once its pins may have changed, or at the end.
 ///
 /// The journal has to have a free place for each access below `t`, which [`crate::laws::room`]
 /// shows.
@@ -29,8 +32,7 @@ pub fn run_least<C: ChipSet>(core: &mut Core<C>, t: u64)
     core.known();
     core.announce_all();
     while let Some(chip) = core.first_below(t) {
-        core.turn(chip);
-        core.sample_on(t, chip);
+        core.go_on(t, chip);
     }
 }
 
@@ -76,11 +78,32 @@ impl<C: ChipSet> Core<C> {
         }
     }
 
+    /// The chip, whose event comes before all others, goes on: it sleeps where it rests, and else makes its
+    /// event and the samples after it.
+    fn go_on(&mut self, t: u64, chip: u8)
+        requires time { t ≤ cycle_limit }
+        requires turn { IsTurn C.rules t (seen C.rules self.old) chip }
+        requires keys { AreKeys C.rules (seen C.rules self.old) C.rules.count }
+        requires room { HasRoom C.rules t (seen C.rules self.old) self.old.room }
+        ensures led { Reaches C.rules t (seen C.rules self.old) (seen C.rules self.new) }
+        ensures less { all_moves_left C.rules t (machine_of C.rules self.new) < all_moves_left C.rules t (machine_of C.rules self.old) }
+        ensures keys { AreKeys C.rules (seen C.rules self.new) C.rules.count }
+        ensures room { self.new.room ≡ self.old.room }
+        ensures core { IsCore C.rules C.chip_ok C.shared_ok self.new }
+    {
+        if self.rests(chip) {
+            self.rest(t, chip);
+            return;
+        }
+        self.turn(chip);
+        self.sample_on(t, chip);
+    }
+
     /// The chip makes the access that it waits at, where it waits at one, and its bound becomes the key of
     /// its next event.
     fn turn(&mut self, chip: u8)
         requires chip { chip < C.rules.count }
-        requires enabled { IsEnabled C.rules (seen C.rules self.old) cycle_limit (own_event C.rules (seen C.rules self.old) chip) }
+        requires low { (key_of C.rules (machine_of C.rules self.old) chip).cycle < cycle_limit }
         requires room { HasPlace (length self.old.journal) self.old.room (own_event C.rules (seen C.rules self.old) chip) }
         ensures after { seen C.rules self.new ≡ past_access C.rules (seen C.rules self.old) chip }
         ensures room { self.new.room ≡ self.old.room }
@@ -94,11 +117,12 @@ impl<C: ChipSet> Core<C> {
 
     /// The chip samples on, below cycle `t` and the bounds of the others that write its pins, as long as it
     /// may.
-    fn sample_on(&mut self, t: u64, chip: u8)
+    pub(crate) fn sample_on(&mut self, t: u64, chip: u8)
         requires time { t ≤ cycle_limit }
         requires chip { chip < C.rules.count }
         requires keys { AreKeys C.rules (seen C.rules self.old) C.rules.count }
         ensures led { Reaches C.rules t (seen C.rules self.old) (seen C.rules self.new) }
+        ensures within { SamplesWithin C.rules t chip (seen C.rules self.old) (seen C.rules self.new) }
         ensures ended { ¬ IsEnabled C.rules (seen C.rules self.new) t (Event.Sample chip) }
         ensures keys { AreKeys C.rules (seen C.rules self.new) C.rules.count }
         ensures room { self.new.room ≡ self.old.room }
@@ -115,7 +139,7 @@ impl<C: ChipSet> Core<C> {
     }
 
     /// The input pins of a chip.
-    fn pins_of(&self, chip: u8) -> C::Pins
+    pub(crate) fn pins_of(&self, chip: u8) -> C::Pins
         ensures value { result ≡ C.rules.pins self.now.shared chip }
         ensures core { IsCore C.rules C.chip_ok C.shared_ok self.now }
     {
@@ -132,7 +156,7 @@ impl<C: ChipSet> Core<C> {
     }
 
     /// Whether the chip's next event is a sample below a key.
-    fn samples_below(&self, chip: u8, end: &Key) -> bool
+    pub(crate) fn samples_below(&self, chip: u8, end: &Key) -> bool
         requires { chip < C.rules.count }
         ensures value { IsTrue result ↔ SamplesBelow C.rules end.now (chip_in C.rules self.now.chips chip) }
         ensures core { IsCore C.rules C.chip_ok C.shared_ok self.now }
@@ -162,11 +186,13 @@ impl<C: ChipSet> Core<C> {
         bound.chip = next.key.chip;
     }
 
-    fn turn_access(&mut self, chip: u8)
-        requires enabled { IsEnabled C.rules (seen C.rules self.old) cycle_limit (Event.Perform chip) }
+    /// The chip makes its access, and its bound becomes the key of its next event; answers the entry.
+    pub(crate) fn turn_access(&mut self, chip: u8) -> Entry
+        requires access { AwaitsAccess C.rules (seen C.rules self.old) chip }
         requires room { length self.old.journal < self.old.room }
         ensures after { seen C.rules self.new
             ≡ after C.rules (after C.rules (seen C.rules self.old) (Event.Perform chip)) (Event.Announce chip) }
+        ensures entry { result ≡ (accessed C.rules (machine_of C.rules self.old) chip).entry }
         ensures room { self.new.room ≡ self.old.room }
         ensures core { IsCore C.rules C.chip_ok C.shared_ok self.new }
     {
@@ -178,5 +204,6 @@ impl<C: ChipSet> Core<C> {
         bound.cycle = next.key.cycle;
         bound.chip = next.key.chip;
         self.journal.push_reserved(entry);
+        entry
     }
 }

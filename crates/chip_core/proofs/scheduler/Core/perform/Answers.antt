@@ -21,7 +21,7 @@ enabled g c = enabled-at g.C.ChipSet.rules (before g c) c.args.self.now cycle_li
 
 left : (g : Over) (c : goal.After-push_reserved g) → seen g.C.ChipSet.rules (now g c) ≡ after g.C.ChipSet.rules (seen g.C.ChipSet.rules (before g c)) (Perform c.args.chip)
 left g c =
-    held-performed g.C.ChipSet.rules (before g c) c.args.chip cycle_limit (enabled g c)
+    held-performed g.C.ChipSet.rules (before g c) c.args.chip (enabled g c).1
     (omega (arith, c.requires.enabled.0, c.self.invariant.shape.chip_count)) (omega (arith, c.requires.enabled.0, c.self.invariant.shape.bound_count))
     c.index_mut-held.result.now (g.C.ChipSet.rules.perform c.index_mut-held.result.now c.self.inside.shared).chip c.access-entry.new.chip c.next-next.result c.bound_after.result c.access-entry.new.shared c.access-entry.result c.push_reserved.new.self.items (vec_capacity c.push_reserved.new.self)
     c.index_mut-held.ensures.value c.next-next.ensures.value c.access-entry.ensures.shared refl c.access-entry.ensures.entry c.access-entry.ensures.chip c.bound_after.ensures c.push_reserved.ensures.items

@@ -1,9 +1,10 @@
-use Rattle.std.proofs.Common.{sym, ◌∙◌, ap, arith}
+use Rattle.std.proofs.Common.{sym, ◌∙◌, ap, arith, refl}
 use Rattle.md_word.specs.Clock.{cycle_limit}
 use Rattle.chip_core.specs.Cores.{seen}
 use Rattle.chip_core.proofs.Lists.{tidy-core}
 use Rattle.chip_core.proofs.Sampling.{Sampled, limit-wider, sampled-on}
-use Rattle.chip_core.proofs.Turns.{reaches-on}
+use Rattle.chip_core.proofs.Within.{from-first, from-on, from-within, within-none}
+use Rattle.chip_core.proofs.Turns.{reaches-itself, reaches-on}
 use Rattle.chip_core.proofs.scheduler.Core.sample_on.Given.{Over}
 use Rattle.chip_core.proofs.scheduler.Core.sample_on.Goals as goal
 
@@ -24,6 +25,7 @@ loop-end-smaller g c = let less = (came g c).less in let some = c.turn_samples.e
 pub loop-end-preserved : goal.loop-end-preserved
 loop-end-preserved g c = record {
   led = reaches-on g.C.ChipSet.rules c.args.t (seen g.C.ChipSet.rules c.args.self.now) (seen g.C.ChipSet.rules c.loop-end.self) (seen g.C.ChipSet.rules c.turn_samples.new.self) c.loop-end.invariant.led (came g c).led;
+  within = from-on g.C.ChipSet.rules c.args.t c.limit-end.result c.args.chip (seen g.C.ChipSet.rules c.args.self.now) (seen g.C.ChipSet.rules c.loop-end.self) (seen g.C.ChipSet.rules c.turn_samples.new.self) c.loop-end.invariant.within c.turn_samples.ensures.on;
   keys = (came g c).keys c.loop-end.invariant.keys;
   limit = (came g c).limit;
   least = (came g c).least c.loop-end.invariant.least;
@@ -31,3 +33,21 @@ loop-end-preserved g c = record {
   room = c.turn_samples.ensures.room ∙ c.loop-end.invariant.room;
   core = c.turn_samples.ensures.core;
 }
+
+pub loop-end-init : goal.loop-end-init
+loop-end-init g c = record {
+  led = reaches-itself g.C.ChipSet.rules c.args.t (seen g.C.ChipSet.rules c.args.self.now);
+  within = from-first g.C.ChipSet.rules c.args.t c.limit-end.result c.args.chip (seen g.C.ChipSet.rules c.args.self.now) c.limit-end.ensures.limit;
+  keys = c.requires.keys;
+  limit = c.limit-end.ensures.limit;
+  least = c.limit-end.ensures.least;
+  pins = c.pins_of-pins.ensures.value;
+  room = refl;
+  core = c.limit-end.ensures.core;
+}
+
+pub returns-then-not-next-clause-within : goal.returns-then-not-next-clause-within
+returns-then-not-next-clause-within g c = within-none g.C.ChipSet.rules c.args.t c.args.chip (seen g.C.ChipSet.rules c.args.self.now)
+
+pub returns-clause-within : goal.returns-clause-within
+returns-clause-within g c = from-within g.C.ChipSet.rules c.args.t c.limit-end.result c.args.chip (seen g.C.ChipSet.rules c.args.self.now) (seen g.C.ChipSet.rules c.loop-end.self) c.loop-end.invariant.within

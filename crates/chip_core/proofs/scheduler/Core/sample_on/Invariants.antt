@@ -2,6 +2,7 @@ use Rattle.std.proofs.Common.{◌≡◌}
 use Rattle.chip_core.specs.Cores.{IsCore, seen}
 use Rattle.chip_core.specs.Events.{AreKeys, Reaches}
 use Rattle.chip_core.specs.Looks.{IsLeastLimit, IsLimit}
+use Rattle.chip_core.proofs.Within.{SamplesFrom}
 use Rattle.chip_core.proofs.Works.{work}
 use Rattle.chip_core.proofs.scheduler.Core.sample_on.Given as goal
 
@@ -9,6 +10,7 @@ use Rattle.chip_core.proofs.scheduler.Core.sample_on.Given as goal
 abbrev pub invariant-loop-end : goal.invariant-loop-end
 invariant-loop-end g l = record {
   led : Reaches g.C.ChipSet.rules l.t (seen g.C.ChipSet.rules l.fn.self) (seen g.C.ChipSet.rules l.self);
+  within : SamplesFrom g.C.ChipSet.rules l.t l.end l.chip (seen g.C.ChipSet.rules l.fn.self) (seen g.C.ChipSet.rules l.self);
   keys : AreKeys g.C.ChipSet.rules (seen g.C.ChipSet.rules l.self) g.C.ChipSet.rules.count;
   limit : IsLimit g.C.ChipSet.rules l.t (seen g.C.ChipSet.rules l.self).bound g.C.ChipSet.rules.count l.chip l.end;
   least : IsLeastLimit g.C.ChipSet.rules l.t (seen g.C.ChipSet.rules l.self).bound g.C.ChipSet.rules.count l.chip l.end;

@@ -1,7 +1,7 @@
 use Rattle.std.proofs.Common.{◌≡◌}
-use Rattle.chip_core.specs.Cores.{IsCore, seen}
+use Rattle.chip_core.specs.Cores.{IsCore, machine_of, seen}
 use Rattle.chip_core.specs.Events.{AreKeys, Reaches}
-use Rattle.chip_core.proofs.Works.{work}
+use Rattle.chip_core.specs.Limits.{all_moves_left}
 use Rattle.chip_core.proofs.scheduler.run_least.run_least.Given as goal
 
 -- enabled events led here, and the bounds are the keys
@@ -14,4 +14,4 @@ invariant-loop-chip g l = record {
 }
 
 abbrev pub decreases-loop-chip : goal.decreases-loop-chip
-decreases-loop-chip g l = work g.C.ChipSet.rules l.t (seen g.C.ChipSet.rules l.core)
+decreases-loop-chip g l = all_moves_left g.C.ChipSet.rules l.t (machine_of g.C.ChipSet.rules l.core)
