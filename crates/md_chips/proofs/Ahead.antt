@@ -20,7 +20,7 @@ use Rattle.md_chips.specs.declared.pins.Pins.{Pins}
 abbrev sub_in_state : SubValue → State80 → SubValue
 sub_in_state c state = record c { chip = record c.chip { state = state } }
 
-all-sub-begun : (c : SubValue) (pins : Pins) (n : ℕ) → sampled five n pins (Sub c) ≡ Sub (sub_in_state c (begun_after n c.chip.cart c.chip.state (sub_in pins)))
+pub all-sub-begun : (c : SubValue) (pins : Pins) (n : ℕ) → sampled five n pins (Sub c) ≡ Sub (sub_in_state c (begun_after n c.chip.cart c.chip.state (sub_in pins)))
 unfolding sampled begun_after
 all-sub-begun c pins zero = refl
 all-sub-begun c pins (suc n) = ap (λ x. five.sample x pins) (all-sub-begun c pins n)

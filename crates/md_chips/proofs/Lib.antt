@@ -20,6 +20,7 @@ pub mod Pads
 pub mod QuietStays
 pub mod Recorded
 pub mod Regions
+pub mod Resting
 pub mod Samples
 pub mod Schedules
 pub mod Segments

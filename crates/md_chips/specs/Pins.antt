@@ -1,5 +1,7 @@
 -- The input pins of a chip.
-use Rattle.std.specs.Prelude.{ℕ, ◌==◌, Bool, true, false}
+use Rattle.std.specs.Prelude.{ℕ, ◌==◌, Bool, true, false, if◌then◌else◌}
+use Rattle.md_word.specs.Map.{is_within}
+use Rattle.md_word.specs.declared.event.Entry.{Entry}
 use Rattle.md_word.specs.declared.pins.Pins80.{Pins80}
 use Rattle.bus_shared.specs.Accesses.{main_pins, sub_pins}
 use Rattle.bus_shared.specs.Board.{Board}
@@ -28,3 +30,8 @@ pins_by false board = Main (main_pins board)
 -- the pins of a chip, by its number; the Z80 is chip 1
 abbrev pub pins_of : Board → ℕ → Pins
 pins_of board chip = pins_by (chip == 1) board
+
+-- whether an access, by its entry, may change the Z80's pins: one of the 68000 from the Z80's bus
+-- request to its reset, A11100h to A11201h, and a line
+abbrev pub may_move_pins : Entry → Bool
+may_move_pins entry = if entry.key.chip == 0 then is_within 0xa1_1100 0xa1_1201 entry.address else entry.key.chip == 2

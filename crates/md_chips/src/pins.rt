@@ -1,7 +1,7 @@
 ghost use Rattle.std.specs.Prelude.{◌≡◌};
 ghost use Rattle.md_chips.specs.Pins as shown;
 
-use md_word::{Pins68, Pins80};
+use md_word::{Entry, Pins68, Pins80};
 
 /// The input pins of one chip.
 #[derive(Clone, Copy, Drop)]
@@ -42,4 +42,15 @@ impl Pins {
             Pins::Main(_) => &NONE,
         }
     }
+}
+
+/// Whether an access, by its entry, may have changed the Z80's pins: one of the 68000 at the Z80's bus request
+/// or its reset, or a line.
+pub(crate) fn may_move_pins(entry: &Entry) -> bool
+    ensures { result ≡ shown.may_move_pins entry.now }
+{
+    if entry.key.chip == 0 {
+        return entry.address >= 0xa1_1100 && entry.address <= 0xa1_1201;
+    }
+    entry.key.chip == 2
 }

@@ -5,7 +5,7 @@ ghost use Rattle.md_chips.specs.Laws.{lawful};
 ghost use Rattle.chip_core.specs.Codes.{code_of, core_of, coded};
 
 use crate::chips::Chip;
-use crate::pins::Pins;
+use crate::pins::{Pins, may_move_pins};
 use bus_shared::{Shared, pins68, pins80};
 use chip_core::ChipSet;
 use md_word::clock::{BATCH, LINE, MAIN_GAP, SUB_GAP};
@@ -115,6 +115,25 @@ impl ChipSet for MdChips {
 
     fn writes(writer: u8, _chip: u8) -> bool {
         writer == 0 || writer == 2
+    }
+
+    /// Only the Z80 rests.
+    fn rests(chip: &Chip, number: u8, shared: &Shared) -> bool {
+        if number != 1 {
+            return false;
+        }
+        match chip {
+            Chip::Sub(sub) => sub.rests(&pins80(shared)),
+            Chip::Main(_) | Chip::Renderer(_) | Chip::Fm(_) | Chip::Psg(_) => false,
+        }
+    }
+
+    /// Only the Z80's pins are looked at.
+    fn wakes(entry: &Entry, number: u8) -> bool {
+        if number != 1 {
+            return true;
+        }
+        may_move_pins(entry)
     }
 
     /// Whether what the chip does after its next event is worth a hand-over: a batch of an FM chip that may be

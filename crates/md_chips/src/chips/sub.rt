@@ -1,6 +1,6 @@
 ghost use Rattle.std.specs.Prelude.{◌≡◌, ◌<◌, ◌≤◌, false, true, IfSome, IsSome};
 ghost use Rattle.md_word.specs.Clock.{cycle_limit};
-ghost use Rattle.z80_chip.specs.Events.{WentAhead, asked_of};
+ghost use Rattle.z80_chip.specs.Events.{Rests, WentAhead, asked_of};
 ghost use Rattle.z80_chip.specs.States.{next_of};
 ghost use Rattle.z80_parcel.specs.Requests.{Fits};
 ghost use Rattle.md_chips.specs.Rules as rules;
@@ -71,6 +71,13 @@ impl SubChip {
         ensures { self.new ≡ rules.sub_sample self.old pins.now }
     {
         self.chip.sample(*pins);
+    }
+
+    /// Whether it rests at these pins.
+    pub(crate) fn rests(&self, pins: &Pins80) -> bool
+        ensures { result ≡ true → Rests self.now.chip.cart self.now.chip.state pins.now }
+    {
+        self.chip.rests(pins)
     }
 
     /// A sample, and those of the same pins below cycle `end` after it; answers how many that were.
