@@ -13,9 +13,7 @@ ghost use Rattle.m68k_chip.specs.States.{state_of};
 use crate::sequencer::{STEP, Sequencer};
 use crate::stage::Stage;
 use m68k_access::memory::RAM_SIZE;
-use m68k_exec::{
-    DecodeCache, Finish, PrivateStep, Progress, Step, predict_cached, run_private,
-};
+use m68k_exec::{DecodeCache, Finish, PrivateStep, Progress, Step, predict_cached, run_private};
 use m68k_time::clocks;
 use md_word::Request68;
 use md_word::clock::MAIN_CLOCK;

@@ -10,8 +10,6 @@ use Rattle.md_word.specs.declared.regs.Regs.{Regs}
 use Rattle.md_word.specs.declared.size.Size.{Size}
 use Rattle.md_word.specs.declared.size.Size.TheVariants.{Long, Word}
 use Rattle.md_word.specs.declared.task.Task.{Task}
-use Rattle.m68k_decode.specs.Fields.{opcode}
-use Rattle.m68k_decode.specs.Instructions.{instruction_of}
 use Rattle.m68k_decode.specs.declared.condition.Condition.{Condition}
 use Rattle.m68k_decode.specs.declared.decoded.Decoded.{Decoded}
 use Rattle.m68k_decode.specs.declared.displacement.Displacement.{Displacement}
@@ -19,9 +17,9 @@ use Rattle.m68k_decode.specs.declared.op.Op.{Op}
 use Rattle.m68k_decode.specs.declared.op.Op.TheVariants as ops
 use Rattle.m68k_ea.specs.Addresses.{effective_address}
 use Rattle.m68k_time.specs.Clocks.{clocks_of, passed_time}
-use Rattle.m68k_access.specs.Actions.{Act, give, is_odd}
+use Rattle.m68k_access.specs.Actions.{Act, is_odd}
 use Rattle.m68k_access.specs.Conditions.{holds}
-use Rattle.m68k_access.specs.Memory.{Memory, instruction_words}
+use Rattle.m68k_access.specs.Memory.{Memory}
 use Rattle.m68k_access.specs.Operands.{pull, push, with_part}
 use Rattle.m68k_access.specs.Outcomes.{Outcome, plain}
 use Rattle.m68k_access.specs.declared.stop.Stop.TheVariants.{Ask}

@@ -49,11 +49,8 @@ fn execute(op: &Op, clocks: u32, start: u32, context: &Context, regs: &mut Regs)
         Op::Nop | Op::Jmp(..) | Op::Bra(..) | Op::Bcc(..) | Op::Dbcc(..) => {
             branch(op, clocks, start, regs)
         }
-        Op::Move(_, _, Mode::Data(_))
-        | Op::Movea(..)
-        | Op::Moveq(..)
-        | Op::Lea(..)
-        | Op::Tst(..) => taking(clocks, moves(op, start, context, regs)),
+        Op::Move(_, _, Mode::Data(_)) | Op::Movea(..) | Op::Moveq(..) | Op::Lea(..) | Op::Tst(..) =>
+            taking(clocks, moves(op, start, context, regs)),
         Op::ToRegister(..)
         | Op::ToAddress(..)
         | Op::Cmp(..)
@@ -92,10 +89,10 @@ fn execute_store(
 {
     match op {
         Op::Bsr(..) | Op::Jsr(..) | Op::Rts => call(op, clocks, start, context, regs, progress),
-        Op::Quick(..)
-        | Op::ToMemory(..)
-        | Op::Immediate(..)
-        | Op::Unary(..) => taking(clocks, stores(op, start, context, regs, progress)),
+        Op::Quick(..) | Op::ToMemory(..) | Op::Immediate(..) | Op::Unary(..) => taking(
+            clocks,
+            stores(op, start, context, regs, progress),
+        ),
         _ => None,
     }
 }

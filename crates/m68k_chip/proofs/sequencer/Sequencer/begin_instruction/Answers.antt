@@ -1,11 +1,11 @@
-use Rattle.std.proofs.Common.{◌≡◌, ℕ, ◌+◌, ◌*◌, ◌∙◌, List, [], Some, ap, subst, sym}
+use Rattle.std.proofs.Common.{ℕ, ◌+◌, ◌*◌, ◌∙◌, List, [], Some, ap, subst, sym}
 use Rattle.md_word.specs.declared.regs.Regs.{Regs}
 use Rattle.m68k_access.specs.Memory.{Memory, ram_after}
 use Rattle.m68k_exec.specs.Sample.Private.{RunsPrivately}
 use Rattle.m68k_exec.specs.Sample.Samples.{sampled}
 use Rattle.m68k_exec.specs.declared.sample.step.Predicted.{Predicted}
 use Rattle.m68k_exec.specs.declared.sample.step.PrivateStep.{PrivateStep}
-use Rattle.m68k_exec.specs.declared.sample.step.PrivateStep.TheVariants.{Done, Need}
+use Rattle.m68k_exec.specs.declared.sample.step.PrivateStep.TheVariants.{Need}
 use Rattle.m68k_chip.specs.Events.{asking, rested, went_on}
 use Rattle.m68k_chip.specs.Held.{IsPredicted}
 use Rattle.m68k_chip.specs.States.{State68, state_of}
