@@ -13,7 +13,7 @@ ghost use Rattle.m68k_chip.specs.States.{state_of};
 use crate::sequencer::{STEP, Sequencer};
 use crate::stage::Stage;
 use m68k_access::memory::RAM_SIZE;
-use m68k_exec::{DecodeCache, Finish, Progress, Step, predict_cached, run_private};
+use m68k_exec::{DecodeCache, Finish, PrivateStep, Progress, Step, predict_cached, run_private};
 use m68k_time::clocks;
 use md_word::Request68;
 use md_word::clock::MAIN_CLOCK;
@@ -133,7 +133,7 @@ impl Sequencer {
     }
 
     /// Begins the instruction at the program counter, up to its end or to its first shared access. One that makes
-    /// none may end at once.
+    /// none may end at once, and a MOVE may come at once to the shared write that it waits for.
     #[inline(always)]
     pub fn begin_instruction(
         &mut self,
@@ -151,11 +151,21 @@ impl Sequencer {
         ensures waiting { WaitsFor self.new.stage cart.now (state_of self.new ram.new) self.new.request }
         ensures predicted { IsPredicted self.new.stage cart.now (state_of self.new ram.new) self.new.predicted }
     {
-        match run_private(&mut self.regs, cart, ram, cache, progress) {
-            Some(clocks) => {
-                store_all(progress.writes.as_slice(), ram);
-                self.finish_private(clocks);
-            }
+        match run_private(
+            &mut self.regs,
+            cart,
+            ram,
+            cache,
+            progress,
+            &mut self.predicted,
+        ) {
+            Some(step) => match step {
+                PrivateStep::Done(clocks) => {
+                    store_all(progress.writes.as_slice(), ram);
+                    self.finish_private(clocks);
+                }
+                PrivateStep::Need(request) => self.ask(0, request),
+            },
             None => self.go_on(0, cart, ram, cache, progress),
         }
     }

@@ -1,16 +1,15 @@
 -- Instructions that make no shared access and end in no exception.
-use Rattle.std.proofs.Common.{◌≡◌, ℕ, ◌+◌, ◌*◌, ◌%◌, ◌^◌, ◌==◌, ◌∙◌, Bool, true, false, List, [], length, Option, Some, None, Ok, cond, refl, sym, ap, arith}
+use Rattle.std.proofs.Common.{◌≡◌, ℕ, ◌+◌, ◌*◌, ◌%◌, ◌^◌, ◌==◌, ◌∙◌, Bool, true, false, List, [], length, Option, Some, None, Ok, Err, cond, refl, sym, ap, subst, arith}
 use Rattle.std.specs.Prelude.{if◌then◌else◌}
 use Rattle.md_word.specs.Answers.{Done}
 use Rattle.md_word.specs.Fields.{flags_of, register_of}
 use Rattle.md_word.specs.Width.{extended}
+use Rattle.md_word.specs.declared.main_bus.Request68.{Request68}
 use Rattle.md_word.specs.declared.mode.Mode.{Mode}
 use Rattle.md_word.specs.declared.regs.Regs.{Regs}
 use Rattle.md_word.specs.declared.size.Size.{Size}
 use Rattle.md_word.specs.declared.size.Size.TheVariants.{Long, Word}
 use Rattle.md_word.specs.declared.task.Task.{Task}
-use Rattle.m68k_decode.specs.Fields.{opcode}
-use Rattle.m68k_decode.specs.Instructions.{instruction_of}
 use Rattle.m68k_decode.specs.declared.condition.Condition.{Condition}
 use Rattle.m68k_decode.specs.declared.decoded.Decoded.{Decoded}
 use Rattle.m68k_decode.specs.declared.displacement.Displacement.{Displacement}
@@ -18,22 +17,30 @@ use Rattle.m68k_decode.specs.declared.op.Op.{Op}
 use Rattle.m68k_decode.specs.declared.op.Op.TheVariants as ops
 use Rattle.m68k_ea.specs.Addresses.{effective_address}
 use Rattle.m68k_time.specs.Clocks.{clocks_of, passed_time}
-use Rattle.m68k_access.specs.Actions.{Act, give, is_odd}
+use Rattle.m68k_access.specs.Actions.{Act, is_odd}
 use Rattle.m68k_access.specs.Conditions.{holds}
-use Rattle.m68k_access.specs.Memory.{Memory, instruction_words}
+use Rattle.m68k_access.specs.Memory.{Memory}
 use Rattle.m68k_access.specs.Operands.{pull, push, with_part}
 use Rattle.m68k_access.specs.Outcomes.{Outcome, plain}
+use Rattle.m68k_access.specs.declared.stop.Stop.TheVariants.{Ask}
 use Rattle.m68k_access.specs.Shapes.{change_data, following, jump_to}
 use Rattle.m68k_exec.specs.Rows.Branches as branches
 use Rattle.m68k_exec.specs.Rows.Control as control
+use Rattle.m68k_exec.specs.Rows.Moves.{move_operand}
 use Rattle.m68k_exec.specs.Rows.Shifts as shifts
 use Rattle.m68k_exec.specs.Sample.Caches.{IsInstructionAt, unspent}
 use Rattle.m68k_exec.specs.Sample.Execution.{row}
-use Rattle.m68k_exec.specs.Sample.Private.{CarriesOut, Changes, EndsPrivately, IsPrivate, Reads, RunsPrivately, Stores, took}
+use Rattle.m68k_exec.specs.Sample.Prediction.{FinishesPredicted, Predicts}
+use Rattle.m68k_exec.specs.Sample.Private.{CarriesOut, Changes, EndsPrivately, IsPrivate, Reads, RunsPrivately, Stores, WaitsPrivately, took}
 use Rattle.m68k_exec.specs.Sample.Samples as samples
 use Rattle.m68k_exec.specs.Sample.Samples.{Ended, finished, leaves_trace, nothing}
 use Rattle.m68k_exec.specs.declared.sample.cache.CachedInstruction.{CachedInstruction}
+use Rattle.m68k_exec.specs.declared.sample.step.Predicted.{Predicted}
+use Rattle.m68k_exec.specs.declared.sample.step.PrivateStep.{PrivateStep}
+use Rattle.m68k_exec.specs.declared.sample.step.PrivateStep.TheVariants as privates
+use Rattle.m68k_exec.specs.declared.sample.step.Step.TheVariants as steps
 use Rattle.m68k_exec.proofs.Bounds.Early.{row32}
+use Rattle.m68k_exec.proofs.Prediction.{instruction-predicts, sample-predicts}
 
 -- an outcome with neither an exception nor a stop
 pub record IsQuiet (outcome : Outcome) : Type 0 where
@@ -218,11 +225,34 @@ instruction-ends found first clocks old new memory done even untraced carried = 
   takes = carried.takes;
 }
 
+-- a MOVE that was carried out
+pub move-ends : (found : Decoded) (first clocks pc : ℕ) (size : Size) (source target : Mode) (old new : Regs) (memory : Memory) (done : Done) → found.op ≡ ops.Move size source target → is_odd old.pc ≡ false → leaves_trace old 0 ≡ false → memory.answers ≡ []
+    → pc ≡ (old.pc + found.length) % 2 ^ 32 → move_operand size source target old.pc (record old { pc = pc }) memory nothing ≡ Ok (plain new, done) → clocks ≡ clocks_of found.op unspent
+    → EndsPrivately (samples.instruction found first old) clocks new done.writes memory
+move-ends found first clocks pc size source target old new memory done is even untraced none after moves takes =
+    instruction-ends found first clocks old new memory done even untraced
+    (stores-takes true found.op old.pc clocks (record old { pc = (old.pc + found.length) % 2 ^ 32 }) new memory done none (rw is (rw (sym after) moves)) takes)
+
+-- a MOVE that waits for its write
+pub move-waits : (found : Decoded) (first pc : ℕ) (size : Size) (source target : Mode) (old : Regs) (memory : Memory) (predicted new : Predicted) (request : Request68) → found.op ≡ ops.Move size source target → is_odd old.pc ≡ false
+    → pc ≡ (old.pc + found.length) % 2 ^ 32 → move_operand size source target old.pc (record old { pc = pc }) memory nothing ≡ Err (Ask request)
+    → Predicts {A = Unit {0}} (Err (Ask request)) predicted (move_operand size source target old.pc (record old { pc = pc })) memory nothing
+    → new.known ≡ predicted.known → new.regs ≡ predicted.regs → (predicted.known ≡ true → FinishesPredicted new found.op old memory)
+    → WaitsPrivately (samples.instruction found first old) request new memory
+unfolding samples.instruction
+move-waits found first pc size source target old memory predicted new request is even after asks predicts same kept finishes =
+    let begins : row found.op old.pc (record old { pc = (old.pc + found.length) % 2 ^ 32 }) memory nothing ≡ Err (Ask request) = rw is (rw (sym after) asks) in
+    record {
+      asks = rw even (rw begins refl);
+      ends = instruction-predicts (Unit {0}) found first old memory predicted new (Ask request) request pc nothing even refl after refl
+          (subst (λ (op : Op). Predicts {A = Unit {0}} (Err (Ask request)) predicted (row op old.pc (record old { pc = pc })) memory nothing) (sym is) predicts) same kept finishes;
+    }
+
 -- the instruction at the program counter
-pub sample-runs : (result : Option ℕ) (found : CachedInstruction) (old new : Regs) (written : List (ℕ × ℕ)) (memory : Memory) → IsInstructionAt old.pc memory found
-    → RunsPrivately result (samples.instruction found.decoded found.first old) old new written memory → RunsPrivately result (samples.sampled 0 old) old new written memory
+pub sample-runs : (result : Option PrivateStep) (predicted : Predicted) (found : CachedInstruction) (old new : Regs) (written : List (ℕ × ℕ)) (memory : Memory) → IsInstructionAt old.pc memory found
+    → RunsPrivately result predicted (samples.instruction found.decoded found.first old) old new written memory → RunsPrivately result predicted (samples.sampled 0 old) old new written memory
 unfolding samples.sampled
-sample-runs (Some clocks) found old new written memory right runs = record {
+sample-runs (Some (privates.Done clocks)) predicted found old new written memory right runs = record {
   ended = runs.ended;
   ends = rw (sym right.decoded, sym right.first) runs.ends;
   leaves = runs.leaves;
@@ -232,4 +262,11 @@ sample-runs (Some clocks) found old new written memory right runs = record {
   trace = runs.trace;
   takes = runs.takes;
 }
-sample-runs None found old new written memory right runs = runs
+sample-runs (Some (privates.Need request)) predicted found old new written memory right runs = (
+  record {
+    asks = rw (sym right.decoded, sym right.first) (runs.0.asks);
+    ends = sample-predicts (steps.Need request) predicted 0 old memory found.decoded found.first right.decoded right.first (runs.0.ends);
+  },
+  runs.1,
+)
+sample-runs None predicted found old new written memory right runs = runs

@@ -1,16 +1,19 @@
 -- The rows of instructions that make no shared access.
-use Rattle.std.proofs.Common.{◌≡◌, ℕ, ◌+◌, ◌*◌, ◌%◌, ◌^◌, ◌∙◌, false, Ok, refl, sym, ap, subst, arith}
+use Rattle.std.proofs.Common.{◌≡◌, ℕ, ◌+◌, ◌*◌, ◌%◌, ◌^◌, ◌∙◌, false, Ok, Err, refl, sym, ap, subst, arith}
 use Rattle.std.specs.Prelude.{IsFalse}
 use Rattle.std.proofs.lemmas.Bool.Decides.{nat_tests}
-use Rattle.md_word.specs.Fields.{address_of, register_of}
+use Rattle.md_word.specs.Fields.{address_of, flags_of, register_of}
 use Rattle.md_word.specs.Map.{is_shared}
 use Rattle.md_word.specs.Width.{extended, modulus_of}
+use Rattle.md_word.specs.declared.main_bus.Request68.{Request68}
 use Rattle.md_word.specs.declared.mode.Mode.{Mode}
 use Rattle.md_word.specs.declared.mode.Mode.TheVariants.{Address, Data, Immediate}
 use Rattle.md_word.specs.declared.regs.Regs.{Regs}
 use Rattle.md_word.specs.declared.size.Size.{Size}
 use Rattle.md_word.specs.declared.size.Size.TheVariants.{Byte, Long, Word}
 use Rattle.md_word.specs.declared.task.Task.{Task}
+use Rattle.md_word.specs.declared.task.Task.TheVariants as tasks
+use Rattle.m68k_alu.specs.Tasks.{computed}
 use Rattle.m68k_ea.specs.Places.{is_misaligned, place_of}
 use Rattle.m68k_ea.specs.Steps.{stepped}
 use Rattle.m68k_ea.specs.declared.places.Place.TheVariants as places
@@ -20,11 +23,14 @@ use Rattle.m68k_access.specs.Memory.{Memory, bus_address, byte_at, word_at}
 use Rattle.m68k_access.specs.Operands as operands
 use Rattle.m68k_access.specs.Outcomes.{Outcome, plain}
 use Rattle.m68k_access.specs.Shapes as shapes
+use Rattle.m68k_access.specs.declared.stop.Stop.TheVariants.{Ask}
 use Rattle.m68k_access.specs.Shapes.{following}
 use Rattle.m68k_exec.specs.Rows.Arithmetic as arithmetic
 use Rattle.m68k_exec.specs.Rows.Comparisons as comparisons
 use Rattle.m68k_exec.specs.Rows.Immediates as immediates
 use Rattle.m68k_exec.specs.Rows.Links as links
+use Rattle.m68k_exec.specs.Rows.Moves as moves
+use Rattle.m68k_exec.specs.Rows.Moves.{after_source}
 use Rattle.m68k_exec.specs.Rows.Registers as registers
 use Rattle.m68k_exec.specs.Rows.Single as single
 use Rattle.m68k_exec.specs.Sample.Private.{Reads}
@@ -149,3 +155,11 @@ pub unary-row : (operation : Task) (size : Size) (n start : ℕ) (regs : Regs) (
     → single.unary operation size (Data n) start regs memory nothing ≡ Ok (plain reported.regs, nothing)
 unfolding single.unary
 unary-row operation size n start regs reported memory same = data-row operation size 0 n (following start 2) regs reported memory same
+
+-- ---- MOVE
+
+pub move-asks : (size : Size) (source target : Mode) (start value : ℕ) (old mid : Regs) (memory : Memory) (request : Request68) → Reads (operands.load source size (following start 2) old) (record { value = value; regs = mid }) memory
+    → operands.store target size (computed tasks.Move size value value (flags_of old)).value (after_source size source start) mid memory nothing ≡ Err (Ask request)
+    → moves.move_operand size source target start old memory nothing ≡ Err (Ask request)
+unfolding moves.move_operand
+move-asks size source target start value old mid memory request reads asks = rw reads (rw asks refl)

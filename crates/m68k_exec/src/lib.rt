@@ -10,5 +10,5 @@ pub use m68k_access::Progress;
 pub use m68k_access::memory::word_at;
 use m68k_access::{Context, Outcome, Stop};
 pub use sample::cache::DecodeCache;
-pub use sample::step::{Finish, Predicted, Step};
+pub use sample::step::{Finish, Predicted, PrivateStep, Step};
 pub use sample::{go, predict, predict_cached, run_private};

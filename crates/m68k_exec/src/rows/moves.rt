@@ -87,7 +87,7 @@ fn write_last(
 /// access of that waits, the registers after the instruction are predicted.
 #[inline(always)]
 #[tactic(auto, using(crate::proofs::Prediction::nothing_waits), unfolding(m68k_access::specs::Operands::store, m68k_access::specs::Operands::put, m68k_access::specs::Operands::stored))]
-fn store_last(
+pub fn store_last(
     mode: Mode,
     size: Size,
     value: u32,

@@ -27,6 +27,15 @@ pub enum Step {
     Done(Finish),
 }
 
+/// How far an instruction comes at once, with the registers, the cartridge and work RAM alone.
+#[derive(Clone, Copy)]
+pub enum PrivateStep {
+    /// The shared write that it waits for.
+    Need(Request68),
+    /// It ended, and took so many clocks.
+    Done(u32),
+}
+
 /// What follows a write that waits for its answer, where that is known: the write is the last
 /// access of its instruction, no answer to it changes anything, and no work RAM is written.
 #[derive(Clone, Copy)]

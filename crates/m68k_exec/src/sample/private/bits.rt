@@ -72,7 +72,13 @@ pub fn bit_by_number(
 {
     match task {
         Task::Btst => {
-            test_bit(u32::from(number), mode, start.wrapping_add(4), context, regs)
+            test_bit(
+                u32::from(number),
+                mode,
+                start.wrapping_add(4),
+                context,
+                regs,
+            )
         }
         _ => false,
     }

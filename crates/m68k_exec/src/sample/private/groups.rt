@@ -54,15 +54,13 @@ pub fn branch(op: &Op, clocks: u32, start: u32, regs: &mut Regs) -> Option<u32>
         }
         Op::Dbcc(condition, number, by) => {
             let outcome = dbcc(condition, number, by, start, regs);
-            Some(
-                if outcome.expired {
-                    EXPIRED
-                } else if outcome.taken {
-                    TAKEN
-                } else {
-                    clocks
-                },
-            )
+            Some(if outcome.expired {
+                EXPIRED
+            } else if outcome.taken {
+                TAKEN
+            } else {
+                clocks
+            })
         }
         _ => None,
     }

@@ -1,6 +1,6 @@
 //! Rows that write work RAM. Each answers whether it was carried out; else the registers stay, and what progress has
 //! means nothing.
-ghost use Rattle.std.specs.Prelude.{◌≡◌, ◌<◌, ◌≤◌, []};
+ghost use Rattle.std.specs.Prelude.{◌≡◌, ◌<◌, ◌≤◌, false};
 ghost use Rattle.md_word.specs.Modes.{IsMode};
 ghost use Rattle.md_word.specs.Width.{modulus_of};
 ghost use Rattle.md_word.specs.declared.size.Size.TheVariants.{Long};
@@ -13,28 +13,29 @@ ghost use Rattle.m68k_exec.specs.Rows.Arithmetic as arithmetic;
 ghost use Rattle.m68k_exec.specs.Rows.Moves as moves;
 ghost use Rattle.m68k_exec.specs.Sample.Caches.{unspent};
 ghost use Rattle.m68k_exec.specs.Sample.Execution as execution;
-ghost use Rattle.m68k_exec.specs.Sample.Private.{CarriesOut, Finds, Puts, Stores};
+ghost use Rattle.m68k_exec.specs.Sample.Private.{CarriesOut, Finds, Moves, Puts, Stores};
 ghost use Rattle.m68k_exec.specs.Sample.Samples.{nothing};
 
 use super::operands::{operand, private};
 use crate::rows::branches::bra;
 use crate::rows::immediates::after_number;
-use crate::rows::moves::after_source;
-use crate::{Context, Progress};
+use crate::rows::moves::{after_source, store_last};
+use crate::{Context, Predicted, Progress, Stop};
 use m68k_access::accesses::write;
 use m68k_access::operands::{effective, locate, step};
 use m68k_alu::compute;
 use m68k_decode::Op;
 use m68k_ea::Place;
-use md_word::{Mode, Regs, Size, Task};
+use md_word::{Mode, Regs, Request68, Size, Task};
 
 /// The number of the active stack pointer, A7.
 const STACK: u8 = 7;
 
-/// MOVE to memory.
+/// MOVE, with a source that is not shared: to its end, or to the shared write that waits, with the registers after
+/// that predicted where it is the last. Else None, and the registers mean nothing.
 #[inline(never)]
-#[tactic(auto, unfolding(crate::specs::Rows::Moves::move_operand, m68k_access::specs::Operands::store, m68k_access::specs::Operands::put, m68k_access::specs::Operands::stored))]
-fn move_to_memory(
+#[tactic(auto, unfolding(crate::specs::Rows::Moves::move_operand))]
+pub fn move_operand(
     size: Size,
     source: Mode,
     target: Mode,
@@ -42,39 +43,31 @@ fn move_to_memory(
     context: &Context,
     regs: &mut Regs,
     progress: &mut Progress,
-) -> bool
+    predicted: &mut Predicted,
+) -> Option<Result<(), Request68>>
     requires source { IsMode source }
     requires target { IsMode target }
     requires fresh { done_of progress.old ≡ nothing }
-    ensures { Stores result (moves.move_operand size source target start regs.old) regs.old regs.new (memory_of context.now) (done_of progress.new) }
+    requires nothing { predicted.old.known ≡ false }
+    ensures { Moves result predicted.new (moves.move_operand size source target start regs.old) regs.new (memory_of context.now) (done_of progress.new) }
 {
-    let found = *regs;
     let flags = regs.flags();
     match operand(source, size, start.wrapping_add(2), context, regs) {
         Some(from) => {
             let out = compute(Task::Move, size, from, from, flags);
             let pc = after_source(size, source, start);
-            match locate(target, size, pc, regs) {
-                Place::Memory(address) => {
-                    match write(size, address, out.value, context, progress) {
-                        Ok(()) => {
-                            step(target, size, regs);
-                            regs.set_flags(out.flags);
-                            true
-                        }
-                        Err(_) => {
-                            *regs = found;
-                            false
-                        }
-                    }
+            match store_last(
+                target, size, out.value, out.flags, pc, context, regs, progress, predicted,
+            ) {
+                Ok(()) => {
+                    regs.set_flags(out.flags);
+                    Some(Ok(()))
                 }
-                _ => {
-                    *regs = found;
-                    false
-                }
+                Err(Stop::Ask(request)) => Some(Err(request)),
+                Err(Stop::Odd { .. }) => None,
             }
         }
-        None => false,
+        None => None,
     }
 }
 
@@ -157,9 +150,6 @@ pub fn stores(
 {
     let pc = start.wrapping_add(2);
     match *op {
-        Op::Move(size, source, target) => {
-            move_to_memory(size, source, target, start, context, regs, progress)
-        }
         Op::Quick(task, size, value, mode) => {
             quick(task, size, value, mode, start, context, regs, progress)
         }

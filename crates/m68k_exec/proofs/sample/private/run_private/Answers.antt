@@ -6,4 +6,4 @@ returns-then-is_none-clause-cache c = c.note_shared.ensures c.args.cart.now c.re
 
 pub returns-else-is_none-clause-value : goal.returns-else-is_none-clause-value
 returns-else-is_none-clause-value c =
-    rw c.bytes.ensures.value at (sample-runs c.run-taken.result c.in-Some.found.now c.args.regs.now c.run-taken.new.regs c.run-taken.new.progress.writes.items _ c.in-Some.ensures c.run-taken.ensures)
+    rw c.bytes.ensures.value at (sample-runs c.run-step.result c.run-step.new.predicted c.in-Some.found.now c.args.regs.now c.run-step.new.regs c.run-step.new.progress.writes.items _ c.in-Some.ensures c.run-step.ensures)
