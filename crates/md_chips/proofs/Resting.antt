@@ -1,11 +1,10 @@
 -- A Z80 that rests, and the accesses that leave its pins.
-use Rattle.std.proofs.Common.{◌≡◌, ◌≢◌, ℕ, ◌==◌, Bool, true, false, true≢false, if◌then◌else◌, Option, Some, None, ap, sym, ◌∙◌, arith}
+use Rattle.std.proofs.Common.{◌≡◌, ◌≢◌, ℕ, Bool, true, false, true≢false, if◌then◌else◌, Option, Some, None, ap, ◌∙◌, arith}
 use Rattle.std.proofs.lemmas.Bool.Decides.{nat_tests}
 use Rattle.md_word.specs.Map.{area_of, is_within}
 use Rattle.md_word.specs.declared.area.Area.{Area}
 use Rattle.md_word.specs.declared.area.Area.TheVariants.{Z80Space, InputOutput, BusRequest, Z80Reset, VideoPorts}
 use Rattle.md_word.specs.declared.event.Entry.{Entry}
-use Rattle.md_word.specs.declared.key.Key.{Key}
 use Rattle.md_word.specs.declared.main_bus.Request68.{Request68}
 use Rattle.md_word.specs.declared.main_bus.Request68.TheVariants.{Read8, Read16, Write8, Write16, Ack, Word}
 use Rattle.m68k_chip.specs.Events.{request_of}
@@ -22,7 +21,6 @@ use Rattle.bus_shared.proofs.Touches.{batch_pins_stay, fm_batch_pins_stay, sub_p
 use Rattle.md_chips.specs.Parts.{SubValue}
 use Rattle.md_chips.specs.Pins.{may_move_pins, pins_of}
 use Rattle.md_chips.specs.Rules.{IsChip, five}
-use Rattle.md_chips.specs.declared.chips.Chip.{Chip}
 use Rattle.md_chips.specs.declared.chips.Chip.TheVariants.{Main, Sub, Renderer, Fm, Psg}
 use Rattle.md_chips.specs.declared.pins.Pins.TheVariants as pins
 use Rattle.md_chips.proofs.Ahead.{all-sub-begun}
