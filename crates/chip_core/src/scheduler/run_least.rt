@@ -117,6 +117,7 @@ impl<C: ChipSet> Core<C> {
 
     /// The chip samples on, below cycle `t` and the bounds of the others that write its pins, as long as it
     /// may.
+    #[inline(always)]
     pub(crate) fn sample_on(&mut self, t: u64, chip: u8)
         requires time { t ≤ cycle_limit }
         requires chip { chip < C.rules.count }
