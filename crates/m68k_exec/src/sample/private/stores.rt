@@ -33,7 +33,7 @@ const STACK: u8 = 7;
 
 /// MOVE, with a source that is not shared: to its end, or to the shared write that waits, with the registers after
 /// that predicted where it is the last. Else None, and the registers mean nothing.
-#[inline(never)]
+#[inline(always)]
 #[tactic(auto, unfolding(crate::specs::Rows::Moves::move_operand))]
 pub fn move_operand(
     size: Size,
