@@ -29,18 +29,19 @@ Seen on another host of four processors, left alone, medians of eleven runs of 3
     chord                                           1.00, 0.95, 0.88
     the shortest frames                             0.88, 0.81, 0.85
 
-Since then one worker alone has become faster by a sixth to a quarter, and what made it so (a Z80 that sleeps, mostly)
-the leader of several has only in part. On a third host, medians of eleven runs with 2, 3 and 5 workers, single ones
-spread from half to nearly twice that:
+Since then one worker alone takes a sixth to a quarter fewer instructions a frame. The leader of several has all of
+that but the Z80 that sleeps. On a third host, left alone, medians of eleven runs of 300 frames with 2, 3 and 5
+workers; single runs made from 0.25 to 1.81:
 
     show                                            1.01, 0.95, 0.79
     game                                            1.02, 0.96, 0.95
     chord                                           1.00, 0.79, 0.90
     the shortest frames                             0.80, 0.67, 0.77
 
-There 1,500 frames of game took one worker 0.82 seconds and 0.82 of processor time, two 0.93 and 1.66, five 0.94 and
-2.54. By samples of perf, two spent a tenth of that in helpers that look for work, and 17 hundredths in batches of the
-FM chip, whose state goes from one processor to another.
+There, in single runs, 1,500 frames of game took one worker 0.82 seconds and 0.82 of processor time, two 0.93 and
+1.66, five 0.94 and 2.54. By samples of perf, which itself slows threads down, helpers had 11 hundredths of the time
+of two workers and 20 of three, most of it in looking for work and in wakes by the system, and the leader made nearly
+all batches and lines itself.
 
 By the least times of five to seven runs of 100 frames five workers made 1.12 on show, 0.94 to 1.00 on chord, and 0.92
 on the shortest frames. Nothing written, two made 1.00 on show, 0.91 on the shortest frames, and 0.90 on scale and
