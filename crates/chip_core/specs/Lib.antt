@@ -8,3 +8,4 @@ pub mod Looks
 pub mod Machines
 pub mod Resting
 pub mod Standing
+pub mod Staying

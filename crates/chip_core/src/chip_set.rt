@@ -1,6 +1,8 @@
-ghost use Rattle.std.specs.Prelude.{◌≡◌, ℕ, ◌<◌, ◌≤◌, true, false, List};
+ghost use Rattle.std.specs.Prelude.{◌≡◌, ◌≢◌, ℕ, ◌<◌, ◌≤◌, true, false, List, MatchOption, length, vec_capacity};
 ghost use Rattle.md_word.specs.Clock.{cycle_limit};
+ghost use Rattle.md_word.specs.Keys.{key_lt};
 
+use crate::Stay;
 use md_word::{Entry, Key, Next};
 use std::sync::Wait;
 
@@ -13,6 +15,7 @@ use std::sync::Wait;
 pub trait ChipSet {
     ghost use Rattle.chip_core.specs.Chips.{IsDue, IsPerformed, Lawful, LeavesPins, Rests, Rules, SamplesBelow, SamplesTo, WritesNone};
     ghost use Rattle.chip_core.specs.Cores.{CoreValue, IsCoded};
+    ghost use Rattle.chip_core.specs.Staying.{LeavesAll, StaysTo, Wakes};
 
     /// A chip, at its next event.
     type Chip: Drop;
@@ -76,6 +79,41 @@ pub trait ChipSet {
         let entry = Self::perform(chip, shared);
         Self::advance(chip);
         entry
+    }
+
+    /// The access that is due and, if the chip makes them at once, events after it while the other chips make
+    /// none: each comes before the key `end`, and samples are of the pins as they then are. It stops behind an
+    /// access that may have changed the pins of another chip, the sleeper; where none sleeps, that is the
+    /// chip's own number.
+    fn access_ahead(
+        chip: &mut Self::Chip,
+        number: u8,
+        shared: &mut Self::Shared,
+        journal: &mut Vec<Entry>,
+        end: &Key,
+        sleeper: u8,
+    ) -> Stay
+        requires access { IsDue rules chip_ok shared_ok chip.old shared.old number false }
+        requires below { key_lt (rules.next chip.old).key end.now ≡ true }
+        requires time { end.now.cycle ≤ cycle_limit }
+        requires room { length journal.old.items < vec_capacity journal.old }
+        ensures stays { StaysTo rules result.events number end.now
+            (record { chip = chip.old; shared = shared.old; journal = journal.old.items })
+            (record { chip = chip.new; shared = shared.new; journal = journal.new.items }) }
+        ensures pins { sleeper ≢ number → MatchOption result.woke
+            (LeavesAll rules chip_ok shared_ok result.events number sleeper (record { chip = chip.old; shared = shared.old; journal = journal.old.items }))
+            (Wakes rules chip_ok shared_ok result.events number sleeper (record { chip = chip.old; shared = shared.old; journal = journal.old.items })) }
+        ensures room { vec_capacity journal.new ≡ vec_capacity journal.old }
+    {
+        let key = Self::next(chip).key;
+        let entry = Self::access(chip, shared);
+        journal.push_reserved(entry);
+        let woke = if sleeper != number && Self::wakes(&entry, sleeper) {
+            Some(key)
+        } else {
+            None
+        };
+        Stay { events: 1, woke }
     }
 
     /// The input pins of the chip of this number.

@@ -8,9 +8,11 @@ mod event;
 pub mod laws;
 mod look;
 mod scheduler;
+mod stay;
 
 pub use ahead::run;
 pub use chip_set::ChipSet;
 pub use event::Event;
 pub use look::{find_other, least_of, limit_of};
 pub use scheduler::Core;
+pub use stay::Stay;
