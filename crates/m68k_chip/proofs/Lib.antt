@@ -8,6 +8,7 @@ pub mod Recent
 pub mod Repetitions
 pub mod Rested
 pub mod Resting
+pub mod Rounds
 pub mod RuleLaws
 pub mod SampleTimes
 pub mod SavedLaws

@@ -102,6 +102,12 @@ pub record WentAhead (samples cycle : ℕ) (cart : List ℕ) (level : ℕ) (befo
   pub below : (k : ℕ) → 1 ≤ k → k < samples → (begun_after k cart before level).next < cycle
   pub is : after ≡ begun_after samples cart before level
 
+-- so many samples with the same level, each below a cycle, lead from one state to the other
+pub record SampledOn (samples cycle : ℕ) (cart : List ℕ) (level : ℕ) (before after : State68) : Type 0 where
+  pub sample : (k : ℕ) → k < samples → (next_of (begun_after k cart before level)).sample ≡ true
+  pub below : (k : ℕ) → k < samples → (begun_after k cart before level).next < cycle
+  pub is : after ≡ begun_after samples cart before level
+
 -- a transfer that an answer starts takes the place of an earlier one
 abbrev pub with_started : State68 → Option Transfer → State68
 with_started state None = state

@@ -3,6 +3,7 @@
 #![tactic(auto)]
 
 mod accesses;
+mod answer_ahead;
 mod case;
 mod chip;
 mod execution;

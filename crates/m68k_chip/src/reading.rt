@@ -76,4 +76,18 @@ impl Sequencer {
         self.next = start + STEP;
         self.stage = Stage::Access;
     }
+
+    /// Goes from the first access of an instruction to the same access of one that begins at this cycle with the same
+    /// registers.
+    #[inline(always)]
+    pub fn read_later(&mut self, start: u64)
+        requires reading { (ram : List ℕ) → state_of self.old ram ≡ reading ram self.old.regs self.old.start }
+        requires start { start < 2 ^ 60 }
+        ensures state { (ram : List ℕ) → state_of self.new ram ≡ reading ram self.old.regs start }
+        ensures request { self.new.request ≡ self.old.request }
+        ensures predicted { self.new.predicted ≡ self.old.predicted }
+    {
+        self.start = start;
+        self.next = start + STEP;
+    }
 }

@@ -1,0 +1,54 @@
+//! The answer to an access, and all samples below a cycle after it, up to the next access.
+ghost use Rattle.std.specs.Prelude.{◌≡◌, ◌+◌, ◌<◌, ◌≤◌, true, false};
+ghost use Rattle.md_word.specs.Clock.{cycle_limit};
+
+use crate::chip::Chip68;
+use md_word::{Answer68, Pins68};
+
+impl Chip68 {
+    ghost use Rattle.m68k_chip.specs.Events.{SampledOn, answered, request_of};
+    ghost use Rattle.m68k_chip.specs.States.{next_of};
+    ghost use Rattle.m68k_chip.specs.Validity.{Fits, IsChip68};
+
+    /// Takes the answer to the access that is the next event, as `answer` does, and then all samples of these pins
+    /// below cycle `end`, up to the next access; answers how many samples that were.
+    pub fn answer_ahead(&mut self, answer: Answer68, pins: Pins68, end: u64) -> u64
+        requires asking { (next_of self.old.state).sample ≡ false }
+        requires far { self.old.state.next < cycle_limit }
+        requires fits { Fits (request_of self.old.cart self.old.state) answer }
+        requires end { end ≤ cycle_limit }
+        ensures state { SampledOn result end self.old.cart pins.level (answered self.old.cart self.old.state answer) self.new.state }
+        ensures all { (next_of self.new.state).sample ≡ true → end ≤ self.new.state.next }
+        ensures later { self.old.state.next + result < self.new.state.next }
+        ensures cart { self.new.cart ≡ self.old.cart }
+    {
+        if self
+            .iteration
+            .goes_round(&answer, pins.level, self.sequencer.start, end)
+        {
+            let start = self.sequencer.start
+                + u64::from(self.iteration.first)
+                + u64::from(self.iteration.rest);
+            self.sequencer.read_later(start);
+            self.iteration.samples
+        } else {
+            self.answer(answer);
+            self.sample_on(pins, end)
+        }
+    }
+
+    /// Takes all samples of these pins below cycle `end`, up to the next access; answers how many that were.
+    fn sample_on(&mut self, pins: Pins68, end: u64) -> u64
+        requires end { end ≤ cycle_limit }
+        ensures state { SampledOn result end self.old.cart pins.level self.old.state self.new.state }
+        ensures all { (next_of self.new.state).sample ≡ true → end ≤ self.new.state.next }
+        ensures later { self.old.state.next + result ≤ self.new.state.next }
+        ensures cart { self.new.cart ≡ self.old.cart }
+    {
+        if self.samples_below(end) {
+            self.sample_ahead(pins, end)
+        } else {
+            0
+        }
+    }
+}
