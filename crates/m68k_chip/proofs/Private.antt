@@ -1,5 +1,6 @@
 -- Instructions that make no shared access.
 use Rattle.std.proofs.Common.{◌≡◌, ℕ, ◌+◌, ◌*◌, List, [], Option, Some, Result, Err, refl, sym, subst}
+use Rattle.md_word.specs.Clock.{main_clock}
 use Rattle.md_word.specs.declared.main_bus.Request68.{Request68}
 use Rattle.md_word.specs.declared.regs.Regs.{Regs}
 use Rattle.m68k_access.specs.Memory.{ram_after}
@@ -20,7 +21,7 @@ Ends cart state clocks regs written = EndsPrivately (sampled 0 state.regs) clock
 
 -- it is what the sample comes to
 pub private-ends : (cart : List ℕ) (state : State68) (clocks : ℕ) (regs : Regs) (written : List (ℕ × ℕ)) → Ends cart state clocks regs written
-    → rested (running (record state { regs = regs; ram = ram_after state.ram written })) (state.start + 7 * clocks) ≡ went_on cart state 0 []
+    → rested (running (record state { regs = regs; ram = ram_after state.ram written })) (state.start + main_clock * clocks) ≡ went_on cart state 0 []
 unfolding went_on
 private-ends cart state clocks regs written ends =
     rw (ends.ends) (rw (ends.leaves, ends.writes, ends.stopped, ends.halted, ends.trace, ends.takes) refl)

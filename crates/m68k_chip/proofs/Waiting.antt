@@ -99,7 +99,7 @@ pub ends-predicted_end : (cart : List ℕ) (state : State68) (transfer : Option 
     → finished (with_started state transfer) (ended_by predicted.finish predicted.regs []) ≡ went_on cart (with_started state transfer) cause (answers ++ value ∷ [])
 unfolding went_on
 ends-predicted_end cart state transfer cause answers value predicted reports known =
-    sym (ap (came_to (with_started state transfer) cause (answers ++ value ∷ [])) (started-predicts_end cart state transfer cause answers predicted reports known value))
+    sym (ap (came_to (with_started state transfer) cause (answers ++ value ∷ [])) ((started-predicts_end cart state transfer cause answers predicted reports known).1 value))
 
 pub ends-waits : (cart : List ℕ) (state new : State68) (ended : Ended) (request : Option Request68) → new ≡ finished state ended → WaitsFor new.stage cart new request
 ends-waits cart state new ended request e =

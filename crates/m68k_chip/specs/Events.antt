@@ -1,7 +1,7 @@
 -- What an event of the 68000 leaves, and what it asks for. Cycles are master cycles, of which a clock
 -- has 7. M68000 User's Manual, the bus cycles; the places of events are this project's profile.
 use Rattle.std.specs.Prelude.{◌≡◌, ℕ, zero, suc, ◌+◌, ◌-◌, ◌*◌, ◌/◌, ◌%◌, ◌^◌, ◌<◌, ◌≤◌, nat_le, true, ◌==◌, if◌then◌else◌, List, [], ◌∷◌, ◌++◌, length, Option, Some, None, Result, Ok, Err}
-use Rattle.md_word.specs.Clock.{main_gap}
+use Rattle.md_word.specs.Clock.{main_clock, main_gap}
 use Rattle.md_word.specs.declared.main_bus.Answer68.{Answer68}
 use Rattle.md_word.specs.declared.main_bus.Request68.{Request68}
 use Rattle.md_word.specs.declared.main_bus.Request68.TheVariants as requests
@@ -53,7 +53,7 @@ rested state end =
 
 -- where a sample ends that had this outcome
 abbrev pub end_of : State68 → Ended → ℕ
-end_of state ended = state.start + 7 * clocks_of ended.op ended.spent
+end_of state ended = state.start + main_clock * clocks_of ended.op ended.spent
 
 -- what it leaves where all its accesses are answered: only now work RAM is written
 abbrev pub left_by : State68 → Ended → State68

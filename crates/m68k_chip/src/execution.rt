@@ -1,9 +1,10 @@
 //! What the 68000 carries out: an instruction, a trace or an interrupt, up to its end or to an access.
 ghost use Rattle.std.specs.Prelude.{◌≡◌, ◌+◌, ◌*◌, ◌<◌, ℕ, List, [], Some, length};
-ghost use Rattle.md_word.specs.Clock.{cycle_limit};
+ghost use Rattle.md_word.specs.Clock.{cycle_limit, main_clock};
 ghost use Rattle.m68k_time.specs.Clocks.{clocks_of};
 ghost use Rattle.m68k_access.specs.Memory.{ram_after};
 ghost use Rattle.m68k_exec.specs.Sample.Caches.{IsCacheOf};
+ghost use Rattle.m68k_exec.specs.Sample.Prediction.{TakesClocks};
 ghost use Rattle.m68k_chip.specs.Events as events;
 ghost use Rattle.m68k_chip.specs.Events.{carried_out, end_of, went_on};
 ghost use Rattle.m68k_chip.specs.Held.{IsPredicted, WaitsFor};
@@ -52,6 +53,17 @@ impl Sequencer {
             ≡ events.finished (state_of self.old ram) (ended_by finish.now self.old.regs writes) }
     {
         let clocks = clocks(&finish.op, finish.spent);
+        self.finish_in(finish, clocks);
+    }
+
+    /// `finish`, in so many clocks.
+    #[inline(always)]
+    fn finish_in(&mut self, finish: &Finish, clocks: u32)
+        requires start { self.old.start < cycle_limit }
+        requires clocks { clocks ≡ clocks_of finish.now.op finish.now.spent }
+        ensures { (ram : List ℕ) (writes : List (ℕ × ℕ)) → state_of self.new (ram_after ram writes)
+            ≡ events.finished (state_of self.old ram) (ended_by finish.now self.old.regs writes) }
+    {
         let end = self.start + MAIN_CLOCK * u64::from(clocks);
         self.stopped = finish.stopped;
         self.trace = finish.trace;
@@ -70,7 +82,7 @@ impl Sequencer {
     #[inline(always)]
     fn finish_private(&mut self, clocks: u32)
         requires { self.old.start < cycle_limit }
-        ensures { (ram : List ℕ) → state_of self.new ram ≡ events.rested (running (state_of self.old ram)) (self.old.start + 7 * clocks) }
+        ensures { (ram : List ℕ) → state_of self.new ram ≡ events.rested (running (state_of self.old ram)) (self.old.start + main_clock * clocks) }
     {
         let end = self.start + MAIN_CLOCK * u64::from(clocks);
         self.stopped = false;
@@ -123,13 +135,15 @@ impl Sequencer {
 
     /// Ends what was carried out as it is predicted.
     pub fn end_predicted(&mut self)
-        requires { self.old.start < cycle_limit }
+        requires start { self.old.start < cycle_limit }
+        requires clocks { TakesClocks self.old.predicted }
         ensures { (ram : List ℕ) → state_of self.new ram
             ≡ events.finished (state_of self.old ram) (ended_by self.old.predicted.finish self.old.predicted.regs []) }
     {
         self.regs = self.predicted.regs;
         let finish = self.predicted.finish;
-        self.finish(&finish);
+        let clocks = self.predicted.clocks;
+        self.finish_in(&finish, clocks);
     }
 
     /// Begins the instruction at the program counter, up to its end or to its first shared access. One that makes

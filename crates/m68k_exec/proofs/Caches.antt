@@ -89,7 +89,7 @@ entry-kept address memory cache other entries place right same there at fixed =
     (λ blank. entry-found address memory cache blank right (entry-read address cache blank other entries place right.long same there at) fixed)
 
 -- an entry that is noted is the same instruction
-entry-noted : (rom : List ℕ) (found : CachedInstruction) → IsEntryOf rom found → IsEntryOf rom (record found { shared = true })
+entry-noted : (rom : List ℕ) (found : CachedInstruction) → IsEntryOf rom found → IsEntryOf rom (record found { refused = true })
 entry-noted rom found right = λ fixed ram answers. record {
   first = (right fixed ram answers).first;
   decoded = (right fixed ram answers).decoded;
@@ -98,11 +98,11 @@ entry-noted rom found right = λ fixed ram answers. record {
 }
 
 pub cache-noted : (rom : List ℕ) (cache : DecodeCache) (seen entries : List CachedInstruction) (place : ℕ) (blank : CachedInstruction) → IsCacheOf rom cache → seen ≡ cache.entries.value → entries ≡ cache.entries.value → place < 4096
-    → IsCacheOf rom (record { entries = with_value cache.entries (slice_set entries place (record (slice_index_or seen place blank) { shared = true })) })
+    → IsCacheOf rom (record { entries = with_value cache.entries (slice_set entries place (record (slice_index_or seen place blank) { refused = true })) })
 cache-noted rom cache seen entries place blank right read written below =
     let found : CachedInstruction = slice_index_or cache.entries.value place blank in
     rw (read, written) (record {
-      long = length-set cache.entries.value place (record found { shared = true }) ∙ right.long;
-      entries = All-set (IsEntryOf rom) cache.entries.value place (record found { shared = true })
+      long = length-set cache.entries.value place (record found { refused = true }) ∙ right.long;
+      entries = All-set (IsEntryOf rom) cache.entries.value place (record found { refused = true })
           (entry-noted rom found (All-get_or (IsEntryOf rom) cache.entries.value place blank (omega (arith, below, right.long)) right.entries)) right.entries;
     })

@@ -31,7 +31,7 @@ use Rattle.md_word.proofs.Answered.{answered-same, as-last, one-longer}
 use Rattle.m68k_exec.specs.Rows.Moves as moves
 use Rattle.m68k_exec.specs.Rows.Moves.{after_source}
 use Rattle.m68k_exec.specs.Sample.Execution.{row}
-use Rattle.m68k_exec.specs.Sample.Prediction.{EndsPredicted, FinishesPredicted, Predicts, WaitsForLast, all_answered, answered_with}
+use Rattle.m68k_exec.specs.Sample.Prediction.{EndsPredicted, FinishesPredicted, Predicts, TakesClocks, WaitsForLast, all_answered, answered_with}
 use Rattle.m68k_exec.specs.Sample.Samples as samples
 use Rattle.m68k_exec.specs.Sample.Samples.{nothing, reported_by}
 use Rattle.m68k_access.specs.declared.stop.Stop.{Stop}
@@ -168,7 +168,7 @@ move-following size source target start regs memory done from mid value loaded f
 finish-following : (op : Op) (found : Regs) (memory : Memory) (predicted : Predicted) (value : ℕ) → FinishesPredicted predicted op found memory
     → samples.ended_by op found (plain predicted.regs) (answered_with value memory) (all_answered memory) ≡ reported_by (steps.Done predicted.finish) predicted.regs nothing
 unfolding samples.ended_by
-finish-following op found memory predicted value finish = sym finish
+finish-following op found memory predicted value finish = sym (finish.1)
 
 pub instruction-following : (decoded : Decoded) (first : ℕ) (regs : Regs) (memory : Memory) (predicted : Predicted) (value : ℕ) → is_odd regs.pc ≡ false
     → row decoded.op regs.pc (record regs { pc = (regs.pc + decoded.length) % 2 ^ 32 }) (answered_with value memory) nothing ≡ Ok (plain predicted.regs, all_answered memory)
@@ -198,13 +198,17 @@ pub instruction-predicts : (A : Type 0) (word : Decoded) (first : ℕ) (regs : R
     → is_odd regs.pc ≡ false → stop ≡ Ask request → pc ≡ (regs.pc + word.length) % 2 ^ 32 → done ≡ nothing
     → Predicts {A = A} (Err stop) predicted (row word.op regs.pc (record regs { pc = pc })) memory done
     → new.known ≡ predicted.known → new.regs ≡ predicted.regs → (predicted.known ≡ true → FinishesPredicted new word.op regs memory)
-    → new.known ≡ true → (value : ℕ) → samples.instruction word first regs (answered_with value memory) ≡ reported_by (steps.Done new.finish) new.regs nothing
-instruction-predicts A word first regs memory predicted new stop request pc done even waits after fresh predicts same kept finishes known value =
-    let was : predicted.known ≡ true = sym same ∙ known in
-    let asking = subst (λ (s : Stop). Predicts {A = A} (Err s) predicted (row word.op regs.pc (record regs { pc = pc })) memory done) waits predicts in
-    let there = subst (λ (d : Done). row word.op regs.pc (record regs { pc = pc }) (answered_with value memory) d ≡ Ok (plain predicted.regs, all_answered memory)) fresh (asking was value) in
-    let ends = subst (λ (n : ℕ). row word.op regs.pc (record regs { pc = n }) (answered_with value memory) nothing ≡ Ok (plain predicted.regs, all_answered memory)) after there in
-    instruction-following word first regs memory new value even (ends ∙ ap (λ (r : Regs). Ok (plain r, all_answered memory)) (sym kept)) (finishes was)
+    → new.known ≡ true → TakesClocks new × ((value : ℕ) → samples.instruction word first regs (answered_with value memory) ≡ reported_by (steps.Done new.finish) new.regs nothing)
+instruction-predicts A word first regs memory predicted new stop request pc done even waits after fresh predicts same kept finishes known =
+    ((finishes (sym same ∙ known)).0, following)
+  where
+    following : (value : ℕ) → samples.instruction word first regs (answered_with value memory) ≡ reported_by (steps.Done new.finish) new.regs nothing
+    following value =
+        let was : predicted.known ≡ true = sym same ∙ known in
+        let asking = subst (λ (s : Stop). Predicts {A = A} (Err s) predicted (row word.op regs.pc (record regs { pc = pc })) memory done) waits predicts in
+        let there = subst (λ (d : Done). row word.op regs.pc (record regs { pc = pc }) (answered_with value memory) d ≡ Ok (plain predicted.regs, all_answered memory)) fresh (asking was value) in
+        let ends = subst (λ (n : ℕ). row word.op regs.pc (record regs { pc = n }) (answered_with value memory) nothing ≡ Ok (plain predicted.regs, all_answered memory)) after there in
+        instruction-following word first regs memory new value even (ends ∙ ap (λ (r : Regs). Ok (plain r, all_answered memory)) (sym kept)) (finishes was)
 
 words-answered : (address value : ℕ) (memory : Memory) → instruction_words address (answered_with value memory) ≡ instruction_words address memory
 unfolding instruction_words instruction_word
@@ -213,6 +217,8 @@ words-answered address value memory = refl
 pub sample-predicts : (step : Step) (predicted : Predicted) (cause : ℕ) (regs : Regs) (memory : Memory) (found : Decoded) (first : ℕ) → found ≡ instruction_of (instruction_words regs.pc memory) → first ≡ opcode (instruction_words regs.pc memory)
     → EndsPredicted step predicted (samples.sample_of cause found first regs) memory → EndsPredicted step predicted (samples.sampled cause regs) memory
 unfolding samples.sampled
-sample-predicts (steps.Need request) predicted cause regs memory found first names begins ends = λ known value.
-    rw (words-answered regs.pc value memory) (rw (sym names, sym begins) (ends known value))
+sample-predicts (steps.Need request) predicted cause regs memory found first names begins ends = λ known. (
+  (ends known).0,
+  λ value. rw (words-answered regs.pc value memory) (rw (sym names, sym begins) ((ends known).1 value)),
+)
 sample-predicts (steps.Done finish) predicted cause regs memory found first names begins ends = tt

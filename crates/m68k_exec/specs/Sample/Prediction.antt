@@ -13,6 +13,8 @@ use Rattle.m68k_exec.specs.declared.sample.step.Predicted.{Predicted}
 use Rattle.m68k_exec.specs.declared.sample.step.Step.{Step}
 use Rattle.m68k_exec.specs.declared.sample.step.Step.TheVariants as steps
 use Rattle.md_word.specs.declared.regs.Regs.{Regs}
+use Rattle.md_word.specs.declared.spent.Spent.{Spent}
+use Rattle.m68k_time.specs.Clocks.{clocks_of}
 
 -- the same memory with one answer more
 abbrev pub answered_with : ℕ → Memory → Memory
@@ -30,10 +32,18 @@ Predicts (Err (Ask request)) predicted act memory done =
     predicted.known ≡ true → (value : ℕ) → act (answered_with value memory) done ≡ Ok (plain predicted.regs, all_answered memory)
 Predicts (Err (Odd address read used)) predicted act memory done = predicted.known ≡ false
 
--- a sample that waits results in what is predicted, whatever it is answered
+-- the clocks that are kept are those of the finish
+abbrev pub TakesClocks : Predicted → Type 0
+TakesClocks predicted = predicted.clocks ≡ clocks_of predicted.finish.op predicted.finish.spent
+
+-- what an instruction met that ends with the answer that waits, takes no branch and counts nothing
+abbrev pub at_last : Memory → Spent
+at_last memory = record { taken = false; expired = false; count = 0; cause = 0; accesses = length memory.answers + 1 }
+
+-- a sample that waits results in what is predicted, whatever it is answered, in the clocks that are kept
 abbrev pub EndsPredicted : Step → Predicted → (Memory → Result Ended Stop) → Memory → Type 0
 EndsPredicted (steps.Need request) predicted sample memory =
-    predicted.known ≡ true → (value : ℕ) → sample (answered_with value memory) ≡ reported_by (steps.Done predicted.finish) predicted.regs nothing
+    predicted.known ≡ true → TakesClocks predicted × ((value : ℕ) → sample (answered_with value memory) ≡ reported_by (steps.Done predicted.finish) predicted.regs nothing)
 EndsPredicted (steps.Done finish) predicted sample memory = Unit {0}
 
 -- an action whose last access waits gives this, whatever it is answered, and these registers are predicted;
@@ -44,7 +54,7 @@ WaitsForLast (Err (Ask request)) predicted regs act given memory done =
     predicted.known ≡ true → (predicted.regs ≡ regs) × (done.used ≤ length memory.answers) × ((value : ℕ) → act (answered_with value memory) done ≡ Ok (given, all_answered memory))
 WaitsForLast (Err (Odd address read used)) predicted regs act given memory done = predicted.known ≡ false
 
--- what is kept of the finish is that of an instruction with nothing else to report
+-- what is kept of the finish is that of an instruction with nothing else to report, and its clocks
 abbrev pub FinishesPredicted : Predicted → Op → Regs → Memory → Type 0
 FinishesPredicted predicted op found memory =
-    reported_by (steps.Done predicted.finish) predicted.regs nothing ≡ Ok (finished op found (plain predicted.regs) (all_answered memory))
+    TakesClocks predicted × (reported_by (steps.Done predicted.finish) predicted.regs nothing ≡ Ok (finished op found (plain predicted.regs) (all_answered memory)))

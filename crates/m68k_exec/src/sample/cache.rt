@@ -24,7 +24,7 @@ pub struct CachedInstruction {
     /// What it takes where no branch is taken and nothing is counted.
     pub clocks: u8,
     /// It was not carried out at once when that was tried, and is not tried again.
-    pub shared: bool,
+    pub refused: bool,
     pub decoded: Decoded,
 }
 
@@ -67,7 +67,7 @@ fn decode_at(address: u32, context: &Context) -> CachedInstruction
         address,
         first: words[0],
         clocks: clocks(&decoded.op, UNSPENT) as u8,
-        shared: false,
+        refused: false,
         decoded,
     }
 }
@@ -82,7 +82,7 @@ impl DecodeCache {
             address: 0,
             first: 0,
             clocks: 0,
-            shared: false,
+            refused: false,
             decoded: Decoded {
                 op: Op::Immediate(Task::Abcd, Size::Byte, 0, Mode::Data(0)),
                 length: 0,
@@ -92,7 +92,7 @@ impl DecodeCache {
             address: NOWHERE,
             first: 0,
             clocks: 0,
-            shared: false,
+            refused: false,
             decoded: Decoded {
                 op: Op::Nop,
                 length: 2,
@@ -146,7 +146,7 @@ impl DecodeCache {
         ensures { IfSome result (λ found. IsInstructionAt address (memory_of context.now) found.now) }
     {
         let found = &self.entries[place_of(address)];
-        if found.address == address && bus_address(address) < WORK_RAM - 10 && !found.shared {
+        if found.address == address && bus_address(address) < WORK_RAM - 10 && !found.refused {
             Some(found)
         } else {
             None
@@ -155,13 +155,13 @@ impl DecodeCache {
 
     /// Notes that the instruction at an address is not to be tried at once again.
     #[inline(never)]
-    pub(crate) fn note_shared(&mut self, address: u32)
+    pub(crate) fn note_refused(&mut self, address: u32)
         ensures { (rom : List ℕ) → IsCacheOf rom self.old → IsCacheOf rom self.new }
     {
         let place = place_of(address);
         let found = self.entries[place];
         self.entries[place] = CachedInstruction {
-            shared: true,
+            refused: true,
             ..found
         };
     }

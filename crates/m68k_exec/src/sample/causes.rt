@@ -5,12 +5,15 @@ ghost use Rattle.m68k_exec.specs.Sample.Prediction.{EndsPredicted};
 ghost use Rattle.m68k_exec.specs.Sample.Samples.{Keeps, nothing, reported_by};
 ghost use Rattle.m68k_exec.specs.Sample.Samples as samples;
 
-use crate::sample::ends::{ended_by, predict_finish, take_address_error, take_exception};
+use crate::sample::ends::{
+    ended_by, met_at_last, predict_finish, take_address_error, take_exception,
+};
 use crate::sample::exception::Exception;
 use crate::sample::execution::execute;
 use crate::{Context, Predicted, Progress, Step, Stop};
 use m68k_access::accesses::ask;
 use m68k_decode::{Decoded, Op};
+use m68k_time::clocks;
 use md_word::{Regs, Request68};
 
 /// The vector number of the trace.
@@ -49,7 +52,10 @@ pub fn instruction(
     match execute(op, start, context, regs, progress, predicted) {
         Ok(outcome) => ended_by(op, &found, &outcome, context, regs, progress, step),
         Err(Stop::Ask(request)) => {
-            predict_finish(op, &found, context, predicted);
+            if predicted.known {
+                let clocks = clocks(op, met_at_last(context));
+                predict_finish(op, clocks, &found, context, predicted);
+            }
             *regs = found;
             *step = Step::Need(request);
         }

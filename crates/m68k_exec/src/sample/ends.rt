@@ -3,7 +3,8 @@ ghost use Rattle.arrayvec.specs.ArrayVec.{array_vec_len};
 ghost use Rattle.m68k_access.specs.Clauses.{done_of, memory_of};
 ghost use Rattle.m68k_access.specs.Outcomes.{outcome_of};
 ghost use Rattle.m68k_exec.specs.Sample.Entries.{IsException, number_of};
-ghost use Rattle.m68k_exec.specs.Sample.Prediction.{FinishesPredicted};
+ghost use Rattle.m68k_time.specs.Clocks.{clocks_of};
+ghost use Rattle.m68k_exec.specs.Sample.Prediction.{FinishesPredicted, at_last};
 ghost use Rattle.m68k_exec.specs.Sample.Samples.{Keeps, reported_by};
 ghost use Rattle.m68k_exec.specs.Sample.Samples as samples;
 ghost use Rattle.m68k_exec.specs.declared.sample.exception.Exception.TheVariants.{AddressError, Numbered};
@@ -167,10 +168,32 @@ pub fn ended_by(
     });
 }
 
-/// Keeps the outcome of a sample that found the registers `found`, where the write that waits is its last
-/// access.
-pub fn predict_finish(op: &Op, found: &Regs, context: &Context, predicted: &mut Predicted)
+/// What an instruction met that ends with the access that waits, takes no branch and counts nothing.
+#[inline(always)]
+pub fn met_at_last(context: &Context) -> Spent
+    requires { length context.now.answers.now ≤ 32 }
+    ensures { result ≡ at_last (memory_of context.now) }
+{
+    Spent {
+        taken: false,
+        expired: false,
+        count: 0,
+        cause: 0,
+        accesses: (context.answers.len() + 1) as u8,
+    }
+}
+
+/// Keeps the outcome of a sample that found the registers `found` and takes these clocks, where the write that waits
+/// is its last access.
+pub fn predict_finish(
+    op: &Op,
+    clocks: u32,
+    found: &Regs,
+    context: &Context,
+    predicted: &mut Predicted,
+)
     requires few { length context.now.answers.now ≤ 32 }
+    requires clocks { clocks ≡ clocks_of op.now (at_last (memory_of context.now)) }
     ensures known { predicted.new.known ≡ predicted.old.known }
     ensures regs { predicted.new.regs ≡ predicted.old.regs }
     ensures finish { predicted.old.known ≡ true → FinishesPredicted predicted.new op.now found.now (memory_of context.now) }
@@ -178,16 +201,11 @@ pub fn predict_finish(op: &Op, found: &Regs, context: &Context, predicted: &mut 
     if predicted.known {
         predicted.finish = Finish {
             op: *op,
-            spent: Spent {
-                taken: false,
-                expired: false,
-                count: 0,
-                cause: 0,
-                accesses: (context.answers.len() + 1) as u8,
-            },
+            spent: met_at_last(context),
             stopped: false,
             halted: false,
             trace: leaves_trace(found, 0),
         };
+        predicted.clocks = clocks;
     }
 }

@@ -162,7 +162,8 @@ fn run_move(
     ) {
         Some(Ok(())) => Some(PrivateStep::Done(u32::from(found.clocks))),
         Some(Err(request)) => {
-            predict_finish(&found.decoded.op, &before, context, predicted);
+            let clocks = u32::from(found.clocks);
+            predict_finish(&found.decoded.op, clocks, &before, context, predicted);
             *regs = before;
             Some(PrivateStep::Need(request))
         }
@@ -235,7 +236,7 @@ pub fn run_private(
         None => return None,
     };
     if step.is_none() {
-        cache.note_shared(address);
+        cache.note_refused(address);
     }
     step
 }

@@ -45,6 +45,8 @@ pub struct Predicted {
     pub regs: Regs,
     /// The outcome of the sample.
     pub finish: Finish,
+    /// The clocks that it takes.
+    pub clocks: u32,
 }
 
 impl Predicted {
@@ -75,6 +77,7 @@ impl Predicted {
                 halted: false,
                 trace: false,
             },
+            clocks: 0,
         }
     }
 }

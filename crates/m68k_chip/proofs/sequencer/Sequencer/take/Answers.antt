@@ -1,4 +1,5 @@
-use Rattle.std.proofs.Common.{◌≡◌, ℕ, List, [], ◌∷◌, ◌++◌, ◌∙◌, ap, sym, arith}
+use Rattle.std.proofs.Common.{◌≡◌, ℕ, List, [], ◌∷◌, ◌++◌, ◌∙◌, ap, subst, sym, arith}
+use Rattle.m68k_exec.specs.Sample.Prediction.{TakesClocks}
 use Rattle.m68k_exec.specs.declared.sample.step.Predicted.{Predicted}
 use Rattle.m68k_chip.specs.Events.{finished, went_on, with_started}
 use Rattle.m68k_chip.specs.States.{State68, state_of}
@@ -32,9 +33,13 @@ pub returns-else-self-clause-predicted : goal.returns-else-self-clause-predicted
 returns-else-self-clause-predicted c =
     went-predicted c.args.cart.now _ _ _ _ _ c.go_on.ensures.state c.go_on.ensures.predicted_end
 
-pub end_predicted-requires : goal.end_predicted-requires
-end_predicted-requires c =
+pub end_predicted-requires-clause-start : goal.end_predicted-requires-clause-start
+end_predicted-requires-clause-start c =
     omega (arith, c.requires.start, ap (λ (s : State68). s.start) (c.start_transfer.ensures.state []), (started-rest (state_of c.args.self.now []) c.args.answer.now.transfer).3)
+
+pub end_predicted-requires-clause-clocks : goal.end_predicted-requires-clause-clocks
+end_predicted-requires-clause-clocks c =
+    subst (λ (f : Predicted). TakesClocks f) (sym c.start_transfer.ensures.predicted) (c.requires.predicted (sym (ap (λ (f : Predicted). f.known) c.start_transfer.ensures.predicted) ∙ c.if-self.true)).0
 
 -- what was predicted comes
 came : (c : goal.After-end_predicted) → state_of c.end_predicted.new.self c.args.ram.now ≡ finished (with_started (state_of c.args.self.now c.args.ram.now) c.args.answer.now.transfer) (ended_by c.args.self.now.predicted.finish c.args.self.now.predicted.regs [])

@@ -2,7 +2,7 @@ use Rattle.m68k_exec.proofs.Private.{sample-runs}
 use Rattle.m68k_exec.proofs.sample.private.run_private.Goals as goal
 
 pub returns-then-is_none-clause-cache : goal.returns-then-is_none-clause-cache
-returns-then-is_none-clause-cache c = c.note_shared.ensures c.args.cart.now c.requires.cache
+returns-then-is_none-clause-cache c = c.note_refused.ensures c.args.cart.now c.requires.cache
 
 pub returns-else-is_none-clause-value : goal.returns-else-is_none-clause-value
 returns-else-is_none-clause-value c =

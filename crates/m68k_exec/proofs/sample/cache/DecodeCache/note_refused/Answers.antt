@@ -1,6 +1,6 @@
 use Rattle.std.proofs.Common.{arith}
 use Rattle.m68k_exec.proofs.Caches.{cache-noted}
-use Rattle.m68k_exec.proofs.sample.cache.DecodeCache.note_shared.Goals as goal
+use Rattle.m68k_exec.proofs.sample.cache.DecodeCache.note_refused.Goals as goal
 
 pub returns : goal.returns
 returns c = λ rom right.
