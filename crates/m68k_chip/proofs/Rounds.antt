@@ -14,15 +14,6 @@ use Rattle.m68k_chip.specs.declared.iteration.Place.TheVariants.{AtRead}
 use Rattle.m68k_chip.proofs.Iterations.{ahead-again, answers-again, at-read}
 use Rattle.m68k_chip.proofs.Laws.{IsLevel, answered-later, answered-ok, begun-later, begun-ok, of}
 
--- no sample
-pub none-on : (cart : List ℕ) (level end : ℕ) (state : State68) → SampledOn 0 end cart level state state
-unfolding begun_after
-none-on cart level end state = record {
-  sample = λ k most. absurd (omega arith);
-  below = λ k most. absurd (omega arith);
-  is = refl;
-}
-
 kinds-from : (cart : List ℕ) (level end n : ℕ) (before after : State68) → WentAhead n end cart level before after → (next_of before).sample ≡ true → (k : ℕ) → k < n → (next_of (begun_after k cart before level)).sample ≡ true
 unfolding begun_after
 kinds-from cart level end n before after went kind zero most = kind

@@ -1,9 +1,10 @@
 //! The accesses of the 68000: what each asks for, and what its answer leads to.
-ghost use Rattle.std.specs.Prelude.{◌≡◌, ◌^◌, ◌<◌, ℕ, List, [], false};
+ghost use Rattle.std.specs.Prelude.{◌≡◌, ◌^◌, ◌<◌, ℕ, List, [], true, false, IsTrue};
 ghost use Rattle.md_word.specs.Clock.{cycle_limit};
 ghost use Rattle.arrayvec.specs.ArrayVec.{array_vec_len};
 ghost use Rattle.m68k_access.specs.Memory.{word_at};
 ghost use Rattle.m68k_exec.specs.Sample.Caches.{IsCacheOf};
+ghost use Rattle.m68k_exec.specs.Sample.Prediction.{TakesClocks};
 ghost use Rattle.m68k_chip.specs.Events as events;
 ghost use Rattle.m68k_chip.specs.Events.{answered, answered_at, request_at};
 ghost use Rattle.m68k_chip.specs.Held.{IsPredicted, WaitsFor};
@@ -50,6 +51,29 @@ impl Sequencer {
         }
     }
 
+    /// Whether it is at an access after which is known what comes.
+    #[inline(always)]
+    pub fn is_predicted(&self) -> bool
+        ensures stage { IsTrue result → self.now.stage ≡ Access }
+        ensures known { IsTrue result → self.now.predicted.known ≡ true }
+    {
+        matches!(self.stage, Stage::Access) && self.predicted.known
+    }
+
+    /// Takes the answer to a shared access after which is known what comes.
+    #[inline(always)]
+    pub fn take_predicted(&mut self, answer: &Answer68)
+        requires start { self.old.start < cycle_limit }
+        requires known { self.old.predicted.known ≡ true }
+        requires clocks { TakesClocks self.old.predicted }
+        ensures state { (cart ram : List ℕ) → IsPredicted Access cart (state_of self.old ram) self.old.predicted → state_of self.new ram ≡ answered_at Access cart (state_of self.old ram) answer.now }
+        ensures waiting { (cart ram : List ℕ) → IsPredicted Access cart (state_of self.old ram) self.old.predicted → WaitsFor self.new.stage cart (state_of self.new ram) self.new.request }
+        ensures predicted { (cart ram : List ℕ) → IsPredicted Access cart (state_of self.old ram) self.old.predicted → IsPredicted self.new.stage cart (state_of self.new ram) self.new.predicted }
+    {
+        self.start_transfer(answer.transfer);
+        self.end_predicted();
+    }
+
     /// Takes the answer to a shared access of what is carried out.
     pub fn take(
         &mut self,
@@ -69,10 +93,10 @@ impl Sequencer {
         ensures waiting { WaitsFor self.new.stage cart.now (state_of self.new ram.new) self.new.request }
         ensures predicted { IsPredicted self.new.stage cart.now (state_of self.new ram.new) self.new.predicted }
     {
-        self.start_transfer(answer.transfer);
         if self.predicted.known {
-            self.end_predicted();
+            self.take_predicted(answer);
         } else {
+            self.start_transfer(answer.transfer);
             self.answers.push(answer.value);
             let cause = self.cause;
             self.go_on(cause, cart, ram, cache, progress);

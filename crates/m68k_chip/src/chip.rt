@@ -118,11 +118,29 @@ impl Chip68 {
             let cycle = self.sequencer.start + u64::from(self.iteration.first);
             self.sequencer.stand_after(&self.iteration.after, cycle);
         } else {
-            self.answer_otherwise(&answer);
+            self.answer_predicted(&answer);
+        }
+    }
+
+    /// `answer`, where it may be known what comes: the access is then the last of an instruction that writes nothing
+    /// into work RAM.
+    #[inline(never)]
+    fn answer_predicted(&mut self, answer: &Answer68)
+        requires asking { (next_of self.old.state).sample ≡ false }
+        requires far { self.old.state.next < cycle_limit }
+        requires fits { Fits (request_of self.old.cart self.old.state) answer.now }
+        ensures { self.new ≡ record self.old { state = answered self.old.cart self.old.state answer.now } }
+    {
+        if self.sequencer.is_predicted() {
+            self.iteration.leave();
+            self.sequencer.take_predicted(answer);
+        } else {
+            self.answer_otherwise(answer);
         }
     }
 
     /// `answer`, where the iteration that is known does not say what comes: perhaps the other one does.
+    #[inline(never)]
     fn answer_otherwise(&mut self, answer: &Answer68)
         requires asking { (next_of self.old.state).sample ≡ false }
         requires far { self.old.state.next < cycle_limit }

@@ -232,6 +232,17 @@ impl Iteration {
         }
     }
 
+    /// Another access than the read was answered, or the read with another answer, and nothing was written.
+    #[inline(always)]
+    pub fn leave(&mut self)
+        ensures { (cart : List ℕ) (state : State68) (request : Option Request68) (predicted : Predicted) → (self.old.place ≡ AtRead → IsIteration self.old cart state.ram) → IsOn self.new.place self.new cart state request predicted }
+    {
+        self.place = match self.place {
+            Place::AtRead => Place::Learned,
+            Place::Away | Place::Opened | Place::Learned | Place::PastRead => Place::Away,
+        };
+    }
+
     /// An iteration may have begun with the read that was kept.
     #[inline(never)]
     fn follow(&mut self, sequencer: &Sequencer)

@@ -3,8 +3,9 @@
 ghost use Rattle.std.specs.Prelude.{◌≡◌, ◌+◌, ◌-◌, ◌^◌, ◌<◌, ◌≤◌, ◌&&◌, ℕ, List, true, false, IsTrue};
 ghost use Rattle.md_word.specs.Clock.{cycle_limit};
 ghost use Rattle.m68k_chip.specs.Events as events;
+ghost use Rattle.m68k_chip.specs.Events.{SampledOn};
 ghost use Rattle.m68k_chip.specs.Iterations.{sampling};
-ghost use Rattle.m68k_chip.specs.Repetitions.{IsMarked, Leads};
+ghost use Rattle.m68k_chip.specs.Repetitions.{IsMarked};
 ghost use Rattle.m68k_chip.specs.States.{state_of};
 
 use crate::chip::Chip68;
@@ -135,8 +136,8 @@ impl Sequencer {
         requires end { end ≤ cycle_limit }
         requires early { mark.now.cycle + mark.now.samples ≤ self.old.next }
         ensures led { (cart ram : List ℕ) (level : ℕ) → state_of self.old ram ≡ sampling ram mark.now.regs self.old.next
-            → Leads mark.now.samples self.old.next cart level (sampling ram mark.now.regs mark.now.cycle) (state_of self.old ram)
-            → Leads result end cart level (state_of self.old ram) (state_of self.new ram) }
+            → SampledOn mark.now.samples self.old.next cart level (sampling ram mark.now.regs mark.now.cycle) (state_of self.old ram)
+            → SampledOn result end cart level (state_of self.old ram) (state_of self.new ram) }
         ensures state { (ram : List ℕ) → state_of self.new ram ≡ events.at_sample (state_of self.old ram) self.new.next }
         ensures later { self.old.next + result ≤ self.new.next }
         ensures few { result ≤ end }
@@ -185,7 +186,7 @@ impl Chip68 {
     fn repeat(&mut self, mark: &mut Mark, samples: u64, end: u64) -> u64
         requires end { end ≤ cycle_limit }
         requires early { mark.old.cycle + mark.old.samples ≤ self.old.state.next }
-        ensures led { (level : ℕ) → IsMarked mark.old self.old.cart level self.old.state → Leads result end self.old.cart level self.old.state self.new.state }
+        ensures led { (level : ℕ) → IsMarked mark.old self.old.cart level self.old.state → SampledOn result end self.old.cart level self.old.state self.new.state }
         ensures marked { (level : ℕ) → IsMarked mark.old self.old.cart level self.old.state → IsMarked mark.new self.old.cart level self.new.state }
         ensures early { mark.new.cycle + mark.new.samples ≤ self.new.state.next }
         ensures later { self.old.state.next + result ≤ self.new.state.next }
@@ -229,8 +230,8 @@ impl Chip68 {
         requires below { self.old.state.next < end }
         requires end { end ≤ cycle_limit }
         requires early { mark.now.cycle + mark.now.samples ≤ self.old.state.next }
-        ensures led { (level : ℕ) → Leads mark.now.samples self.old.state.next self.old.cart level (sampling self.old.state.ram mark.now.regs mark.now.cycle) self.old.state
-            → Leads result end self.old.cart level self.old.state self.new.state }
+        ensures led { (level : ℕ) → SampledOn mark.now.samples self.old.state.next self.old.cart level (sampling self.old.state.ram mark.now.regs mark.now.cycle) self.old.state
+            → SampledOn result end self.old.cart level self.old.state self.new.state }
         ensures later { self.old.state.next + result ≤ self.new.state.next }
         ensures few { result ≤ end }
         ensures cart { self.new.cart ≡ self.old.cart }

@@ -1,4 +1,6 @@
-use Rattle.m68k_chip.proofs.Rounds.{all-on, none-on, on-later}
+use Rattle.std.proofs.Common.{refl}
+use Rattle.m68k_chip.proofs.Repetitions.{leads-none}
+use Rattle.m68k_chip.proofs.Rounds.{all-on, on-later}
 use Rattle.m68k_chip.proofs.chip.Chip68.sample_on.Goals as goal
 
 pub returns-then-samples_below-clause-state : goal.returns-then-samples_below-clause-state
@@ -13,4 +15,4 @@ returns-then-samples_below-clause-later c =
     (all-on c.args.self.now.cart c.args.pins.level c.args.end c.sample_ahead.result c.args.self.now.state c.sample_ahead.new.self.state c.sample_ahead.ensures.state found.0 found.1)
 
 pub returns-else-samples_below-clause-state : goal.returns-else-samples_below-clause-state
-returns-else-samples_below-clause-state c = none-on c.args.self.now.cart c.args.pins.level c.args.end c.args.self.now.state
+returns-else-samples_below-clause-state c = leads-none c.args.end c.args.self.now.cart c.args.pins.level c.args.self.now.state c.args.self.now.state refl

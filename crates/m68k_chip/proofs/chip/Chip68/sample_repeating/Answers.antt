@@ -1,7 +1,7 @@
 use Rattle.std.proofs.Common.{◌≡◌, ◌+◌, ◌<◌, ℕ, List, true, refl, sym, ap, subst, ◌∙◌, arith}
 use Rattle.std.specs.Prelude.{◌&&◌}
-use Rattle.m68k_chip.specs.Events.{begun}
-use Rattle.m68k_chip.specs.Repetitions.{IsMarked, Leads}
+use Rattle.m68k_chip.specs.Events.{SampledOn, begun}
+use Rattle.m68k_chip.specs.Repetitions.{IsMarked}
 use Rattle.m68k_chip.specs.States.{next_of}
 use Rattle.m68k_chip.specs.Validity.{Chip68Value, IsChip68}
 use Rattle.m68k_chip.specs.declared.repetition.Mark.{Mark}
@@ -56,7 +56,7 @@ loop-pins-preserved c =
     record {
       led = λ before went. went-on (c.loop-pins.count + 1) c.repeat-count.result c.args.end c.args.self.now.cart c.args.pins.level before c.sample_quietly-quiet.new.self.state c.repeat-count.new.self.state
           (more-ahead c.args.self.now.cart before c.args.pins.level c.args.end c.loop-pins.count c.loop-pins.self.state c.sample_quietly-quiet.new.self.state (c.loop-pins.invariant.led before went) found.0 found.1 is)
-          (subst (λ (image : List ℕ). Leads c.repeat-count.result c.args.end image c.args.pins.level c.sample_quietly-quiet.new.self.state c.repeat-count.new.self.state) same (c.repeat-count.ensures.led c.args.pins.level marked));
+          (subst (λ (image : List ℕ). SampledOn c.repeat-count.result c.args.end image c.args.pins.level c.sample_quietly-quiet.new.self.state c.repeat-count.new.self.state) same (c.repeat-count.ensures.led c.args.pins.level marked));
       cart = c.repeat-count.ensures.cart ∙ same;
       marked = subst (λ (image : List ℕ). IsMarked c.repeat-count.new.mark image c.args.pins.level c.repeat-count.new.self.state) same (c.repeat-count.ensures.marked c.args.pins.level marked);
       early = c.repeat-count.ensures.early;
