@@ -14,7 +14,7 @@ use Rattle.chip_core.proofs.Going.{all-risen, below-end}
 use Rattle.chip_core.proofs.Keeps.{key-itself, tidy-leads}
 use Rattle.chip_core.proofs.Keys.{by_test, earlier-key, lt-through, put-each, put-other, put-same, same_or}
 use Rattle.chip_core.proofs.Sampling.{next-on, on-sampled, sampled-on}
-use Rattle.chip_core.proofs.Turns.{own-place, past-reaches, put-back, reaches-itself, reaches-on, room-there, turn-enabled}
+use Rattle.chip_core.proofs.Turns.{keys-past, own-place, past-reaches, put-back, reaches-itself, reaches-on, room-there, turn-enabled}
 use Rattle.chip_core.proofs.Keys.{apart-lt, before-start, cycle-not_lt, not_lt-back, not_lt-trans, start-later}
 use Rattle.chip_core.proofs.Apart.{chip-past, chip-samples, own-apart, past-apart, samples-apart, shared-samples}
 use Rattle.chip_core.proofs.Fewer.{leads-later, past-later}
@@ -244,23 +244,38 @@ module _ {Chip Shared Pins : Type 0} (rules : Rules Chip Shared Pins) (chip_ok :
             (start-later cycle_limit (z.bound j) (let low = first.low in omega arith)) (z.machine.chip i) (tidy-z.valid.chip i h) (tidy-z.valid.number i h) rests-z in
             place-caught found.count found.are room has
 
-        -- and the samples after it
-        pub asleep-on : (w : Seen Chip Shared) → WritesNone rules i → IsTidy rules chip_ok shared_ok (past_access rules z j) → IsTidy rules chip_ok shared_ok w → AreKeys rules w rules.count
-            → rules.pins (past_access rules z j).machine.shared i ≡ rules.pins z.machine.shared i → SamplesWithin rules t j (past_access rules z j) w → Reaches rules t (past_access rules z j) w → Asleep t i pins s w
-        asleep-on w apart tidy-past tidy-w keys-w stays within r = record {
+        -- which left its pins
+        pub asleep-past : IsTidy rules chip_ok shared_ok (past_access rules z j) → rules.pins (past_access rules z j).machine.shared i ≡ rules.pins z.machine.shared i → Asleep t i pins s (past_access rules z j)
+        asleep-past tidy-past stays = record {
           upto = z.bound j;
-          sleeps = sleeps-within (past_access rules z j) (z.bound j) sleeps-past (subst (λ c. Rests rules pins c) (sym (chip-past rules i j first.other z)) rests-z) j first.inside first.other apart w within;
+          sleeps = sleeps-past;
           low = first.low;
           own = not_lt-trans (key_of rules s.machine i) asleep.upto (z.bound j) asleep.own later;
-          others = λ k q ne. not_lt-trans (z.bound j) (z.bound k) (w.bound k) (first.least k q ne)
-              (cycle-not_lt (z.bound k) (w.bound k) (tidy-z.bound_number k q ∙ sym (tidy-w.bound_number k q))
-              (let first-part = past-later rules chip_ok shared_ok law z tidy-z j first.inside (let low = first.low in let same = ap (λ (x : Key). x.cycle) (keys j first.inside) in omega arith) k in
-              let second-part = leads-later rules chip_ok shared_ok law t small (past_access rules z j) tidy-past r.0 w r.1 k in
+          others = λ k q ne. not_lt-trans (z.bound j) (z.bound k) ((past_access rules z j).bound k) (first.least k q ne)
+              (cycle-not_lt (z.bound k) ((past_access rules z j).bound k) (tidy-z.bound_number k q ∙ sym (tidy-past.bound_number k q))
+              (let rise = past-later rules chip_ok shared_ok law z tidy-z j first.inside (let low = first.low in let same = ap (λ (x : Key). x.cycle) (keys j first.inside) in omega arith) k in
               let a = ap (λ (x : Key). x.cycle) (keys k q) in
-              let b = ap (λ (x : Key). x.cycle) (keys-w k q) in
+              let b = ap (λ (x : Key). x.cycle) (keys-past rules z j keys k q) in
               omega arith));
-          shown = asleep.shown ∙ sym stays ∙ ap (λ x. rules.pins x i) (sym (ap (λ (x : Seen Chip Shared). x.machine.shared) within.is ∙ shared-samples rules (past_access rules z j) j within.samples (λ k q. (within.each k q).0)));
+          shown = asleep.shown ∙ sym stays;
         }
+
+      -- samples of another chip
+      pub asleep-within : (z : Seen Chip Shared) → Asleep t i pins s z → Rests rules pins (s.machine.chip i) → WritesNone rules i → IsTidy rules chip_ok shared_ok z → AreKeys rules z rules.count → (j : ℕ) → j < rules.count → j ≢ i
+          → (w : Seen Chip Shared) → IsTidy rules chip_ok shared_ok w → AreKeys rules w rules.count → SamplesWithin rules t j z w → Reaches rules t z w → Asleep t i pins s w
+      asleep-within z asleep rests apart tidy-z keys j hj ne w tidy-w keys-w within r = record {
+        upto = asleep.upto;
+        sleeps = sleeps-within z asleep.upto asleep.sleeps (subst (λ c. Rests rules pins c) (sym asleep.sleeps.chip) rests) j hj ne apart w within;
+        low = asleep.low;
+        own = asleep.own;
+        others = λ k q nk. not_lt-trans asleep.upto (z.bound k) (w.bound k) (asleep.others k q nk)
+            (cycle-not_lt (z.bound k) (w.bound k) (tidy-z.bound_number k q ∙ sym (tidy-w.bound_number k q))
+            (let rise = leads-later rules chip_ok shared_ok law t small z tidy-z r.0 w r.1 k in
+            let a = ap (λ (x : Key). x.cycle) (keys k q) in
+            let b = ap (λ (x : Key). x.cycle) (keys-w k q) in
+            omega arith));
+        shown = asleep.shown ∙ ap (λ x. rules.pins x i) (sym (ap (λ (x : Seen Chip Shared). x.machine.shared) within.is ∙ shared-samples rules z j within.samples (λ k q. (within.each k q).0)));
+      }
 
       -- none of the others is below the cycle any more
       pub sleeps-end : (z : Seen Chip Shared) → Asleep t i pins s z → Rests rules pins (s.machine.chip i) → AreOthersLate t z.bound rules.count i → Sleeps rules t (record { cycle = t; chip = 0 }) i pins s z

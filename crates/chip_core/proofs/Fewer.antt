@@ -1,22 +1,19 @@
 -- Keys only rise, and each event leaves fewer moves, also while a chip sleeps.
-use Rattle.std.proofs.Common.{◌≡◌, ◌≢◌, ℕ, zero, suc, ◌+◌, ◌*◌, ◌<◌, ◌≤◌, true, false, cond, sym, ◌∙◌, ap, subst, arith, ◌⊎◌, inl, inr, List, [], ◌∷◌, true≢false}
+use Rattle.std.proofs.Common.{◌≡◌, ◌≢◌, ℕ, zero, suc, ◌+◌, ◌*◌, ◌<◌, ◌≤◌, false, cond, sym, ap, subst, arith, ◌⊎◌, inl, inr, List, [], ◌∷◌}
 use Rattle.std.proofs.lemmas.Bool.Decides.{nat_tests}
 use Rattle.md_word.specs.Clock.{cycle_limit}
 use Rattle.md_word.specs.declared.key.Key.{Key}
 use Rattle.md_word.specs.Keys.{key_lt}
 use Rattle.chip_core.specs.declared.event.Event.{Event}
 use Rattle.chip_core.specs.declared.event.Event.TheVariants.{Announce, Perform, Sample}
-use Rattle.chip_core.specs.Chips.{Lawful, Rules, WritesNone}
+use Rattle.chip_core.specs.Chips.{Lawful, Rules}
 use Rattle.chip_core.specs.Events.{AreKeys, IsEnabled, IsTidy, Leads, Reaches, Seen, after, past_access}
 use Rattle.chip_core.specs.Limits.{all_moves_left, moves_left, total}
 use Rattle.chip_core.specs.Machines.{Machine, IsValid, is_sample, key_of, move}
-use Rattle.chip_core.specs.Resting.{IsFirstOther}
 use Rattle.chip_core.proofs.Keeps.{enabled-wider, tidy-after}
 use Rattle.chip_core.proofs.Keys.{by_test, same_or, total-suc, total-zero}
 use Rattle.chip_core.proofs.Stages.{chip-other, key-rises}
-use Rattle.chip_core.proofs.Turns.{keys-past}
-use Rattle.chip_core.proofs.Works.{all-fall, work, work-leads, work_of}
-use Rattle.chip_core.proofs.Keys.{apart-lt}
+use Rattle.chip_core.proofs.Works.{work, work-leads, work_of}
 
 module _ {Chip Shared Pins : Type 0} (rules : Rules Chip Shared Pins) where
   -- where each bound is its chip's key, the work is told by the moves that are left
@@ -95,26 +92,3 @@ module _ {Chip Shared Pins : Type 0} (rules : Rules Chip Shared Pins) (chip_ok :
             let a = work-keys rules t s keys in
             let b = work-keys rules t z keys-z in
             omega arith
-
-    -- after the access of the chip of first other bound, and its samples, fewer moves are left
-    pub other-less : (s z : Seen Chip Shared) → IsTidy rules chip_ok shared_ok s → AreKeys rules s rules.count → (i j : ℕ) → WritesNone rules i → IsFirstOther t s.bound rules.count i j
-        → IsTidy rules chip_ok shared_ok (past_access rules s j) → AreKeys rules z rules.count → Reaches rules t (past_access rules s j) z → (IsEnabled rules z t (Sample j) → ⊥)
-        → all_moves_left rules t z.machine < all_moves_left rules t s.machine
-    other-less s z tidy keys i j apart first tidy-past keys-z r ended =
-        by_test (is_sample rules s.machine j)
-        (λ e. reached-less s z tidy keys keys-z (subst (λ b. Reaches rules t (cond b s (after rules (after rules s (Perform j)) (Announce j))) z) e r)
-        (λ same. ended (subst (λ (x : Seen Chip Shared). IsEnabled rules x t (Sample j)) (sym same) (first.inside, e, low, looked))))
-        (λ e.
-        let on = reached-le (past_access rules s j) z tidy-past (keys-past rules s j keys) keys-z r in
-        let fall = all-fall rules chip_ok shared_ok law t small s tidy j first.inside low in
-        let moved = ap (λ b. all_moves_left rules t (cond b s (after rules (after rules s (Perform j)) (Announce j))).machine) e in
-        omega arith)
-      where
-        low : (key_of rules s.machine j).cycle < t
-        low = subst (λ (k : Key). k.cycle < t) (keys j first.inside) first.low
-
-        looked : (k : ℕ) → k < rules.count → k ≢ j → rules.writes k j ≡ true → key_lt (key_of rules s.machine j) (s.bound k) ≡ true
-        looked k q ne w =
-            subst (λ x. key_lt x (s.bound k) ≡ true) (keys j first.inside)
-            (apart-lt (s.bound k) (s.bound j) (λ same. ne (sym (tidy.bound_number k q) ∙ same ∙ tidy.bound_number j first.inside))
-            (first.least k q (λ same. true≢false (sym w ∙ ap (λ n. rules.writes n j) same ∙ apart j first.inside))))

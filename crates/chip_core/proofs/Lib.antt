@@ -12,10 +12,12 @@ pub mod Lists
 pub mod Looking
 pub mod Lowering
 pub mod Parts
+pub mod Passing
 pub mod Runs
 pub mod Sampling
 pub mod Stages
 pub mod Stands
+pub mod Staying
 pub mod Turns
 pub mod Waking
 pub mod Within

@@ -87,13 +87,13 @@ module _ {Chip Shared Pins : Type 0} (rules : Rules Chip Shared Pins) where
   room-leads t room s has (e ∷ es) z l = room-leads t room (after rules s e) (room-after rules t room s (after rules s e) has e l.0 refl) es z l.1
 
   -- the event that a chip waits at moves its machine, and sets its bound alone
-  own-machine : (s : Seen Chip Shared) (i : ℕ) → (after rules s (own_event rules s i)).machine ≡ move rules s.machine i
+  pub own-machine : (s : Seen Chip Shared) (i : ℕ) → (after rules s (own_event rules s i)).machine ≡ move rules s.machine i
   own-machine s i =
       by_test (is_sample rules s.machine i)
       (λ e. ap (λ b. (after rules s (cond b (Sample i) (Perform i))).machine) e)
       (λ e. ap (λ b. (after rules s (cond b (Sample i) (Perform i))).machine) e)
 
-  own-bound : (s : Seen Chip Shared) (i : ℕ) → (after rules s (own_event rules s i)).bound ≡ put s.bound i (left_bound rules s.machine i)
+  pub own-bound : (s : Seen Chip Shared) (i : ℕ) → (after rules s (own_event rules s i)).bound ≡ put s.bound i (left_bound rules s.machine i)
   own-bound s i =
       by_test (is_sample rules s.machine i)
       (λ e. ap (λ b. (after rules s (cond b (Sample i) (Perform i))).bound) e)

@@ -1,34 +1,23 @@
 -- A chip that wakes up: its samples are made, and the core is one that enabled events lead to.
-use Rattle.std.proofs.Common.{◌≡◌, ◌≢◌, ℕ, ◌<◌, ◌≤◌, true, false, refl, sym, ◌∙◌, ap, ap₂, subst, arith, inl, inr, length}
+use Rattle.std.proofs.Common.{◌≡◌, ℕ, ◌<◌, ◌≤◌, true, false, refl, sym, ◌∙◌, ap, ap₂, subst, arith, inl, inr, length}
 use Rattle.md_word.specs.Clock.{cycle_limit}
-use Rattle.md_word.specs.declared.event.Entry.{Entry}
 use Rattle.md_word.specs.declared.key.Key.{Key}
 use Rattle.md_word.specs.Keys.{key_lt}
-use Rattle.chip_core.specs.declared.event.Event.TheVariants.{Announce, Perform}
-use Rattle.chip_core.specs.Chips.{ArePins, Lawful, LeavesPins, Rests, Rules, RunsTo, SamplesBelow, SamplesTo, sampled}
+use Rattle.chip_core.specs.Chips.{ArePins, Lawful, Rests, Rules, RunsTo, SamplesBelow, SamplesTo, sampled}
 use Rattle.chip_core.specs.Cores.{CoreValue, IsCore, chip_in, seen}
-use Rattle.chip_core.specs.Events.{AreKeys, AwaitsAccess, IsTidy, Reaches, Seen, after}
+use Rattle.chip_core.specs.Events.{AreKeys, IsTidy, Reaches, Seen}
 use Rattle.chip_core.specs.Limits.{all_moves_left}
-use Rattle.chip_core.specs.Machines.{accessed, is_sample, key_of, put}
+use Rattle.chip_core.specs.Machines.{is_sample, key_of, put}
 use Rattle.chip_core.specs.Resting.{CatchesUp, Sleeps, with_chip}
 use Rattle.chip_core.proofs.Going.{samples-risen}
 use Rattle.chip_core.proofs.Keeps.{key-itself}
 use Rattle.chip_core.proofs.Keys.{put-each, put-other, put-same, same_or}
 use Rattle.chip_core.proofs.Lists.{core-tidy, tidy-core}
-use Rattle.chip_core.proofs.Stages.{due}
 use Rattle.chip_core.proofs.Turns.{put-back}
-use Rattle.chip_core.proofs.Apart.{access-on}
 use Rattle.chip_core.proofs.Fewer.{reached-less}
 use Rattle.chip_core.proofs.Asleep.{rests-now}
 
 module _ {Chip Shared Pins : Type 0} (rules : Rules Chip Shared Pins) (chip_ok : Chip → Type 0) (shared_ok : Shared → Type 0) (law : Lawful rules chip_ok shared_ok) where
-  -- an access by whose entry the pins are left, or a sample, leaves them
-  pub pins-past : (s : Seen Chip Shared) → IsTidy rules chip_ok shared_ok s → (i j : ℕ) → i ≢ j → AwaitsAccess rules s i → (entry : Entry) → entry ≡ (accessed rules s.machine i).entry
-      → LeavesPins rules chip_ok shared_ok entry j → (z : Seen Chip Shared) → z ≡ after rules (after rules s (Perform i)) (Announce i) → rules.pins z.machine.shared j ≡ rules.pins s.machine.shared j
-  pins-past s tidy i j ne at entry is leaves z came =
-      ap (λ (x : Seen Chip Shared). rules.pins x.machine.shared j) (came ∙ access-on rules s i at.kind)
-      ∙ leaves (s.machine.chip i) s.machine.shared i (due rules chip_ok shared_ok law s.machine tidy.valid i at.inside at.low false at.kind) ne (sym is)
-
   -- the sleeper's samples, as a core
   pub tidy-with : (s : Seen Chip Shared) → IsTidy rules chip_ok shared_ok s → (i : ℕ) → i < rules.count → (c : Chip) → chip_ok c → (rules.next c).key.chip ≡ i → IsTidy rules chip_ok shared_ok (with_chip rules s i c)
   tidy-with s tidy i h c ok number = record {

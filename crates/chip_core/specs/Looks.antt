@@ -20,6 +20,14 @@ least_lagging bound key (suc n) = or_else (least_lagging bound key n) (cond (key
 abbrev pub IsBelowOthers : Key → List Key → ℕ → Type 0
 IsBelowOthers key bounds i = (j : ℕ) → j < length bounds → j ≢ i → key_lt key (slice_index_or bounds j no_key) ≡ true
 
+-- each key below this one lies below cycle t, and below the bounds of the first n chips but for i and j
+abbrev pub IsFreeTo : ℕ → (ℕ → Key) → ℕ → ℕ → ℕ → Key → Type 0
+IsFreeTo t bound n i j end = (key : Key) → key_lt key end ≡ true → (key.cycle < t) × ((k : ℕ) → k < n → k ≢ i → k ≢ j → key_lt key (bound k) ≡ true)
+
+-- and each key that lies so lies below this one
+abbrev pub IsLastFree : ℕ → (ℕ → Key) → ℕ → ℕ → ℕ → Key → Type 0
+IsLastFree t bound n i j end = (key : Key) → key.cycle < t → ((k : ℕ) → k < n → k ≢ i → k ≢ j → key_lt key (bound k) ≡ true) → key_lt key end ≡ true
+
 module _ {Chip Shared Pins : Type 0} (rules : Rules Chip Shared Pins) where
   -- a key is below the bounds of the others that write the pins of one chip
   abbrev pub IsBelowWriters : Key → List Key → ℕ → Type 0

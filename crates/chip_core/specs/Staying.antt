@@ -1,9 +1,13 @@
 -- One chip that makes several events while the others make none.
-use Rattle.std.specs.Prelude.{◌≡◌, ℕ, zero, suc, ◌-◌, ◌<◌, ◌≤◌, true, false, cond, List, [], ◌∷◌, ◌++◌}
+use Rattle.std.specs.Prelude.{◌≡◌, ◌≢◌, ℕ, zero, suc, ◌-◌, ◌<◌, ◌≤◌, true, false, cond, List, [], ◌∷◌, ◌++◌, Option, MatchOption}
 use Rattle.md_word.specs.declared.event.Entry.{Entry}
 use Rattle.md_word.specs.declared.key.Key.{Key}
 use Rattle.md_word.specs.Keys.{key_lt}
+use Rattle.chip_core.specs.declared.event.Event.TheVariants.{Announce}
 use Rattle.chip_core.specs.Chips.{LeavesPins, Rules}
+use Rattle.chip_core.specs.Events.{Seen, after, own_event}
+use Rattle.chip_core.specs.Looks.{IsFreeTo}
+use Rattle.chip_core.specs.Machines.{is_sample, key_of}
 
 -- the chip, with what all chips share and the journal
 pub record Staying (Chip Shared : Type 0) : Type 0 where
@@ -46,3 +50,33 @@ module _ {Chip Shared Pins : Type 0} (rules : Rules Chip Shared Pins) where
     pub record Wakes (n i j : ℕ) (a : Staying Chip Shared) (key : Key) : Type 0 where
       pub before : LeavesAll (n - 1) i j a
       pub last : key ≡ (rules.next (stayed (n - 1) i a).chip).key
+
+  -- the core after n events of chip i, each with the announcement of its next one
+  unfoldable pub turned : ℕ → ℕ → Seen Chip Shared → Seen Chip Shared
+  turned zero i s = s
+  turned (suc n) i s = after rules (after rules (turned n i s) (own_event rules (turned n i s) i)) (Announce i)
+
+  -- each of the first n events of chip i leaves the pins of chip j
+  abbrev pub KeepsPins : ℕ → ℕ → ℕ → Seen Chip Shared → Type 0
+  KeepsPins n i j s = (k : ℕ) → k < n → rules.pins (turned (suc k) i s).machine.shared j ≡ rules.pins (turned k i s).machine.shared j
+
+  -- n events of chip i leave the pins of chip j, but for the last, which came at this key
+  pub record IsWoken (n i j : ℕ) (s : Seen Chip Shared) (key : Key) : Type 0 where
+    pub some : 1 ≤ n
+    pub before : KeepsPins (n - 1) i j s
+    pub last : key ≡ key_of rules (turned (n - 1) i s).machine i
+
+  -- events of chip i, each before this key and one at least where an access is due, lead from one core to
+  -- the other; the last may have woken chip j, another one
+  pub record StaysOn (end : Key) (i j : ℕ) (s z : Seen Chip Shared) (woke : Option Key) : Type 0 where
+    pub events : ℕ
+    pub some : is_sample rules s.machine i ≡ false → 1 ≤ events
+    pub each : (k : ℕ) → k < events → key_lt (key_of rules (turned k i s).machine i) end ≡ true
+    pub is : z ≡ turned events i s
+    pub pins : j ≢ i → MatchOption woke (KeepsPins events i j s) (IsWoken events i j s)
+
+  -- and before them nothing of the others comes but of chip j, below cycle t
+  pub record TakesTurn (t i j : ℕ) (s z : Seen Chip Shared) (woke : Option Key) : Type 0 where
+    pub end : Key
+    pub free : IsFreeTo t s.bound rules.count i j end
+    pub stays : StaysOn end i j s z woke

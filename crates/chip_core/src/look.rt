@@ -1,7 +1,7 @@
 ghost use Rattle.std.specs.Prelude.{◌≡◌, ◌≢◌, ℕ, ◌<◌, ◌≤◌, ◌↔◌, true, All, IsTrue, MatchOption, length, if◌then◌else◌, ◌&&◌};
 ghost use Rattle.md_word.specs.Keys.{key_lt};
 ghost use Rattle.chip_core.specs.Cores.{bound_in, chip_in, key_in};
-ghost use Rattle.chip_core.specs.Looks.{or_else, least_lagging, FindsOther, IsBelowOthers, IsBelowWriters, IsFirst, IsLeastLimit, IsLimit, LooksAt};
+ghost use Rattle.chip_core.specs.Looks.{or_else, least_lagging, FindsOther, IsBelowOthers, IsBelowWriters, IsFirst, IsFreeTo, IsLastFree, IsLeastLimit, IsLimit, LooksAt};
 ghost use Rattle.chip_core.specs.Machines.{least_below};
 ghost use Rattle.chip_core.specs.Resting.{AreOthersLate, IsFirstOther};
 
@@ -205,6 +205,33 @@ pub(crate) fn first_other<C: ChipSet>(bounds: &[Key], t: u64, but: u8) -> Option
         }
     }
     first
+}
+
+/// Whether a number is another than both.
+#[inline(always)]
+fn is_neither(number: u8, chip: u8, sleeper: u8) -> bool
+    ensures { IsTrue result ↔ ((number ≢ chip) × (number ≢ sleeper)) }
+{
+    number != chip && number != sleeper
+}
+
+/// The key below which a chip may go on up to cycle `t` while another sleeps: the least of the first key at that
+/// cycle and of the bounds of the others.
+#[inline(always)]
+pub(crate) fn free_to<C: ChipSet>(bounds: &[Key], t: u64, chip: u8, sleeper: u8) -> Key
+    requires count { length bounds.now ≡ C.rules.count }
+    ensures free { IsFreeTo t (bound_in bounds.now) (length bounds.now) chip sleeper result }
+    ensures last { IsLastFree t (bound_in bounds.now) (length bounds.now) chip sleeper result }
+{
+    let mut end = Key { cycle: t, chip: 0 };
+    for number in 0..C::count() {
+        lower(
+            &mut end,
+            &bounds[number as usize],
+            is_neither(number, chip, sleeper),
+        );
+    }
+    end
 }
 
 /// The move that a next event is.

@@ -63,8 +63,7 @@ impl<C: ChipSet> Core<C> {
     {
         self.known();
         while let Some(chip) = self.other_below(t, sleeper) {
-            let end = self.bound_of(chip);
-            if self.pass_by(chip, sleeper) {
+            if let Some(end) = self.turn(t, chip, sleeper) {
                 return end;
             }
             self.sample_on(t, chip);
@@ -79,34 +78,6 @@ impl<C: ChipSet> Core<C> {
         ensures core { IsCore C.rules C.chip_ok C.shared_ok self.now }
     {
         first_other::<C>(&self.bounds, t, but)
-    }
-
-    /// The chip's bound.
-    fn bound_of(&self, chip: u8) -> Key
-        requires { chip < C.rules.count }
-        ensures value { result ≡ (seen C.rules self.now).bound chip }
-        ensures core { IsCore C.rules C.chip_ok C.shared_ok self.now }
-    {
-        self.bounds[chip as usize]
-    }
-
-    /// The chip makes the access that it waits at, where it waits at one, while another sleeps; answers
-    /// whether that may have changed the sleeper's pins.
-    fn pass_by(&mut self, chip: u8, sleeper: u8) -> bool
-        requires chip { chip < C.rules.count }
-        requires low { (key_of C.rules (machine_of C.rules self.old) chip).cycle < cycle_limit }
-        requires other { chip ≢ sleeper }
-        requires room { HasPlace (length self.old.journal) self.old.room (own_event C.rules (seen C.rules self.old) chip) }
-        ensures after { seen C.rules self.new ≡ past_access C.rules (seen C.rules self.old) chip }
-        ensures pins { result ≡ false → C.rules.pins self.new.shared sleeper ≡ C.rules.pins self.old.shared sleeper }
-        ensures room { self.new.room ≡ self.old.room }
-        ensures core { IsCore C.rules C.chip_ok C.shared_ok self.new }
-    {
-        if C::next(&self.chips[chip as usize]).sample {
-            return false;
-        }
-        let entry = self.turn_access(chip);
-        C::wakes(&entry, sleeper)
     }
 
     /// The chip makes its samples of these pins before a key, and its bound becomes the key of its next

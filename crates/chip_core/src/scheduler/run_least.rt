@@ -1,22 +1,25 @@
-ghost use Rattle.std.specs.Prelude.{◌≡◌, ℕ, ◌<◌, ◌≤◌, ◌↔◌, [], IsTrue, length, MatchOption};
+ghost use Rattle.std.specs.Prelude.{◌≡◌, ◌≢◌, ℕ, ◌<◌, ◌≤◌, ◌↔◌, [], IsTrue, true, false, length, MatchOption};
 ghost use Rattle.md_word.specs.Clock.{cycle_limit};
+ghost use Rattle.md_word.specs.Keys.{key_lt};
 ghost use Rattle.chip_core.specs.declared.event.Event.{Event};
 ghost use Rattle.chip_core.specs.Chips.{SamplesBelow};
 ghost use Rattle.chip_core.specs.Cores.{IsCore, ReachesEnd, chip_in, machine_of, seen};
-ghost use Rattle.chip_core.specs.Events.{AreKeys, AwaitsAccess, HasPlace, HasRoom, IsEnabled, IsTurn, Reaches, SamplesOn, after, own_event, past_access};
+ghost use Rattle.chip_core.specs.Events.{AreKeys, AwaitsAccess, HasPlace, HasRoom, IsEnabled, IsTurn, Reaches, SamplesOn, after, own_event};
 ghost use Rattle.chip_core.specs.Limits.{all_moves_left};
-ghost use Rattle.chip_core.specs.Looks.{IsLeastLimit, IsLimit};
-ghost use Rattle.chip_core.specs.Machines.{IsRunTo, accessed, key_of, least_below};
+ghost use Rattle.chip_core.specs.Looks.{IsFreeTo, IsLastFree, IsLeastLimit, IsLimit};
+ghost use Rattle.chip_core.specs.Machines.{IsRunTo, key_of, least_below};
 ghost use Rattle.chip_core.specs.Resting.{SamplesWithin};
+ghost use Rattle.chip_core.specs.Staying.{StaysOn, TakesTurn};
 
-use crate::look::{least_of, limit_of};
+use crate::look::{free_to, least_of, limit_of};
 use crate::{ChipSet, Core};
-use md_word::{Entry, Key};
+use md_word::Key;
 
 /// Brings a core to the machine after all events below cycle `t`: it announces every chip, and then
 /// lets the chip of least bound make its event and announces it again, until no bound lies below.
-/// A chip that samples continues at once, up to the bounds of the chips that write its pins. A chip that rests
-/// sleeps while the others go on, and makes its samples once its pins may have changed, or at the end.
+/// A chip that made its access goes on as long as its events come before the bounds of all others, and one that
+/// samples up to the bounds of the chips that write its pins. A chip that rests sleeps while the others go on,
+/// and makes its samples once its pins may have changed, or at the end.
 ///
 /// The journal has to have a free place for each access below `t`, which [`crate::laws::room`]
 /// shows.
@@ -95,24 +98,68 @@ impl<C: ChipSet> Core<C> {
             self.rest(t, chip);
             return;
         }
-        self.turn(chip);
+        self.turn(t, chip, chip);
         self.sample_on(t, chip);
     }
 
-    /// The chip makes the access that it waits at, where it waits at one, and its bound becomes the key of
-    /// its next event.
-    fn turn(&mut self, chip: u8)
+    /// The chip makes the access that it waits at, where it waits at one, and perhaps events after it that come
+    /// before those of the others, but for a sleeper. Its bound becomes the key of its next event. The answer is
+    /// the key of its last event where that may have changed the sleeper's pins; where none sleeps, that is the
+    /// chip's own number.
+    pub(crate) fn turn(&mut self, t: u64, chip: u8, sleeper: u8) -> Option<Key>
+        requires time { t ≤ cycle_limit }
         requires chip { chip < C.rules.count }
-        requires low { (key_of C.rules (machine_of C.rules self.old) chip).cycle < cycle_limit }
+        requires low { (key_of C.rules (machine_of C.rules self.old) chip).cycle < t }
+        requires first { (k : ℕ) → k < C.rules.count → k ≢ chip → k ≢ sleeper → key_lt (key_of C.rules (machine_of C.rules self.old) chip) ((seen C.rules self.old).bound k) ≡ true }
+        requires keys { AreKeys C.rules (seen C.rules self.old) C.rules.count }
         requires room { HasPlace (length self.old.journal) self.old.room (own_event C.rules (seen C.rules self.old) chip) }
-        ensures after { seen C.rules self.new ≡ past_access C.rules (seen C.rules self.old) chip }
+        ensures turn { TakesTurn C.rules t chip sleeper (seen C.rules self.old) (seen C.rules self.new) result }
         ensures room { self.new.room ≡ self.old.room }
         ensures core { IsCore C.rules C.chip_ok C.shared_ok self.new }
     {
         if C::next(&self.chips[chip as usize]).sample {
-            return;
+            return None;
         }
-        self.turn_access(chip);
+        let end = self.free(t, chip, sleeper);
+        self.stay(chip, sleeper, &end)
+    }
+
+    /// The key below which the chip may go on.
+    fn free(&self, t: u64, chip: u8, sleeper: u8) -> Key
+        ensures free { IsFreeTo t (seen C.rules self.now).bound C.rules.count chip sleeper result }
+        ensures last { IsLastFree t (seen C.rules self.now).bound C.rules.count chip sleeper result }
+        ensures core { IsCore C.rules C.chip_ok C.shared_ok self.now }
+    {
+        free_to::<C>(&self.bounds, t, chip, sleeper)
+    }
+
+    /// The chip makes its access and perhaps events after it before a key, and its bound becomes the key of
+    /// its next event.
+    fn stay(&mut self, chip: u8, sleeper: u8, end: &Key) -> Option<Key>
+        requires access { AwaitsAccess C.rules (seen C.rules self.old) chip }
+        requires below { key_lt (key_of C.rules (machine_of C.rules self.old) chip) end.now ≡ true }
+        requires time { key_lt (record { cycle = cycle_limit; chip = 0 }) end.now ≡ false }
+        requires keys { AreKeys C.rules (seen C.rules self.old) C.rules.count }
+        requires room { length self.old.journal < self.old.room }
+        ensures stays { StaysOn C.rules end.now chip sleeper (seen C.rules self.old) (seen C.rules self.new) result }
+        ensures room { self.new.room ≡ self.old.room }
+        ensures core { IsCore C.rules C.chip_ok C.shared_ok self.new }
+    {
+        let i = chip as usize;
+        let held = &mut self.chips[i];
+        let stay = C::access_ahead(
+            held,
+            chip,
+            &mut self.shared,
+            &mut self.journal,
+            end,
+            sleeper,
+        );
+        let next = C::next(held);
+        let bound = &mut self.bounds[i];
+        bound.cycle = next.key.cycle;
+        bound.chip = next.key.chip;
+        stay.woke
     }
 
     /// The chip samples on, below cycle `t` and the bounds of the others that write its pins, as long as it
@@ -185,26 +232,5 @@ impl<C: ChipSet> Core<C> {
         let bound = &mut self.bounds[i];
         bound.cycle = next.key.cycle;
         bound.chip = next.key.chip;
-    }
-
-    /// The chip makes its access, and its bound becomes the key of its next event; answers the entry.
-    pub(crate) fn turn_access(&mut self, chip: u8) -> Entry
-        requires access { AwaitsAccess C.rules (seen C.rules self.old) chip }
-        requires room { length self.old.journal < self.old.room }
-        ensures after { seen C.rules self.new
-            ≡ after C.rules (after C.rules (seen C.rules self.old) (Event.Perform chip)) (Event.Announce chip) }
-        ensures entry { result ≡ (accessed C.rules (machine_of C.rules self.old) chip).entry }
-        ensures room { self.new.room ≡ self.old.room }
-        ensures core { IsCore C.rules C.chip_ok C.shared_ok self.new }
-    {
-        let i = chip as usize;
-        let held = &mut self.chips[i];
-        let entry = C::access(held, &mut self.shared);
-        let next = C::next(held);
-        let bound = &mut self.bounds[i];
-        bound.cycle = next.key.cycle;
-        bound.chip = next.key.chip;
-        self.journal.push_reserved(entry);
-        entry
     }
 }
