@@ -1,5 +1,5 @@
 -- A chip that makes several events while the others make none.
-use Rattle.std.proofs.Common.{◌≡◌, ℕ, zero, suc, ◌+◌, ◌-◌, ◌<◌, ◌≤◌, inl, inr, true, false, true≢false, cond, List, [], ◌∷◌, ◌++◌, Option, MatchOption, None, Some, refl, ap, sym, subst, ◌∙◌, arith}
+use Rattle.std.proofs.Common.{◌≡◌, ℕ, zero, suc, ◌+◌, ◌-◌, ◌<◌, ◌≤◌, inl, inr, true, false, true≢false, cond, List, [], ◌∷◌, ◌++◌, Option, MatchOption, None, Some, refl, ap, ap₂, sym, subst, ◌∙◌, arith}
 use Rattle.std.proofs.lemmas.Bool.{cases_lt}
 use Rattle.std.proofs.lemmas.Bool.Decides.{nat_tests}
 use Rattle.md_word.specs.declared.main_bus.Answer68.{Answer68}
@@ -25,7 +25,7 @@ module _ {Chip Shared Pins : Type 0} (rules : Rules Chip Shared Pins) where
   -- after m more than n events
   stayed-on : (m n i : ℕ) (a : Staying Chip Shared) → stayed rules (m + n) i a ≡ stayed rules m i (stayed rules n i a)
   unfolding stayed
-  stayed-on zero n i a = refl
+  stayed-on zero n i a = ap (λ k. stayed rules k i a) (let e : 0 + n ≡ n = omega arith in e)
   stayed-on (suc m) n i a =
       ap (λ k. stayed rules k i a) (let e : suc m + n ≡ suc (m + n) = omega arith in e)
       ∙ ap (λ (b : Staying Chip Shared). cond (rules.next b.chip).sample (past_sample rules i b) (past_own_access rules b)) (stayed-on m n i a)
@@ -113,8 +113,8 @@ main-goes m end c d board journal level pins sampled cart answer =
       each = λ k most.
           subst (λ (s : Staying Chip Board). key_lt (five.next s.chip).key end ≡ true) (sym (main-sampled k c board journal (λ n low. went.sample n (omega (arith, low, most)))))
           (main-samples-before end c (events68.begun_after k c.chip.cart c.chip.state (main_pins board).level) (went.sample k most) (went.below k most)).1;
-      is = ap (λ (x : MainValue). main_at x board journal)
-          (let e : d ≡ main_in_state c (events68.begun_after m c.chip.cart c.chip.state (main_pins board).level) = rw (sym cart, sym answer, sym went.is) refl in e)
+      is = ap₂ (λ (image : List ℕ) (reported : Option Answer68). main_at (record { chip = record { cart = image; state = d.chip.state }; answer = reported }) board journal) cart answer
+          ∙ ap (λ (state : State68). main_at (main_in_state c state) board journal) went.is
           ∙ sym (main-sampled m c board journal went.sample);
     }
 
@@ -164,3 +164,24 @@ main-leaves m j end c d e b board before journal level entry kind low is pins sa
     (is ∙ (one-goes five 0 end (main_at c b before) kind low).is)
     (one-leaves five IsChip IsBoard 0 j (main_at c b before) (subst (λ (x : Entry). LeavesPins five IsChip IsBoard x j) reported leaves))
     (main-samples-leave m j end d e board journal level pins sampled)
+
+-- ---- one access alone
+
+pub one-accessed : (i : ℕ) (end : Key) (c d : Chip) (s t : Board) (before after : List Entry) (entry : Entry) → (five.next c).sample ≡ false → key_lt (five.next c).key end ≡ true → d ≡ five.advance (five.perform c s).chip → t ≡ (five.perform c s).shared
+    → entry ≡ (five.perform c s).entry → after ≡ before ++ entry ∷ [] → StaysTo five 1 i end (record { chip = c; shared = s; journal = before }) (record { chip = d; shared = t; journal = after })
+one-accessed i end c d s t before after entry kind low chip shared reported items =
+    goes-stays five 1 i end (record { chip = c; shared = s; journal = before }) (record { chip = d; shared = t; journal = after }) (omega arith)
+    (subst (λ (x : Staying Chip Board). GoesTo five 1 i end (record { chip = c; shared = s; journal = before }) x)
+    (let e : past_own_access five (record { chip = c; shared = s; journal = before }) ≡ record { chip = d; shared = t; journal = after } = rw (chip, shared, items, reported) refl in e)
+    (one-goes five i end (record { chip = c; shared = s; journal = before }) kind low))
+
+pub main-number : (c : MainValue) → (five.next (Main c)).key.chip ≡ 0
+unfolding next_of
+main-number c = refl
+
+-- one access of the 68000 alone
+pub main-stays-once : (end : Key) (c d : MainValue) (b board : Board) (before journal : List Entry) → (next_of c.chip.state).sample ≡ false → key_lt (next_of c.chip.state).key end ≡ true → main_at d board journal ≡ past_own_access five (main_at c b before)
+    → StaysTo five 1 0 end (main_at c b before) (main_at d board journal)
+main-stays-once end c d b board before journal kind low is =
+    goes-stays five 1 0 end (main_at c b before) (main_at d board journal) (omega arith)
+    (subst (λ (s : Staying Chip Board). GoesTo five 1 0 end (main_at c b before) s) (sym is) (one-goes five 0 end (main_at c b before) kind low))
