@@ -50,7 +50,7 @@ sub_gone_ahead n end pins c d first went cart answer = record {
 }
 
 -- the same of the 68000
-abbrev main_in_state : MainValue → State68 → MainValue
+abbrev pub main_in_state : MainValue → State68 → MainValue
 main_in_state c state = record c { chip = record c.chip { state = state } }
 
 all-main-begun : (c : MainValue) (pins : Pins) (n : ℕ) → sampled five n pins (Main c) ≡ Main (main_in_state c (events68.begun_after n c.chip.cart c.chip.state (level_in pins)))
@@ -61,7 +61,7 @@ all-main-begun c pins (suc n) = ap (λ x. five.sample x pins) (all-main-begun c 
 main-before : (next : ℕ) (end : Key) → next < end.cycle → key_lt (record { cycle = next; chip = 0 }) end ≡ true
 main-before next end low = grind (arith, nat_tests)
 
-main-samples-before : (end : Key) (c : MainValue) (state : State68) → (states68.next_of state).sample ≡ true → state.next < end.cycle → SamplesBelow five end (Main (main_in_state c state))
+pub main-samples-before : (end : Key) (c : MainValue) (state : State68) → (states68.next_of state).sample ≡ true → state.next < end.cycle → SamplesBelow five end (Main (main_in_state c state))
 unfolding states68.next_of
 main-samples-before end c state sample low = (sample, main-before state.next end low)
 

@@ -25,4 +25,5 @@ pub mod Samples
 pub mod Schedules
 pub mod Segments
 pub mod Start
+pub mod Staying
 pub mod ValidParts

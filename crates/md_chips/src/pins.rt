@@ -1,5 +1,8 @@
-ghost use Rattle.std.specs.Prelude.{◌≡◌};
+ghost use Rattle.std.specs.Prelude.{◌≡◌, false};
+ghost use Rattle.bus_shared.specs.Board.{IsBoard};
+ghost use Rattle.chip_core.specs.Chips.{LeavesPins};
 ghost use Rattle.md_chips.specs.Pins as shown;
+ghost use Rattle.md_chips.specs.Rules.{IsChip, five};
 
 use md_word::{Entry, Pins68, Pins80};
 
@@ -53,4 +56,15 @@ pub(crate) fn may_move_pins(entry: &Entry) -> bool
         return entry.address >= 0xa1_1100 && entry.address <= 0xa1_1201;
     }
     entry.key.chip == 2
+}
+
+/// Whether an access of another chip, by its entry, may have changed the pins of the chip of this number: only the
+/// Z80's are looked at.
+pub(crate) fn may_wake(entry: &Entry, number: u8) -> bool
+    ensures { result ≡ false → LeavesPins five IsChip IsBoard entry.now number }
+{
+    if number != 1 {
+        return true;
+    }
+    may_move_pins(entry)
 }

@@ -1,13 +1,18 @@
+ghost use Rattle.std.specs.Prelude.{◌≡◌, ◌≢◌, ◌<◌, true, false, MatchOption, length, vec_capacity};
+ghost use Rattle.md_word.specs.Keys.{key_lt};
 ghost use Rattle.bus_shared.specs.Board.{IsBoard};
+ghost use Rattle.chip_core.specs.Chips.{IsDue};
+ghost use Rattle.chip_core.specs.Staying.{LeavesAll, StaysTo, Wakes};
+ghost use Rattle.md_chips.specs.Rules.{IsChip, five};
 ghost use Rattle.md_chips.specs.Rules as rules;
 ghost use Rattle.md_chips.specs.Code.{board_way, chip_way};
 ghost use Rattle.md_chips.specs.Laws.{lawful};
 ghost use Rattle.chip_core.specs.Codes.{code_of, core_of, coded};
 
 use crate::chips::Chip;
-use crate::pins::{Pins, may_move_pins};
+use crate::pins::{Pins, may_wake};
 use bus_shared::{Shared, pins68, pins80};
-use chip_core::ChipSet;
+use chip_core::{ChipSet, Stay};
 use md_word::clock::{BATCH, LINE, MAIN_GAP, SUB_GAP};
 use md_word::{Entry, Key, Next};
 use std::sync::{Arc, Wait};
@@ -85,6 +90,24 @@ impl ChipSet for MdChips {
         }
     }
 
+    /// The 68000 goes on to further accesses.
+    #[tactic(auto, unfolding(m68k_chip::specs::States::next_of, z80_chip::specs::States::next_of))]
+    fn access_ahead(
+        chip: &mut Chip,
+        number: u8,
+        shared: &mut Shared,
+        journal: &mut Vec<Entry>,
+        end: &Key,
+        sleeper: u8,
+    ) -> Stay {
+        match chip {
+            Chip::Main(main) => main.access_ahead(shared, journal, end, sleeper),
+            Chip::Sub(_) | Chip::Renderer(_) | Chip::Fm(_) | Chip::Psg(_) => {
+                access_once(chip, number, shared, journal, end, sleeper)
+            }
+        }
+    }
+
     fn pins(shared: &Shared, chip: u8) -> Pins {
         shared.known();
         if chip == 1 {
@@ -128,12 +151,8 @@ impl ChipSet for MdChips {
         }
     }
 
-    /// Only the Z80's pins are looked at.
     fn wakes(entry: &Entry, number: u8) -> bool {
-        if number != 1 {
-            return true;
-        }
-        may_move_pins(entry)
+        may_wake(entry, number)
     }
 
     /// Whether what the chip does after its next event is worth a hand-over: a batch of an FM chip that may be
@@ -174,4 +193,36 @@ impl ChipSet for MdChips {
     ghost coded = { coded board_way chip_way rules.five rules.IsChip IsBoard };
 
     ghost lawful = { lawful };
+}
+
+/// The access that is due, alone.
+fn access_once(
+    chip: &mut Chip,
+    number: u8,
+    shared: &mut Shared,
+    journal: &mut Vec<Entry>,
+    end: &Key,
+    sleeper: u8,
+) -> Stay
+    requires access { IsDue five IsChip IsBoard chip.old shared.old number false }
+    requires below { key_lt (rules.next chip.old).key end.now ≡ true }
+    requires room { length journal.old.items < vec_capacity journal.old }
+    ensures stays { StaysTo five result.events number end.now
+        (record { chip = chip.old; shared = shared.old; journal = journal.old.items })
+        (record { chip = chip.new; shared = shared.new; journal = journal.new.items }) }
+    ensures pins { sleeper ≢ number → MatchOption result.woke
+        (LeavesAll five IsChip IsBoard result.events number sleeper (record { chip = chip.old; shared = shared.old; journal = journal.old.items }))
+        (Wakes five IsChip IsBoard result.events number sleeper (record { chip = chip.old; shared = shared.old; journal = journal.old.items })) }
+    ensures room { vec_capacity journal.new ≡ vec_capacity journal.old }
+{
+    let _end = end;
+    let key = MdChips::next(chip).key;
+    let entry = MdChips::access(chip, shared);
+    journal.push_reserved(entry);
+    let woke = if sleeper != number && may_wake(&entry, sleeper) {
+        Some(key)
+    } else {
+        None
+    };
+    Stay { events: 1, woke }
 }

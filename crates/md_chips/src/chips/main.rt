@@ -1,15 +1,21 @@
-ghost use Rattle.std.specs.Prelude.{◌≡◌, ◌<◌, ◌≤◌, true, false, None, IfOk, IfSome, IsSome};
+ghost use Rattle.std.specs.Prelude.{◌≡◌, ◌≢◌, ◌+◌, ◌<◌, ◌≤◌, true, false, None, IfOk, IfSome, IsSome, IsTrue, MatchOption, length, vec_capacity};
 ghost use Rattle.md_word.specs.Clock.{cycle_limit};
+ghost use Rattle.md_word.specs.Keys.{key_lt};
+ghost use Rattle.chip_core.specs.Staying.{LeavesAll, StaysTo, Wakes};
 ghost use Rattle.m68k_chip.specs.Events.{WentAhead, request_of};
 ghost use Rattle.m68k_chip.specs.Validity.{Fits};
 ghost use Rattle.m68k_chip.specs.States.{next_of};
-ghost use Rattle.bus_shared.specs.Board.{Board};
+ghost use Rattle.bus_shared.specs.Board.{Board, IsBoard};
 ghost use Rattle.md_chips.specs.Parts.{IsMain};
 ghost use Rattle.md_chips.specs.Rules as rules;
+ghost use Rattle.md_chips.specs.Rules.{IsChip, five};
+ghost use Rattle.md_chips.specs.declared.chips.Chip.TheVariants as kinds;
 
-use bus_shared::Shared;
+use crate::pins::may_wake;
+use bus_shared::{Shared, pins68};
+use chip_core::Stay;
 use m68k_chip::Chip68;
-use md_word::{Answer68, Entry, Next, NoMemory, Pins68};
+use md_word::{Answer68, Entry, Key, Next, NoMemory, Pins68};
 use std::alloc::Global;
 use std::marker::Model;
 
@@ -85,6 +91,99 @@ impl MainChip {
         self.answer = None;
         chip.answer(answer);
         entry
+    }
+
+    /// The access that is due, and all samples after it below the cycle of the key `end`, up to the next access. No
+    /// sample follows where the access may have changed the pins of a chip that sleeps, one of another number than 0.
+    #[tactic(auto, unfolding(m68k_chip::specs::States::next_of))]
+    fn stay(
+        &mut self,
+        shared: &mut Shared,
+        journal: &mut Vec<Entry>,
+        end: &Key,
+        sleeper: u8,
+    ) -> Stay
+        requires access { (next_of self.old.chip.state).sample ≡ false }
+        requires below { key_lt (next_of self.old.chip.state).key end.now ≡ true }
+        requires time { end.now.cycle ≤ cycle_limit }
+        requires cycle { self.old.chip.state.next < cycle_limit }
+        requires room { length journal.old.items < vec_capacity journal.old }
+        ensures stays { StaysTo five result.events 0 end.now
+            (record { chip = kinds.Main self.old; shared = shared.old; journal = journal.old.items })
+            (record { chip = kinds.Main self.new; shared = shared.new; journal = journal.new.items }) }
+        ensures pins { sleeper ≢ 0 → MatchOption result.woke
+            (LeavesAll five IsChip IsBoard result.events 0 sleeper (record { chip = kinds.Main self.old; shared = shared.old; journal = journal.old.items }))
+            (Wakes five IsChip IsBoard result.events 0 sleeper (record { chip = kinds.Main self.old; shared = shared.old; journal = journal.old.items })) }
+        ensures later { self.old.chip.state.next + result.events ≤ self.new.chip.state.next }
+        ensures room { vec_capacity journal.new ≡ vec_capacity journal.old }
+    {
+        shared.known();
+        self.answer = None;
+        let chip = &mut *self.chip;
+        let key = chip.next().key;
+        let (answer, entry) = shared.carry_out_main(key, chip.request());
+        journal.push_reserved(entry);
+        if sleeper != 0 && may_wake(&entry, sleeper) {
+            chip.answer(answer);
+            return Stay {
+                events: 1,
+                woke: Some(key),
+            };
+        }
+        let samples = chip.answer_ahead(answer, pins68(shared), end.cycle);
+        let _last = chip.next();
+        Stay {
+            events: 1 + samples,
+            woke: None,
+        }
+    }
+
+    /// Whether it goes on: nobody woke, the next event is an access below a cycle, and the journal has room for it.
+    #[tactic(auto, unfolding(m68k_chip::specs::States::next_of))]
+    fn goes_on(&self, stay: &Stay, journal: &Vec<Entry>, end: u64) -> bool
+        ensures woke { IsTrue result → stay.now.woke ≡ None }
+        ensures kind { IsTrue result → (next_of self.now.chip.state).sample ≡ false }
+        ensures below { IsTrue result → self.now.chip.state.next < end }
+        ensures room { IsTrue result → length journal.now.items < vec_capacity journal.now }
+    {
+        let next = self.chip.next();
+        stay.woke.is_none()
+            && !next.sample
+            && next.key.cycle < end
+            && journal.len() < journal.capacity()
+    }
+
+    /// The access that is due and events after it, while the other chips make none: each comes before the key `end`.
+    /// It stops behind an access that may have changed the pins of a chip that sleeps, one of another number than 0.
+    pub(crate) fn access_ahead(
+        &mut self,
+        shared: &mut Shared,
+        journal: &mut Vec<Entry>,
+        end: &Key,
+        sleeper: u8,
+    ) -> Stay
+        requires access { (next_of self.old.chip.state).sample ≡ false }
+        requires below { key_lt (next_of self.old.chip.state).key end.now ≡ true }
+        requires time { end.now.cycle ≤ cycle_limit }
+        requires cycle { self.old.chip.state.next < cycle_limit }
+        requires room { length journal.old.items < vec_capacity journal.old }
+        ensures stays { StaysTo five result.events 0 end.now
+            (record { chip = kinds.Main self.old; shared = shared.old; journal = journal.old.items })
+            (record { chip = kinds.Main self.new; shared = shared.new; journal = journal.new.items }) }
+        ensures pins { sleeper ≢ 0 → MatchOption result.woke
+            (LeavesAll five IsChip IsBoard result.events 0 sleeper (record { chip = kinds.Main self.old; shared = shared.old; journal = journal.old.items }))
+            (Wakes five IsChip IsBoard result.events 0 sleeper (record { chip = kinds.Main self.old; shared = shared.old; journal = journal.old.items })) }
+        ensures later { self.old.chip.state.next + result.events ≤ self.new.chip.state.next }
+        ensures room { vec_capacity journal.new ≡ vec_capacity journal.old }
+    {
+        let mut stay = self.stay(shared, journal, end, sleeper);
+        while self.goes_on(&stay, journal, end.cycle) {
+            let more = self.stay(shared, journal, end, sleeper);
+            let _last = self.chip.next();
+            stay.events += more.events;
+            stay.woke = more.woke;
+        }
+        stay
     }
 
     /// The private work after an access.

@@ -3,7 +3,7 @@ use Rattle.bus_shared.specs.Board.{IsBoard}
 use Rattle.chip_core.specs.Chips.{LeavesPins}
 use Rattle.md_chips.specs.Rules.{IsChip, five}
 use Rattle.md_chips.proofs.Resting.{leaves-sub-pins}
-use Rattle.md_chips.proofs.set.MdChipsChipSet.wakes.Goals as goal
+use Rattle.md_chips.proofs.pins.may_wake.Goals as goal
 
 pub returns : goal.returns
 returns c quiet =
