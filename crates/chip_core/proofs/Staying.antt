@@ -24,10 +24,7 @@ use Rattle.chip_core.proofs.Stages.{due}
 use Rattle.chip_core.proofs.Turns.{keys-turned, own-bound, own-machine, put-back, put-twice, reaches-itself, reaches-on, turn-enabled, turn-reaches}
 use Rattle.chip_core.proofs.Works.{all-fall}
 
--- a key at which no event is past the last cycle
-pub end-cycle : (end : Key) → key_lt (record { cycle = cycle_limit; chip = 0 }) end ≡ false → end.cycle ≤ cycle_limit
-end-cycle end late = grind (arith, nat_tests)
-
+-- no event lies past the last cycle below a key that is free of the others
 pub free-limit : (t : ℕ) → t ≤ cycle_limit → (bound : ℕ → Key) (n i j : ℕ) (end : Key) → IsFreeTo t bound n i j end → key_lt (record { cycle = cycle_limit; chip = 0 }) end ≡ false
 free-limit t small bound n i j end free =
     by_test (key_lt (record { cycle = cycle_limit; chip = 0 }) end)

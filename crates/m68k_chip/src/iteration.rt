@@ -110,21 +110,6 @@ impl Iteration {
         matches!(self.place, Place::AtRead) && answer.transfer.is_none() && *answer == self.answer
     }
 
-    /// Whether the 68000 is at the read, that is answered as on the iteration, and all samples of the iteration come at
-    /// this interrupt level, and below a cycle, where the instruction that reads began at `start`.
-    #[inline(always)]
-    pub fn goes_round(&self, answer: &Answer68, level: u8, start: u64, end: u64) -> bool
-        requires { start < cycle_limit }
-        ensures place { IsTrue result → self.now.place ≡ AtRead }
-        ensures answer { IsTrue result → answer.now ≡ self.now.answer }
-        ensures level { IsTrue result → level ≡ self.now.level }
-        ensures below { IsTrue result → start + self.now.first + self.now.last < end }
-    {
-        self.is_read_again(answer)
-            && self.level == level
-            && start + u64::from(self.first) + u64::from(self.last) < end
-    }
-
     /// Whether the 68000 is after the answer, and all samples of the iteration come at this interrupt level, and
     /// below a cycle, where the first comes at `start`.
     #[inline(always)]

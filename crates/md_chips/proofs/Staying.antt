@@ -9,6 +9,7 @@ use Rattle.md_word.specs.declared.key.Key.{Key}
 use Rattle.md_word.specs.Keys.{key_lt}
 use Rattle.chip_core.specs.Chips.{LeavesPins, Rules}
 use Rattle.chip_core.specs.Staying.{LeavesAll, Staying, StaysTo, Wakes, past_own_access, past_sample, stayed}
+use Rattle.chip_core.proofs.Staying.{first-leaves}
 use Rattle.m68k_chip.specs.Events as events68
 use Rattle.m68k_chip.specs.Events.{SampledOn, answered, request_of}
 use Rattle.m68k_chip.specs.States.{State68, next_of}
@@ -82,15 +83,6 @@ module _ {Chip Shared Pins : Type 0} (rules : Rules Chip Shared Pins) where
               ∙ ap (λ k. (rules.next (stayed rules k i a).chip).key) (let e : m - 1 + n ≡ n + m - 1 = omega (arith, some) in e);
         }
 
-    pub one-leaves : (i j : ℕ) (a : Staying Chip Shared) → LeavesPins rules chip_ok shared_ok (rules.perform a.chip a.shared).entry j → LeavesAll rules chip_ok shared_ok 1 i j a
-    unfolding stayed
-    one-leaves i j a leaves k most kind =
-        subst (λ n. LeavesPins rules chip_ok shared_ok (rules.perform (stayed rules n i a).chip (stayed rules n i a).shared).entry j) (let e : 0 ≡ k = omega (arith, most) in e) leaves
-
-    pub one-wakes : (i j : ℕ) (a : Staying Chip Shared) (key : Key) → key ≡ (rules.next a.chip).key → Wakes rules chip_ok shared_ok 1 i j a key
-    unfolding stayed
-    one-wakes i j a key is = record { before = λ k most. absurd (omega (arith, most)); last = is }
-
 -- ---- the 68000
 
 abbrev pub main_at : MainValue → Board → List Entry → Staying Chip Board
@@ -162,18 +154,8 @@ pub main-leaves : (m j : ℕ) (end : Key) (c d e : MainValue) (b board : Board) 
 main-leaves m j end c d e b board before journal level entry kind low is pins sampled reported leaves =
     join-leaves five IsChip IsBoard 1 m 0 j end (main_at c b before) (main_at d board journal)
     (is ∙ (one-goes five 0 end (main_at c b before) kind low).is)
-    (one-leaves five IsChip IsBoard 0 j (main_at c b before) (subst (λ (x : Entry). LeavesPins five IsChip IsBoard x j) reported leaves))
+    (first-leaves five IsChip IsBoard 0 j (Main c) b before entry reported leaves)
     (main-samples-leave m j end d e board journal level pins sampled)
-
--- ---- one access alone
-
-pub one-accessed : (i : ℕ) (end : Key) (c d : Chip) (s t : Board) (before after : List Entry) (entry : Entry) → (five.next c).sample ≡ false → key_lt (five.next c).key end ≡ true → d ≡ five.advance (five.perform c s).chip → t ≡ (five.perform c s).shared
-    → entry ≡ (five.perform c s).entry → after ≡ before ++ entry ∷ [] → StaysTo five 1 i end (record { chip = c; shared = s; journal = before }) (record { chip = d; shared = t; journal = after })
-one-accessed i end c d s t before after entry kind low chip shared reported items =
-    goes-stays five 1 i end (record { chip = c; shared = s; journal = before }) (record { chip = d; shared = t; journal = after }) (omega arith)
-    (subst (λ (x : Staying Chip Board). GoesTo five 1 i end (record { chip = c; shared = s; journal = before }) x)
-    (let e : past_own_access five (record { chip = c; shared = s; journal = before }) ≡ record { chip = d; shared = t; journal = after } = rw (chip, shared, items, reported) refl in e)
-    (one-goes five i end (record { chip = c; shared = s; journal = before }) kind low))
 
 pub main-number : (c : MainValue) → (five.next (Main c)).key.chip ≡ 0
 unfolding next_of

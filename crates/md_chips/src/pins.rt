@@ -49,6 +49,7 @@ impl Pins {
 
 /// Whether an access, by its entry, may have changed the Z80's pins: one of the 68000 at the Z80's bus request
 /// or its reset, or a line.
+#[inline(always)]
 pub(crate) fn may_move_pins(entry: &Entry) -> bool
     ensures { result ≡ shown.may_move_pins entry.now }
 {
@@ -60,6 +61,7 @@ pub(crate) fn may_move_pins(entry: &Entry) -> bool
 
 /// Whether an access of another chip, by its entry, may have changed the pins of the chip of this number: only the
 /// Z80's are looked at.
+#[inline(always)]
 pub(crate) fn may_wake(entry: &Entry, number: u8) -> bool
     ensures { result ≡ false → LeavesPins five IsChip IsBoard entry.now number }
 {

@@ -95,6 +95,7 @@ impl MainChip {
 
     /// The access that is due, and all samples after it below the cycle of the key `end`, up to the next access. No
     /// sample follows where the access may have changed the pins of a chip that sleeps, one of another number than 0.
+    #[inline(always)]
     #[tactic(auto, unfolding(m68k_chip::specs::States::next_of))]
     fn stay(
         &mut self,
@@ -139,6 +140,7 @@ impl MainChip {
     }
 
     /// Whether it goes on: nobody woke, the next event is an access below a cycle, and the journal has room for it.
+    #[inline(always)]
     #[tactic(auto, unfolding(m68k_chip::specs::States::next_of))]
     fn goes_on(&self, stay: &Stay, journal: &Vec<Entry>, end: u64) -> bool
         ensures woke { IsTrue result → stay.now.woke ≡ None }

@@ -1,12 +1,9 @@
-use Rattle.std.proofs.Common.{◌≡◌, ◌+◌, ◌<◌, ◌≤◌, None, refl, sym, ap, subst, ◌∙◌, arith, MatchOption}
+use Rattle.std.proofs.Common.{◌≡◌, refl, ap, ◌∙◌, arith}
 use Rattle.md_word.specs.declared.event.Next.{Next}
-use Rattle.md_word.specs.declared.key.Key.{Key}
-use Rattle.chip_core.specs.Staying.{LeavesAll, Wakes}
-use Rattle.bus_shared.specs.Board.{IsBoard}
 use Rattle.m68k_chip.specs.States.{State68, next_of}
 use Rattle.m68k_chip.specs.Validity.{Chip68Value}
 use Rattle.md_chips.specs.Parts.{MainValue}
-use Rattle.md_chips.specs.Rules.{IsChip, five}
+use Rattle.md_chips.specs.Rules.{five}
 use Rattle.md_chips.proofs.Staying.{join-pins, join-stays, main-key-below, main_at}
 use Rattle.md_chips.proofs.chips.main.MainChip.access_ahead.Goals as goal
 
@@ -30,8 +27,8 @@ loop-self-smaller c =
 pub overflow_add-stay : goal.overflow_add-stay
 overflow_add-stay c =
     let at : c.next-last.result.key.cycle ≡ c.stay-more.new.self.chip.state.next =
-        ap (λ (n : Next). n.key.cycle) c.next-last.ensures.value ∙ cycle-is c.deref.result.now.state
-        ∙ ap (λ (v : Chip68Value). v.state.next) (c.deref.ensures ∙ ap (λ (v : MainValue). v.chip) c.self.view_is) in
+    ap (λ (n : Next). n.key.cycle) c.next-last.ensures.value ∙ cycle-is c.deref.result.now.state
+    ∙ ap (λ (v : Chip68Value). v.state.next) (c.deref.ensures ∙ ap (λ (v : MainValue). v.chip) c.self.view_is) in
     let before = c.loop-self.invariant.later in
     let later = c.stay-more.ensures.later in
     let fits = c.next-last.type_inv in

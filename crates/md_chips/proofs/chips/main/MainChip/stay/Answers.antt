@@ -1,4 +1,4 @@
-use Rattle.std.proofs.Common.{◌≡◌, ◌+◌, ◌++◌, ◌∷◌, [], None, refl, sym, ap, ap₂, subst, ◌∙◌, arith}
+use Rattle.std.proofs.Common.{◌≡◌, None, refl, sym, ap, ap₂, subst, ◌∙◌, arith}
 use Rattle.md_word.specs.declared.event.Next.{Next}
 use Rattle.md_word.specs.declared.main_bus.Answer68.{Answer68}
 use Rattle.md_word.specs.declared.main_bus.Request68.{Request68}
@@ -12,7 +12,9 @@ use Rattle.bus_shared.specs.Board.{IsBoard}
 use Rattle.md_chips.specs.Laws.{answer-fits}
 use Rattle.md_chips.specs.Parts.{MainValue}
 use Rattle.md_chips.specs.Rules.{IsChip, five}
-use Rattle.md_chips.proofs.Staying.{main-accessed, main-leaves, main-stays, main-stays-once, main_at, one-wakes}
+use Rattle.md_chips.proofs.Staying.{main-accessed, main-leaves, main-stays, main-stays-once}
+use Rattle.md_chips.specs.declared.chips.Chip.TheVariants.{Main}
+use Rattle.chip_core.proofs.Staying.{first-wakes}
 use Rattle.md_chips.proofs.chips.main.MainChip.stay.Goals.{else-sleeper-ne0-via-then-sleeper-ne0+else-may_wake, else-sleeper-ne0-via-else-sleeper-ne0}
 use Rattle.md_chips.proofs.chips.main.MainChip.stay.Goals as goal
 
@@ -38,7 +40,7 @@ returns-then-may_wake-clause-stays c =
 pub returns-then-may_wake-clause-pins : goal.returns-then-may_wake-clause-pins
 returns-then-may_wake-clause-pins c ne =
     let same : c.deref_mut-chip.result.now ≡ c.args.self.now.chip = c.deref_mut-chip.ensures.value ∙ ap (λ (v : MainValue). v.chip) c.self.view_is in
-    one-wakes five IsChip IsBoard 0 c.args.sleeper (main_at c.args.self.now c.args.shared.now c.args.journal.now.items) c.next.result.key (ap (λ (n : Next). n.key) c.next.ensures.value ∙ ap (λ (v : Chip68Value). (next_of v.state).key) same)
+    first-wakes five IsChip IsBoard 0 c.args.sleeper (Main c.args.self.now) c.args.shared.now c.args.journal.now.items c.next.result.key (ap (λ (n : Next). n.key) c.next.ensures.value ∙ ap (λ (v : Chip68Value). (next_of v.state).key) same)
 
 pub returns-then-may_wake-clause-later : goal.returns-then-may_wake-clause-later
 returns-then-may_wake-clause-later c =
