@@ -1,11 +1,12 @@
 -- A chip that makes several events while the others make none.
-use Rattle.std.proofs.Common.{◌≡◌, ℕ, zero, suc, ◌+◌, ◌-◌, ◌<◌, ◌≤◌, inl, inr, true, false, true≢false, cond, List, [], ◌∷◌, ◌++◌, Option, MatchOption, None, Some, refl, ap, ap₂, sym, subst, ◌∙◌, arith}
+use Rattle.std.proofs.Common.{◌≡◌, ℕ, zero, suc, ◌+◌, ◌-◌, ◌<◌, ◌≤◌, inl, inr, true, false, true≢false, cond, List, [], ◌∷◌, ◌++◌, Option, None, refl, ap, ap₂, sym, subst, ◌∙◌, arith}
 use Rattle.std.proofs.lemmas.Bool.{cases_lt}
 use Rattle.std.proofs.lemmas.Bool.Decides.{nat_tests}
 use Rattle.md_word.specs.declared.main_bus.Answer68.{Answer68}
 use Rattle.md_word.specs.declared.main_bus.Request68.{Request68}
 use Rattle.md_word.specs.declared.event.Entry.{Entry}
 use Rattle.md_word.specs.declared.key.Key.{Key}
+use Rattle.md_word.specs.Clock.{cycle_limit}
 use Rattle.md_word.specs.Keys.{key_lt}
 use Rattle.chip_core.specs.Chips.{LeavesPins, Rules}
 use Rattle.chip_core.specs.Staying.{LeavesAll, Staying, StaysTo, Wakes, past_own_access, past_sample, stayed}
@@ -52,11 +53,6 @@ module _ {Chip Shared Pins : Type 0} (rules : Rules Chip Shared Pins) where
     is = later.is ∙ ap (stayed rules m i) first.is ∙ sym (stayed-on m n i a) ∙ ap (λ k. stayed rules k i a) (let e : m + n ≡ n + m = omega arith in e);
   }
 
-  pub join-stays : (n m i : ℕ) (end : Key) (a b c : Staying Chip Shared) → StaysTo rules n i end a b → StaysTo rules m i end b c → StaysTo rules (n + m) i end a c
-  join-stays n m i end a b c first later =
-      let all = join-goes n m i end a b c (record { each = first.each; is = first.is }) (record { each = later.each; is = later.is }) in
-      record { some = (let one = first.some in omega (arith, one)); each = all.each; is = all.is }
-
   -- the access that is due
   pub one-goes : (i : ℕ) (end : Key) (a : Staying Chip Shared) → (rules.next a.chip).sample ≡ false → key_lt (rules.next a.chip).key end ≡ true → GoesTo 1 i end a (past_own_access rules a)
   unfolding stayed
@@ -65,6 +61,11 @@ module _ {Chip Shared Pins : Type 0} (rules : Rules Chip Shared Pins) where
     is = rw kind refl;
   }
 
+  -- no event
+  pub goes-none : (i : ℕ) (end : Key) (a b : Staying Chip Shared) → b ≡ a → GoesTo 0 i end a b
+  unfolding stayed
+  goes-none i end a b is = record { each = λ k most. absurd (omega (arith, most)); is = is }
+
   pub goes-stays : (n i : ℕ) (end : Key) (a b : Staying Chip Shared) → 1 ≤ n → GoesTo n i end a b → StaysTo rules n i end a b
   goes-stays n i end a b some goes = record { some = some; each = goes.each; is = goes.is }
 
@@ -72,16 +73,14 @@ module _ {Chip Shared Pins : Type 0} (rules : Rules Chip Shared Pins) where
     pub join-leaves : (n m i j : ℕ) (end : Key) (a b : Staying Chip Shared) → b ≡ stayed rules n i a → LeavesAll rules chip_ok shared_ok n i j a → LeavesAll rules chip_ok shared_ok m i j b → LeavesAll rules chip_ok shared_ok (n + m) i j a
     join-leaves n m i j end a b is first later = all-joined (λ s. (rules.next s.chip).sample ≡ false → LeavesPins rules chip_ok shared_ok (rules.perform s.chip s.shared).entry j) n m i a b is first later
 
-    pub join-wakes : (n m i j : ℕ) (end key : Key) (a b c : Staying Chip Shared) → StaysTo rules n i end a b → StaysTo rules m i end b c → LeavesAll rules chip_ok shared_ok n i j a → Wakes rules chip_ok shared_ok m i j b key → Wakes rules chip_ok shared_ok (n + m) i j a key
-    join-wakes n m i j end key a b c first later leaves wakes =
-        let some = later.some in
-        record {
-          before = subst (λ k. LeavesAll rules chip_ok shared_ok k i j a) (let e : n + (m - 1) ≡ n + m - 1 = omega (arith, some) in e) (join-leaves n (m - 1) i j end a b first.is leaves wakes.before);
-          last = wakes.last
-              ∙ ap (λ (s : Staying Chip Shared). (rules.next (stayed rules (m - 1) i s).chip).key) first.is
-              ∙ ap (λ (s : Staying Chip Shared). (rules.next s.chip).key) (sym (stayed-on (m - 1) n i a))
-              ∙ ap (λ k. (rules.next (stayed rules k i a).chip).key) (let e : m - 1 + n ≡ n + m - 1 = omega (arith, some) in e);
-        }
+    pub join-wakes : (n m i j : ℕ) (end key : Key) (a b : Staying Chip Shared) → b ≡ stayed rules n i a → 1 ≤ m → LeavesAll rules chip_ok shared_ok n i j a → Wakes rules chip_ok shared_ok m i j b key → Wakes rules chip_ok shared_ok (n + m) i j a key
+    join-wakes n m i j end key a b is some leaves wakes = record {
+      before = subst (λ k. LeavesAll rules chip_ok shared_ok k i j a) (let e : n + (m - 1) ≡ n + m - 1 = omega (arith, some) in e) (join-leaves n (m - 1) i j end a b is leaves wakes.before);
+      last = wakes.last
+          ∙ ap (λ (s : Staying Chip Shared). (rules.next (stayed rules (m - 1) i s).chip).key) is
+          ∙ ap (λ (s : Staying Chip Shared). (rules.next s.chip).key) (sym (stayed-on (m - 1) n i a))
+          ∙ ap (λ k. (rules.next (stayed rules k i a).chip).key) (let e : m - 1 + n ≡ n + m - 1 = omega (arith, some) in e);
+    }
 
 -- ---- the 68000
 
@@ -95,6 +94,13 @@ main-sampled zero c board journal samples = refl
 main-sampled (suc m) c board journal samples =
     ap (λ (s : Staying Chip Board). cond (five.next s.chip).sample (past_sample five 0 s) (past_own_access five s)) (main-sampled m c board journal (λ k most. samples k (omega arith)))
     ∙ rw (samples m (omega arith)) refl
+
+-- an access of the 68000 is due before a key, and the journal has a place for it
+pub record IsDueAt (end : Key) (c : MainValue) (entries room : ℕ) : Type 0 where
+  pub kind : (next_of c.chip.state).sample ≡ false
+  pub below : key_lt (next_of c.chip.state).key end ≡ true
+  pub cycle : c.chip.state.next < cycle_limit
+  pub place : entries < room
 
 -- samples of its pins as they are
 pub main-goes : (m : ℕ) (end : Key) (c d : MainValue) (board : Board) (journal : List Entry) (level : ℕ) → level ≡ (main_pins board).level → SampledOn m end.cycle c.chip.cart level c.chip.state d.chip.state → d.chip.cart ≡ c.chip.cart → d.answer ≡ c.answer
@@ -126,24 +132,10 @@ pub main-key-below : (state : State68) (end : Key) → state.next < end.cycle �
 unfolding next_of
 main-key-below state end low = grind (arith, nat_tests)
 
-pub map-match : {A : Type 0} (o : Option A) (N M : Type 0) (S T : A → Type 0) → (N → M) → ((x : A) → S x → T x) → MatchOption o N S → MatchOption o M T
-map-match None N M S T f g m = f m
-map-match (Some x) N M S T f g m = g x m
-
--- what holds of the pins of another chip after n events and m more
-pub join-pins : (n m j : ℕ) (end : Key) (a b c : Staying Chip Board) (before woke : Option Key) → before ≡ None → StaysTo five n 0 end a b → StaysTo five m 0 end b c
-    → MatchOption before (LeavesAll five IsChip IsBoard n 0 j a) (Wakes five IsChip IsBoard n 0 j a) → MatchOption woke (LeavesAll five IsChip IsBoard m 0 j b) (Wakes five IsChip IsBoard m 0 j b)
-    → MatchOption woke (LeavesAll five IsChip IsBoard (n + m) 0 j a) (Wakes five IsChip IsBoard (n + m) 0 j a)
-join-pins n m j end a b c before woke none first later known more =
-    let leaves : LeavesAll five IsChip IsBoard n 0 j a = subst (λ (w : Option Key). MatchOption w (LeavesAll five IsChip IsBoard n 0 j a) (Wakes five IsChip IsBoard n 0 j a)) none known in
-    map-match woke (LeavesAll five IsChip IsBoard m 0 j b) (LeavesAll five IsChip IsBoard (n + m) 0 j a) (Wakes five IsChip IsBoard m 0 j b) (Wakes five IsChip IsBoard (n + m) 0 j a)
-    (λ all. join-leaves five IsChip IsBoard n m 0 j end a b first.is leaves all) (λ key wakes. join-wakes five IsChip IsBoard n m 0 j end key a b c first later leaves wakes) more
-
 -- one access and the samples after it
 pub main-stays : (m : ℕ) (end : Key) (c d e : MainValue) (b board : Board) (before journal : List Entry) (level : ℕ) → (next_of c.chip.state).sample ≡ false → key_lt (next_of c.chip.state).key end ≡ true → main_at d board journal ≡ past_own_access five (main_at c b before)
-    → level ≡ (main_pins board).level → SampledOn m end.cycle d.chip.cart level d.chip.state e.chip.state → e.chip.cart ≡ d.chip.cart → e.answer ≡ d.answer → StaysTo five (1 + m) 0 end (main_at c b before) (main_at e board journal)
+    → level ≡ (main_pins board).level → SampledOn m end.cycle d.chip.cart level d.chip.state e.chip.state → e.chip.cart ≡ d.chip.cart → e.answer ≡ d.answer → GoesTo five (1 + m) 0 end (main_at c b before) (main_at e board journal)
 main-stays m end c d e b board before journal level kind low is pins sampled cart answer =
-    goes-stays five (1 + m) 0 end (main_at c b before) (main_at e board journal) (omega arith)
     (join-goes five 1 m 0 end (main_at c b before) (main_at d board journal) (main_at e board journal)
     (subst (λ (s : Staying Chip Board). GoesTo five 1 0 end (main_at c b before) s) (sym is) (one-goes five 0 end (main_at c b before) kind low))
     (main-goes m end d e board journal level pins sampled cart answer))
@@ -160,10 +152,3 @@ main-leaves m j end c d e b board before journal level entry kind low is pins sa
 pub main-number : (c : MainValue) → (five.next (Main c)).key.chip ≡ 0
 unfolding next_of
 main-number c = refl
-
--- one access of the 68000 alone
-pub main-stays-once : (end : Key) (c d : MainValue) (b board : Board) (before journal : List Entry) → (next_of c.chip.state).sample ≡ false → key_lt (next_of c.chip.state).key end ≡ true → main_at d board journal ≡ past_own_access five (main_at c b before)
-    → StaysTo five 1 0 end (main_at c b before) (main_at d board journal)
-main-stays-once end c d b board before journal kind low is =
-    goes-stays five 1 0 end (main_at c b before) (main_at d board journal) (omega arith)
-    (subst (λ (s : Staying Chip Board). GoesTo five 1 0 end (main_at c b before) s) (sym is) (one-goes five 0 end (main_at c b before) kind low))

@@ -93,70 +93,10 @@ impl MainChip {
         entry
     }
 
-    /// The access that is due, and all samples after it below the cycle of the key `end`, up to the next access. No
-    /// sample follows where the access may have changed the pins of a chip that sleeps, one of another number than 0.
-    #[inline(always)]
-    #[tactic(auto, unfolding(m68k_chip::specs::States::next_of))]
-    fn stay(
-        &mut self,
-        shared: &mut Shared,
-        journal: &mut Vec<Entry>,
-        end: &Key,
-        sleeper: u8,
-    ) -> Stay
-        requires access { (next_of self.old.chip.state).sample ≡ false }
-        requires below { key_lt (next_of self.old.chip.state).key end.now ≡ true }
-        requires time { end.now.cycle ≤ cycle_limit }
-        requires cycle { self.old.chip.state.next < cycle_limit }
-        requires room { length journal.old.items < vec_capacity journal.old }
-        ensures stays { StaysTo five result.events 0 end.now
-            (record { chip = kinds.Main self.old; shared = shared.old; journal = journal.old.items })
-            (record { chip = kinds.Main self.new; shared = shared.new; journal = journal.new.items }) }
-        ensures pins { sleeper ≢ 0 → MatchOption result.woke
-            (LeavesAll five IsChip IsBoard result.events 0 sleeper (record { chip = kinds.Main self.old; shared = shared.old; journal = journal.old.items }))
-            (Wakes five IsChip IsBoard result.events 0 sleeper (record { chip = kinds.Main self.old; shared = shared.old; journal = journal.old.items })) }
-        ensures later { self.old.chip.state.next + result.events ≤ self.new.chip.state.next }
-        ensures room { vec_capacity journal.new ≡ vec_capacity journal.old }
-    {
-        shared.known();
-        self.answer = None;
-        let chip = &mut *self.chip;
-        let key = chip.next().key;
-        let (answer, entry) = shared.carry_out_main(key, chip.request());
-        journal.push_reserved(entry);
-        if sleeper != 0 && may_wake(&entry, sleeper) {
-            chip.answer(answer);
-            return Stay {
-                events: 1,
-                woke: Some(key),
-            };
-        }
-        let samples = chip.answer_ahead(answer, pins68(shared), end.cycle);
-        let _last = chip.next();
-        Stay {
-            events: 1 + samples,
-            woke: None,
-        }
-    }
-
-    /// Whether it goes on: nobody woke, the next event is an access below a cycle, and the journal has room for it.
-    #[inline(always)]
-    #[tactic(auto, unfolding(m68k_chip::specs::States::next_of))]
-    fn goes_on(&self, stay: &Stay, journal: &Vec<Entry>, end: u64) -> bool
-        ensures woke { IsTrue result → stay.now.woke ≡ None }
-        ensures kind { IsTrue result → (next_of self.now.chip.state).sample ≡ false }
-        ensures below { IsTrue result → self.now.chip.state.next < end }
-        ensures room { IsTrue result → length journal.now.items < vec_capacity journal.now }
-    {
-        let next = self.chip.next();
-        stay.woke.is_none()
-            && !next.sample
-            && next.key.cycle < end
-            && journal.len() < journal.capacity()
-    }
-
     /// The access that is due and events after it, while the other chips make none: each comes before the key `end`.
-    /// It stops behind an access that may have changed the pins of a chip that sleeps, one of another number than 0.
+    /// It stops behind an access that may have changed the pins of a chip that sleeps, one of another number than 0,
+    /// and where the journal has no room.
+    #[tactic(auto, unfolding(m68k_chip::specs::States::next_of))]
     pub(crate) fn access_ahead(
         &mut self,
         shared: &mut Shared,
@@ -178,14 +118,28 @@ impl MainChip {
         ensures later { self.old.chip.state.next + result.events ≤ self.new.chip.state.next }
         ensures room { vec_capacity journal.new ≡ vec_capacity journal.old }
     {
-        let mut stay = self.stay(shared, journal, end, sleeper);
-        while self.goes_on(&stay, journal, end.cycle) {
-            let more = self.stay(shared, journal, end, sleeper);
-            let _last = self.chip.next();
-            stay.events += more.events;
-            stay.woke = more.woke;
+        let mut events = 0;
+        let mut going = true;
+        while going {
+            shared.known();
+            self.answer = None;
+            let chip = &mut *self.chip;
+            let key = chip.next().key;
+            let (answer, entry) = shared.carry_out_main(key, chip.request());
+            journal.push_reserved(entry);
+            if sleeper != 0 && may_wake(&entry, sleeper) {
+                chip.answer(answer);
+                return Stay {
+                    events: events + 1,
+                    woke: Some(key),
+                };
+            }
+            let samples = chip.answer_ahead(answer, pins68(shared), end.cycle);
+            let _last = chip.next();
+            events += 1 + samples;
+            going = goes_on(chip, journal, end.cycle);
         }
-        stay
+        Stay { events, woke: None }
     }
 
     /// The private work after an access.
@@ -220,4 +174,16 @@ impl MainChip {
     {
         self.chip.sample_ahead(pins, end)
     }
+}
+
+/// Whether the next event of the 68000 is an access below a cycle, and the journal has room for it.
+#[inline(always)]
+#[tactic(auto, unfolding(m68k_chip::specs::States::next_of))]
+fn goes_on(chip: &Chip68, journal: &Vec<Entry>, end: u64) -> bool
+    ensures kind { IsTrue result → (next_of chip.now.state).sample ≡ false }
+    ensures below { IsTrue result → chip.now.state.next < end }
+    ensures room { IsTrue result → length journal.now.items < vec_capacity journal.now }
+{
+    let next = chip.next();
+    !next.sample && next.key.cycle < end && journal.len() < journal.capacity()
 }

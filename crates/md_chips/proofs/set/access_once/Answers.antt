@@ -1,7 +1,5 @@
-use Rattle.std.proofs.Common.{ap, subst}
-use Rattle.md_word.specs.declared.event.Entry.{Entry}
+use Rattle.std.proofs.Common.{ap}
 use Rattle.md_word.specs.declared.event.Next.{Next}
-use Rattle.chip_core.specs.Chips.{LeavesPins}
 use Rattle.bus_shared.specs.Board.{IsBoard}
 use Rattle.md_chips.specs.Rules.{IsChip, five}
 use Rattle.chip_core.proofs.Staying.{first-leaves, first-stays, first-wakes}
