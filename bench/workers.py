@@ -38,6 +38,11 @@ workers; single runs made from 0.25 to 1.81:
     chord                                           1.00, 0.79, 0.90
     the shortest frames                             0.80, 0.67, 0.77
 
+There, in single runs, 1,500 frames of game took one worker 0.82 seconds and 0.82 of processor time, two 0.93 and
+1.66, five 0.94 and 2.54. By samples of perf, which itself slows threads down, helpers had 11 hundredths of the time
+of two workers and 20 of three, most of it in looking for work and in wakes by the system, and the leader made nearly
+all batches and lines itself.
+
 Since then one worker's 68000 stays until another chip's turn comes, which takes up to a seventh of a frame's
 instructions; the leader's does not. On a fourth host, left alone, in the same way; single runs made from 0.53 to 1.47:
 
@@ -47,11 +52,6 @@ instructions; the leader's does not. On a fourth host, left alone, in the same w
     where the Z80 is busy                           1.11, 1.13, 1.14
     a transfer in each frame                        0.82, 0.76, 0.79
     the shortest frames                             0.89, 0.80, 0.88
-
-There, in single runs, 1,500 frames of game took one worker 0.82 seconds and 0.82 of processor time, two 0.93 and
-1.66, five 0.94 and 2.54. By samples of perf, which itself slows threads down, helpers had 11 hundredths of the time
-of two workers and 20 of three, most of it in looking for work and in wakes by the system, and the leader made nearly
-all batches and lines itself.
 
 By the least times of five to seven runs of 100 frames five workers made 1.12 on show, 0.94 to 1.00 on chord, and 0.92
 on the shortest frames. Nothing written, two made 1.00 on show, 0.91 on the shortest frames, and 0.90 on scale and
