@@ -43,7 +43,7 @@ There, in single runs, 1,500 frames of game took one worker 0.82 seconds and 0.8
 of two workers and 20 of three, most of it in looking for work and in wakes by the system, and the leader made nearly
 all batches and lines itself.
 
-Since then one worker's 68000 stays until another chip's turn comes, which takes up to a seventh of a frame's
+Since then one worker's 68000 stays until another chip's turn comes, which spares up to a seventh of a frame's
 instructions; the leader's does not. On a fourth host, left alone, in the same way; single runs made from 0.53 to 1.47:
 
     show                                            0.91, 0.92, 0.93
